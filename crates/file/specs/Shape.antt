@@ -1,0 +1,14 @@
+-- What every file has that a program can hold: eight words of 32 bits in each set, and two numbers of 32 bits. Assumes nothing.
+use Prim.Native.Nat.{ℕ, _^_, _<_}
+use mathlib.Core.Path.{_≡_}
+use lib.ListN.{length}
+use Rattle.words.specs.Sets.{WordsFit}
+use Rattle.file.specs.declared.File.{File}
+
+pub record Shaped (f : File) : Type 0 where
+  pub deliveryFit : f .delivery < 2 ^ 32
+  pub thresholdFit : f .threshold < 2 ^ 32
+  pub pendingLong : length (f .pending) ≡ 8
+  pub pendingFit : WordsFit (f .pending)
+  pub enableLong : length (f .enable) ≡ 8
+  pub enableFit : WordsFit (f .enable)

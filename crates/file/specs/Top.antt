@@ -1,0 +1,36 @@
+-- A file's top interrupt and what depends on it. 01, "One message file"; the standard 3.8, 3.10. Assumes nothing.
+--   passes t i         threshold t lets identity i through: t is 0, or i is below t
+--   qualifies f i      i is pending and enabled, and the threshold lets it through
+--   lowest p i k       the least of the k numbers from i on at which p holds, or 0
+--   topIdentity n f    the lowest identity of 1 to n that qualifies, or 0
+--   topOf n f          the same twice, as identity × 65536 + identity
+--   claimed n f        f after a claim: the top's pending bit cleared; with no top, f
+--   signals n f        f signals by itself: delivery is 1 and the top is not 0
+use Prim.Native.Nat.{ℕ, zero, suc, _+_, _*_}
+use mathlib.Core.Bool.{Bool, cond, not, _&&_, _||_}
+use lib.Dec.{eqb, ltb}
+use Rattle.words.specs.Sets.{member, remove}
+use Rattle.file.specs.declared.File.{File}
+use Rattle.file.specs.Parts.{withPending}
+
+unfoldable pub passes : ℕ → ℕ → Bool
+passes t i = eqb t 0 || ltb i t
+
+unfoldable pub qualifies : File → ℕ → Bool
+qualifies f i = member (f .pending) i && member (f .enable) i && passes (f .threshold) i
+
+unfoldable pub lowest : (ℕ → Bool) → ℕ → ℕ → ℕ
+lowest p i zero = 0
+lowest p i (suc k) = let rest = lowest p (suc i) k in cond (p i) i rest
+
+unfoldable pub topIdentity : ℕ → File → ℕ
+topIdentity n f = lowest (qualifies f) 1 n
+
+unfoldable pub topOf : ℕ → File → ℕ
+topOf n f = topIdentity n f * 65536 + topIdentity n f
+
+unfoldable pub claimed : ℕ → File → File
+claimed n f = cond (eqb (topIdentity n f) 0) f (withPending f (remove (f .pending) (topIdentity n f)))
+
+unfoldable pub signals : ℕ → File → Bool
+signals n f = eqb (f .delivery) 1 && not (eqb (topOf n f) 0)

@@ -1,0 +1,78 @@
+// A file's top interrupt, its claim, and its signal to the hart.
+ghost use mathlib.Core.Path.{_≡_};
+ghost use Prim.Native.Nat.{_<_};
+ghost use Rattle.file.specs.Size.{identities};
+ghost use Rattle.file.specs.Top.{qualifies, topIdentity, topOf, claimed, signals};
+use super::File;
+
+pub struct Claimed {
+    pub top: u32,
+    pub file: File,
+}
+
+impl File {
+    fn qualifies(self, i: u32) -> bool
+        requires { ⌜ i < 256 ⌝ }
+        ensures { λ r. ⌜ r ≡ qualifies self i ⌝ }
+    {
+        let at = (i / 32) as usize;
+        let threshold = self.threshold;
+        if !words::has_bit(self.pending[at], i % 32) {
+            return false;
+        }
+        if !words::has_bit(self.enable[at], i % 32) {
+            return false;
+        }
+        if threshold == 0 {
+            return true;
+        }
+        i < threshold
+    }
+
+    // The lowest identity that qualifies, or 0.
+    pub fn top_identity(self) -> u32
+        ensures { λ r. ⌜ r ≡ topIdentity identities self ⌝ }
+    {
+        let mut i: u32 = 1;
+        while i < 256 {
+            if self.qualifies(i) {
+                return i;
+            }
+            i += 1;
+        }
+        0
+    }
+
+    pub fn top(self) -> u32
+        ensures { λ r. ⌜ r ≡ topOf identities self ⌝ }
+    {
+        let i = self.top_identity();
+        i * 65536 + i
+    }
+
+    pub fn claim(mut self) -> Claimed
+        ensures { λ r. ⌜ (r .top ≡ topOf identities self) × (r .file ≡ claimed identities self) ⌝ }
+    {
+        let i = self.top_identity();
+        if i == 0 {
+            return Claimed { top: 0, file: self };
+        }
+        let at = (i / 32) as usize;
+        self.pending[at] = words::without_bit(self.pending[at], i % 32);
+        Claimed {
+            top: i * 65536 + i,
+            file: self,
+        }
+    }
+
+    // The signal of a file that delivers by itself; a file that takes the wired controller's is the board's to tell.
+    pub fn signals(self) -> bool
+        ensures { λ r. ⌜ r ≡ signals identities self ⌝ }
+    {
+        let delivery = self.delivery;
+        if delivery == 1 {
+            return self.top_identity() != 0;
+        }
+        false
+    }
+}

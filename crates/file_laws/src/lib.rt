@@ -1,0 +1,1 @@
+// No code: what holds of one message file, for the crates above.

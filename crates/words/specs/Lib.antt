@@ -1,0 +1,4 @@
+-- What the words' functions mean, by topic. Assumes nothing.
+pub mod Bits
+pub mod Sets
+pub mod Parts

@@ -1,0 +1,15 @@
+// Bits of words, their bytes, halves and fields: each a shift, a mask or an `|`, with what it means as arithmetic.
+mod bits;
+mod parts;
+
+pub use bits::has_bit;
+pub use bits::union64;
+pub use bits::with_bit;
+pub use bits::without_bit;
+pub use bits::without64;
+pub use parts::field32;
+pub use parts::high32;
+pub use parts::joined64;
+pub use parts::low32;
+pub use parts::packed32;
+pub use parts::reversed32;
