@@ -12,6 +12,7 @@ use lib.Seq.{set-out}
 use Rattle.words.specs.Bits.{union, without, withoutBit}
 use Rattle.words.specs.Parts.{low, high, joined}
 use Rattle.words.proofs.BitsLaws.{withoutBit-without}
+use Rattle.words.proofs.PartsLaws.{joined-zero}
 use Rattle.file.specs.declared.File.{File}
 use Rattle.file.specs.declared.select.Register.{Register}
 use Rattle.file.specs.declared.select.Register.the-variants.{Delivery}
@@ -24,15 +25,16 @@ use Rattle.file.specs.Register.{doubleword, putHalves, putDoubleword, wr
 
 module _ (ws : List ℕ) (j : ℕ) where
   pub doubleword-past : length ws ≤ 2 * j → doubleword ws j ≡ 0
-  unfolding doubleword joined
+  unfolding doubleword
   doubleword-past h =
       let l : length ws ≤ 2 * j + 1 = omega arith in
-      ap₂ (λ (lo hi : ℕ). joined lo hi) (List·getD-eq-default ws 0 h) (List·getD-eq-default ws 0 l)
+      ap₂ joined (List·getD-eq-default ws 0 h) (List·getD-eq-default ws 0 l) ∙ joined-zero
 
   pub put-past : (v : ℕ) → length ws ≤ 2 * j → putHalves ws j v ≡ ws
   unfolding putHalves
   put-past v h =
-      set-out (set ws (2 * j) (low v)) (2 * j + 1) (high v) (rw length-set (omega arith)) ∙ set-out ws (2 * j) (low v) h
+      set-out (set ws (2 * j) (low v)) (2 * j + 1) (high v) (rw length-set (omega arith))
+      ∙ set-out ws (2 * j) (low v) h
 
 -- identity 0 is dropped from word 0 alone
 pub put-first : (ws : List ℕ) (j v : ℕ) → j ≡ 0 → putDoubleword ws j v ≡ putHalves ws 0 (without v 1)
@@ -62,6 +64,7 @@ module _ (n : ℕ) (g : Bool) (f : File) (k : Access) (s v : ℕ) where
   accessed-legal e = simp e
 
   -- a legal access of a kind that is known, to the register r that the number names
-  pub accessed-kind : (r : Register) (k′ : Access) → selectLegal s ≡ true → r ≡ registerOf n s → k ≡ k′ → accessed n g f k s v ≡ accessedAt n g f k′ r v
+  pub accessed-kind : (r : Register) (k′ : Access) → selectLegal s ≡ true → r ≡ registerOf n s → k ≡ k′
+      → accessed n g f k s v ≡ accessedAt n g f k′ r v
   accessed-kind r k′ legal named e =
       accessed-legal legal ∙ ap₂ (λ (a : Access) (b : Register). accessedAt n g f a b v) e (sym named)

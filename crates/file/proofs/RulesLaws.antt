@@ -27,7 +27,12 @@ legal-lt g d e = at (decLt d 2)
   where
     at : Dec (d < 2) → d < 2 ^ 32
     at (yes h) = omega arith
-    at (no h) = omega (arith, eqb-true d 0x40000000 (and-second (not g) (eqb d 0x40000000) (sym (legal-other g d (omega arith)) ∙ e)))
+    at (no h) =
+        omega (
+          arith,
+          eqb-true d 0x40000000
+              (and-second (not g) (eqb d 0x40000000) (sym (legal-other g d (omega arith)) ∙ e)),
+        )
 
 -- ---- one rule broken breaks the whole
 

@@ -6,7 +6,8 @@ use native.Mathlib.Omega.{arith}
 use lib.Dec.{eqb}
 use borrow.Author.Tests.{lt-ltb, le-ltb, le-leb, lt-leb, eq-eqb, ne-eqb}
 use Rattle.file.specs.declared.select.Register.{Register}
-use Rattle.file.specs.declared.select.Register.the-variants.{Delivery, Threshold, Pending, Enable, Unused}
+use Rattle.file.specs.declared.select.Register.the-variants.{Delivery, Threshold, Pending, Enable}
+use Rattle.file.specs.declared.select.Register.the-variants.{Unused}
 use Rattle.file.specs.Select.{selectLegal, registerOf, wordsFrom}
 
 module _ (s : ℕ) where
@@ -52,9 +53,19 @@ module _ (n s : ℕ) where
   pub register-pending : 0x80 ≤ s → s < 0xC0 → registerOf n s ≡ wordsFrom n 0x80 Pending s
   unfolding registerOf
   register-pending l h =
-      simp (ne-eqb s 0x70 (λ q. omega arith), ne-eqb s 0x72 (λ q. omega arith), le-ltb s 0x80 l, lt-ltb s 0xC0 h)
+      simp (
+        ne-eqb s 0x70 (λ q. omega arith),
+        ne-eqb s 0x72 (λ q. omega arith),
+        le-ltb s 0x80 l,
+        lt-ltb s 0xC0 h,
+      )
 
   pub register-enable : 0xC0 ≤ s → registerOf n s ≡ wordsFrom n 0xC0 Enable s
   unfolding registerOf
   register-enable l =
-      simp (ne-eqb s 0x70 (λ q. omega arith), ne-eqb s 0x72 (λ q. omega arith), le-ltb s 0x80 (omega arith), le-ltb s 0xC0 l)
+      simp (
+        ne-eqb s 0x70 (λ q. omega arith),
+        ne-eqb s 0x72 (λ q. omega arith),
+        le-ltb s 0x80 (omega arith),
+        le-ltb s 0xC0 l,
+      )

@@ -1,4 +1,5 @@
--- Laws of specs/Top.antt: what the search for the lowest finds, and so what the top is. No contract cites this file. Assumes nothing.
+-- Laws of specs/Top.antt: what the search for the lowest finds, and so what the top is. No contract cites
+-- this file. Assumes nothing.
 --   lowest-hit, lowest-miss      one step of the search
 --   lowest-lt, lowest-ge         where what is found lies
 --   lowest-found, lowest-first   what is found holds, and nothing before it does
@@ -40,7 +41,8 @@ module _ (p : ℕ → Bool) where
   unfolding lowest
   lowest-lt i zero h = omega arith
   lowest-lt i (suc k) h =
-      tested (p i) (λ t. omega (arith, lowest-hit i k t)) (λ f. omega (arith, lowest-miss i k f, lowest-lt (suc i) k (omega arith)))
+      tested (p i) (λ t. omega (arith, lowest-hit i k t))
+      (λ f. omega (arith, lowest-miss i k f, lowest-lt (suc i) k (omega arith)))
 
   pub lowest-ge : (i k : ℕ) → lowest p i k ≢ 0 → i ≤ lowest p i k
   unfolding lowest
@@ -76,7 +78,8 @@ module _ (p : ℕ → Bool) where
       lowest-miss i k (h i (omega arith) (omega arith))
       ∙ lowest-none-2 (suc i) k (λ j l m. h j (omega arith) (omega arith))
 
-pub lowest-same : (p q : ℕ → Bool) (i k : ℕ) → ((j : ℕ) → i ≤ j → j < i + k → p j ≡ q j) → lowest p i k ≡ lowest q i k
+pub lowest-same : (p q : ℕ → Bool) (i k : ℕ) → ((j : ℕ) → i ≤ j → j < i + k → p j ≡ q j)
+    → lowest p i k ≡ lowest q i k
 unfolding lowest
 lowest-same p q i zero h = refl
 lowest-same p q i (suc k) h =
@@ -118,7 +121,8 @@ module _ (f : File) (i : ℕ) where
   unfolding qualifies
   disabled e = simp (e, and-false)
 
-  pub qualifies-standing : member (f .pending) i ≡ true → member (f .enable) i ≡ true → qualifies f i ≡ passes (f .threshold) i
+  pub qualifies-standing : member (f .pending) i ≡ true → member (f .enable) i ≡ true
+      → qualifies f i ≡ passes (f .threshold) i
   unfolding qualifies
   qualifies-standing p e = simp (p, e)
 

@@ -6,4 +6,5 @@ pub mod Page
 pub mod Top
 pub mod Rules
 pub mod Select
+pub mod Answer
 pub mod Register

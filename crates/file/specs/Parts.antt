@@ -10,7 +10,9 @@ abbrev pub withThreshold : File → ℕ → File
 withThreshold f t = record { delivery = f .delivery; threshold = t; pending = f .pending; enable = f .enable }
 
 abbrev pub withPending : File → List ℕ → File
-withPending f ws = record { delivery = f .delivery; threshold = f .threshold; pending = ws; enable = f .enable }
+withPending f ws =
+    record { delivery = f .delivery; threshold = f .threshold; pending = ws; enable = f .enable }
 
 abbrev pub withEnable : File → List ℕ → File
-withEnable f ws = record { delivery = f .delivery; threshold = f .threshold; pending = f .pending; enable = ws }
+withEnable f ws =
+    record { delivery = f .delivery; threshold = f .threshold; pending = f .pending; enable = ws }

@@ -1,11 +1,12 @@
--- What a file's registers hold, and an access to one. 01, "One message file", "Calls and their refusals". Assumes nothing.
+-- What a file's registers hold, and an access to one. 01, "One message file", "Calls and their refusals".
+-- Assumes nothing.
 --   doubleword ws j            words 2j and 2j+1 as one 64-bit number; past the last word, 0
 --   putHalves ws j v           these two words replaced by v; past the last word, nothing
 --   putDoubleword ws j v       the same, but that identity 0 stays 0
 --   held f r                   what register r of f reads
 --   written n g f r v          f after v was written to r; g says that f is a guest's file
 --   accessedAt n g f k r v     an access of kind k to register r: the answer and the file after it
---   accessed n g f k s v       the same to the register with select number s; an illegal number has an answer of its own
+--   accessed n g f k s v       the same by select number s; an illegal one has an answer of its own
 use Prim.Native.Nat.{ℕ, _+_, _*_, _%_}
 use mathlib.Core.Bool.{Bool, cond}
 use mathlib.Core.List.{List}
@@ -15,7 +16,8 @@ use Rattle.words.specs.Bits.{union, without, withoutBit}
 use Rattle.words.specs.Parts.{low, high, joined}
 use Rattle.file.specs.declared.File.{File}
 use Rattle.file.specs.declared.select.Register.{Register}
-use Rattle.file.specs.declared.select.Register.the-variants.{Delivery, Threshold, Pending, Enable, Unused}
+use Rattle.file.specs.declared.select.Register.the-variants.{Delivery, Threshold, Pending, Enable}
+use Rattle.file.specs.declared.select.Register.the-variants.{Unused}
 use Rattle.file.specs.declared.register.Access.{Access}
 use Rattle.file.specs.declared.register.Access.the-variants.{Read, Write, Set, Clear}
 use Rattle.file.specs.declared.register.Answer.the-variants.{Value, Illegal}
@@ -52,7 +54,9 @@ unfoldable pub accessedAt : ℕ → Bool → File → Access → Register → �
 accessedAt n g f Read r v = record { answer = Value (held f r); file = f }
 accessedAt n g f Write r v = record { answer = Value 0; file = written n g f r v }
 accessedAt n g f Set r v = record { answer = Value (held f r); file = written n g f r (union (held f r) v) }
-accessedAt n g f Clear r v = record { answer = Value (held f r); file = written n g f r (without (held f r) v) }
+accessedAt n g f Clear r v =
+    record { answer = Value (held f r); file = written n g f r (without (held f r) v) }
 
 unfoldable pub accessed : ℕ → Bool → File → Access → ℕ → ℕ → Accessed
-accessed n g f k s v = cond (selectLegal s) (accessedAt n g f k (registerOf n s) v) (record { answer = Illegal; file = f })
+accessed n g f k s v =
+    cond (selectLegal s) (accessedAt n g f k (registerOf n s) v) (record { answer = Illegal; file = f })

@@ -1,9 +1,10 @@
 -- A file's own state rules, one definition each. 01, "State rules", "One message file". Assumes nothing.
---   deliveryLegal g d     d is a delivery: 0 off, 1 on, and unless the file is a guest's (g) 0x40000000, the wired controller's signal
+--   deliveryLegal g d     d is a delivery: 0 off, 1 on, and 0x40000000 unless the file is a guest's (g)
 --   deliveryRule g f      f stores a delivery
 --   thresholdRule n f     f's threshold is at most n
 --   zeroRule f            identity 0 is neither pending nor enabled
 --   fileSound n g f       all of these
+-- With delivery 0x40000000 the file takes the wired controller's signal.
 use Prim.Native.Nat.{ℕ}
 use mathlib.Core.Bool.{Bool, not, _&&_, _||_}
 use lib.Dec.{eqb, leb}

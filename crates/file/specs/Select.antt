@@ -1,12 +1,14 @@
--- Select numbers: which are legal, and which register each names. 01, "One message file"; the standard 3.8. Assumes nothing.
+-- Select numbers: which are legal, and which register each names. 01, "One message file"; the standard 3.8.
+-- Assumes nothing.
 --   selectLegal s           0x70 to 0xFF, but no odd number from 0x80 on
---   wordsFrom n base r s    the register r j where s is base + 2j and a file of n identities has 64j to 64j+63, else one that reads 0
+--   wordsFrom n base r s    r j if s is base + 2j and a file of n identities has 64j; else reads 0
 --   registerOf n s          the register that a legal s names in a file of n identities
 use Prim.Native.Nat.{ℕ, _-_, _/_, _%_}
 use mathlib.Core.Bool.{Bool, cond, not, _&&_}
 use lib.Dec.{eqb, leb, ltb}
 use Rattle.file.specs.declared.select.Register.{Register}
-use Rattle.file.specs.declared.select.Register.the-variants.{Delivery, Threshold, Pending, Enable, Unused}
+use Rattle.file.specs.declared.select.Register.the-variants.{Delivery, Threshold, Pending, Enable}
+use Rattle.file.specs.declared.select.Register.the-variants.{Unused}
 
 unfoldable pub selectLegal : ℕ → Bool
 selectLegal s = leb 0x70 s && leb s 0xFF && not (leb 0x80 s && eqb (s % 2) 1)

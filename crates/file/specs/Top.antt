@@ -1,4 +1,5 @@
--- A file's top interrupt and what depends on it. 01, "One message file"; the standard 3.8, 3.10. Assumes nothing.
+-- A file's top interrupt and what depends on it. 01, "One message file"; the standard 3.8, 3.10. Assumes
+-- nothing.
 --   passes t i         threshold t lets identity i through: t is 0, or i is below t
 --   qualifies f i      i is pending and enabled, and the threshold lets it through
 --   lowest p i k       the least of the k numbers from i on at which p holds, or 0

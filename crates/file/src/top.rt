@@ -65,7 +65,7 @@ impl File {
         }
     }
 
-    // The signal of a file that delivers by itself; a file that takes the wired controller's is the board's to tell.
+    // The signal of a file that delivers by itself; where it takes the wired controller's, the board tells.
     pub fn signals(self) -> bool
         ensures { λ r. ⌜ r ≡ signals identities self ⌝ }
     {

@@ -1,4 +1,5 @@
--- What is written reads back as the paper says, which identity each bit is, and what stays. No contract cites this file. Assumes nothing.
+-- What is written reads back as the paper says, which identity each bit is, and what stays. No contract cites
+-- this file. Assumes nothing.
 use Prim.Native.Nat.{ℕ, _+_, _*_, _/_, _%_, _-_, _<_}
 use mathlib.Core.Path.{_≡_, refl, sym, ap, ap₂, _∙_}
 use mathlib.Core.Bool.{Bool, true, false, cond}
@@ -37,7 +38,8 @@ module _ (ws : List ℕ) (j v : ℕ) (fits : 2 * j + 1 < length ws) where
   halves-other : (k : ℕ) → k ≢ 2 * j → k ≢ 2 * j + 1 → getD (putHalves ws j v) k 0 ≡ getD ws k 0
   unfolding putHalves
   halves-other k p q =
-      getD-set-other (set ws (2 * j) (low v)) (2 * j + 1) k (high v) 0 q ∙ getD-set-other ws (2 * j) k (low v) 0 p
+      getD-set-other (set ws (2 * j) (low v)) (2 * j + 1) k (high v) 0 q
+      ∙ getD-set-other ws (2 * j) k (low v) 0 p
 
   pub doubleword-halves : doubleword (putHalves ws j v) j ≡ v
   unfolding doubleword
@@ -48,7 +50,8 @@ module _ (ws : List ℕ) (j v : ℕ) (fits : 2 * j + 1 < length ws) where
   unfolding member
   member-halves k h = at (decLt k 32)
     where
-      at : Dec (k < 32) → hasBit (getD (putHalves ws j v) ((64 * j + k) / 32) 0) ((64 * j + k) % 32) ≡ hasBit v k
+      at : Dec (k < 32)
+          → hasBit (getD (putHalves ws j v) ((64 * j + k) / 32) 0) ((64 * j + k) % 32) ≡ hasBit v k
       at (yes l) =
           ap₂ (λ (a b : ℕ). hasBit (getD (putHalves ws j v) a 0) b) (omega arith) (omega arith)
           ∙ ap (λ (w : ℕ). hasBit w k) halves-low ∙ hasBit-low v k l
@@ -60,7 +63,8 @@ module _ (ws : List ℕ) (j v : ℕ) (fits : 2 * j + 1 < length ws) where
 
   pub member-halves-other : (i : ℕ) → i / 64 ≢ j → member (putHalves ws j v) i ≡ member ws i
   unfolding member
-  member-halves-other i h = ap (λ (w : ℕ). hasBit w (i % 32)) (halves-other (i / 32) (λ q. h (omega arith)) (λ q. h (omega arith)))
+  member-halves-other i h =
+      ap (λ (w : ℕ). hasBit w (i % 32)) (halves-other (i / 32) (λ q. h (omega arith)) (λ q. h (omega arith)))
 
 -- ---- the same with identity 0 dropped
 
@@ -86,7 +90,8 @@ module _ (ws : List ℕ) (j v : ℕ) (fits : 2 * j + 1 < length ws) where
   member-put-other i h = member-halves-other ws j kept fits i h
 
 -- identity 0 stays clear, whatever is written
-pub member-put-zero : (ws : List ℕ) (j v : ℕ) → 2 * j + 1 < length ws → member ws 0 ≡ false → member (putDoubleword ws j v) 0 ≡ false
+pub member-put-zero : (ws : List ℕ) (j v : ℕ) → 2 * j + 1 < length ws → member ws 0 ≡ false
+    → member (putDoubleword ws j v) 0 ≡ false
 unfolding putDoubleword
 member-put-zero ws j v fits clear = at (ℕ-discrete j 0)
   where

@@ -1,4 +1,5 @@
--- A file stored is loaded again, a block keeps what stands elsewhere, and a file loaded has the shape. No contract cites this file.
+-- A file stored is loaded again, a block keeps what stands elsewhere, and a file loaded has the shape. No
+-- contract cites this file.
 -- Assumes nothing.
 use Prim.Native.Nat.{ℕ, zero, suc, _+_, _-_, _^_, _≤_, _<_}
 use mathlib.Core.Path.{_≡_, refl, sym, ap, ap₂, _∙_, subst}
@@ -8,8 +9,10 @@ use native.Mathlib.Decide.{decLt}
 use native.Mathlib.Nat.{add-zero, add-assoc}
 use native.Mathlib.Numerals.{add-one}
 use native.Mathlib.Omega.{arith}
-use lib.ListN.{length, getD, take, drop, set, length-set, length-append, length-take, length-drop, List·getD-eq-default, List·getD-append, take-append-drop}
-use lib.Seq.{sets, sets-eq, length-sets, getD-take, getD-drop, getD-set-same, getD-set-other, getD-append-add, ext-getD, drop-cons, drop-drop, take-add}
+use lib.ListN.{length, getD, take, drop, set, length-set, length-append, length-take, length-drop}
+use lib.ListN.{List·getD-eq-default, List·getD-append, take-append-drop}
+use lib.Seq.{sets, sets-eq, length-sets, getD-take, getD-drop, getD-set-same, getD-set-other, getD-append-add}
+use lib.Seq.{ext-getD, drop-cons, drop-drop, take-add}
 use Rattle.words.specs.Sets.{WordsFit}
 use Rattle.file.specs.declared.File.{File}
 use Rattle.file.specs.Shape.{Shaped}
@@ -27,7 +30,8 @@ sets-after [] l at k h = refl
 sets-after (v ∷ vs) l at k h =
     sets-after vs (set l at v) (suc at) k (omega arith) ∙ getD-set-other l at k v 0 (λ q. omega arith)
 
-pub sets-inside : (vs l : List ℕ) (at k : ℕ) → at + length vs ≤ length l → k < length vs → getD (sets l at vs) (at + k) 0 ≡ getD vs k 0
+pub sets-inside : (vs l : List ℕ) (at k : ℕ) → at + length vs ≤ length l → k < length vs
+    → getD (sets l at vs) (at + k) 0 ≡ getD vs k 0
 sets-inside [] l at k h m = absurd (omega arith)
 sets-inside (v ∷ vs) l at zero h m =
     ap (λ (i : ℕ). getD (sets (set l at v) (suc at) vs) i 0) (add-zero at)
@@ -48,8 +52,10 @@ part-length l at n h = simp (length-take, length-drop) (omega arith)
 part-same : (l m : List ℕ) (at at′ n : ℕ) → at + n ≤ length l → at′ + n ≤ length m
     → ((i : ℕ) → i < n → getD l (at + i) 0 ≡ getD m (at′ + i) 0) → take n (drop at l) ≡ take n (drop at′ m)
 part-same l m at at′ n hl hm h =
-    ext-getD 0 (take n (drop at l)) (take n (drop at′ m)) (part-length l at n hl ∙ sym (part-length m at′ n hm))
-    (λ i q. let b : i < n = omega (arith, part-length l at n hl) in part-at l at n i b ∙ h i b ∙ sym (part-at m at′ n i b))
+    ext-getD 0 (take n (drop at l)) (take n (drop at′ m)) (part-length l at n hl
+    ∙ sym (part-length m at′ n hm))
+    (λ i q. let b : i < n = omega (arith, part-length l at n hl) in part-at l at n i b ∙ h i b
+    ∙ sym (part-at m at′ n i b))
 
 -- a stretch is a given list if its words are
 part-is : (l ws : List ℕ) (at n : ℕ) → at + n ≤ length l → length ws ≡ n
@@ -59,7 +65,8 @@ part-is l ws at n hl hw h =
     (λ i q. let b : i < n = omega (arith, part-length l at n hl) in part-at l at n i b ∙ h i b)
 
 -- two files are equal if their parts are
-file-path : {f h : File} → f .delivery ≡ h .delivery → f .threshold ≡ h .threshold → f .pending ≡ h .pending → f .enable ≡ h .enable → f ≡ h
+file-path : {f h : File} → f .delivery ≡ h .delivery → f .threshold ≡ h .threshold → f .pending ≡ h .pending
+    → f .enable ≡ h .enable → f ≡ h
 file-path d t p e = λ k. record { delivery = d k; threshold = t k; pending = p k; enable = e k }
 
 words-long : (f : File) → Shaped f → length (fileWords f) ≡ 18
@@ -85,9 +92,11 @@ module _ (l : List ℕ) (at : ℕ) (f : File) where
   length-put = length-sets l at (fileWords f)
 
   -- word k of the file, where it stands in the block
-  put-word : Shaped f → at + 18 ≤ length l → (k : ℕ) → k < 18 → getD (putFile l at f) (at + k) 0 ≡ getD (fileWords f) k 0
+  put-word : Shaped f → at + 18 ≤ length l → (k : ℕ) → k < 18
+      → getD (putFile l at f) (at + k) 0 ≡ getD (fileWords f) k 0
   unfolding putFile
-  put-word s h k m = sets-inside (fileWords f) l at k (omega (arith, words-long f s)) (omega (arith, words-long f s))
+  put-word s h k m =
+      sets-inside (fileWords f) l at k (omega (arith, words-long f s)) (omega (arith, words-long f s))
 
   -- what was stored is loaded
   pub file-back : Shaped f → at + 18 ≤ length l → fileAt (putFile l at f) at ≡ f
@@ -95,30 +104,34 @@ module _ (l : List ℕ) (at : ℕ) (f : File) where
   file-back s h =
       let m = putFile l at f in
       let place : (j i : ℕ) → j + i < 18 → getD m (at + j + i) 0 ≡ getD (fileWords f) (j + i) 0 =
-            λ j i r. ap (λ (k : ℕ). getD m k 0) (add-assoc at j i) ∙ put-word s h (j + i) r in
+      λ j i r. ap (λ (k : ℕ). getD m k 0) (add-assoc at j i) ∙ put-word s h (j + i) r in
       file-path
       (ap (λ (k : ℕ). getD m k 0) (sym (add-zero at)) ∙ put-word s h 0 (omega arith))
       (put-word s h 1 (omega arith))
       (part-is m (f .pending) (at + 2) 8 (omega (arith, length-put)) (s .pendingLong)
-        (λ i q. place 2 i (omega arith) ∙ words-pending f s i q))
+      (λ i q. place 2 i (omega arith) ∙ words-pending f s i q))
       (part-is m (f .enable) (at + 10) 8 (omega (arith, length-put)) (s .enableLong)
-        (λ i q. place 10 i (omega arith) ∙ words-enable f s i q))
+      (λ i q. place 10 i (omega arith) ∙ words-enable f s i q))
 
   -- a file that stands apart is as it was
-  pub file-apart : Shaped f → (at′ : ℕ) → at + 18 ≤ length l → at′ + 18 ≤ length l → (at′ + 18 ≤ at) ⊎ (at + 18 ≤ at′)
+  pub file-apart : Shaped f → (at′ : ℕ) → at + 18 ≤ length l → at′ + 18 ≤ length l
+      → (at′ + 18 ≤ at) ⊎ (at + 18 ≤ at′)
       → fileAt (putFile l at f) at′ ≡ fileAt l at′
   unfolding fileAt
   file-apart s at′ h h′ apart =
       let m = putFile l at f in
       let same : (k : ℕ) → k < 18 → getD m (at′ + k) 0 ≡ getD l (at′ + k) 0 = λ k q. elsewhere k q apart in
       let stretch : (j : ℕ) → j + 8 ≤ 18 → take 8 (drop (at′ + j) m) ≡ take 8 (drop (at′ + j) l) = λ j q.
-            part-same m l (at′ + j) (at′ + j) 8 (omega (arith, length-put)) (omega arith)
-            (λ i b. ap (λ (k : ℕ). getD m k 0) (add-assoc at′ j i) ∙ same (j + i) (omega arith) ∙ ap (λ (k : ℕ). getD l k 0) (sym (add-assoc at′ j i))) in
+      part-same m l (at′ + j) (at′ + j) 8 (omega (arith, length-put)) (omega arith)
+      (λ i b. ap (λ (k : ℕ). getD m k 0) (add-assoc at′ j i) ∙ same (j + i) (omega arith)
+      ∙ ap (λ (k : ℕ). getD l k 0) (sym (add-assoc at′ j i))) in
       file-path
-      (ap (λ (k : ℕ). getD m k 0) (sym (add-zero at′)) ∙ same 0 (omega arith) ∙ ap (λ (k : ℕ). getD l k 0) (add-zero at′))
+      (ap (λ (k : ℕ). getD m k 0) (sym (add-zero at′)) ∙ same 0 (omega arith)
+      ∙ ap (λ (k : ℕ). getD l k 0) (add-zero at′))
       (same 1 (omega arith)) (stretch 2 (omega arith)) (stretch 10 (omega arith))
     where
-      elsewhere : (k : ℕ) → k < 18 → (at′ + 18 ≤ at) ⊎ (at + 18 ≤ at′) → getD (putFile l at f) (at′ + k) 0 ≡ getD l (at′ + k) 0
+      elsewhere : (k : ℕ) → k < 18 → (at′ + 18 ≤ at) ⊎ (at + 18 ≤ at′)
+          → getD (putFile l at f) (at′ + k) 0 ≡ getD l (at′ + k) 0
       elsewhere k q =
           ⊎-elim (λ b. unfold putFile in sets-before (fileWords f) l at (at′ + k) (omega arith))
           (λ a. unfold putFile in sets-after (fileWords f) l at (at′ + k) (omega (arith, words-long f s)))
@@ -130,9 +143,12 @@ part-fit l at n fit k = place (decLt k n)
   where
     past : (k < n → ⊥) → length (take n (drop at l)) ≤ k
     past q = simp length-take (omega arith)
+
     place : Dec (k < n) → getD (take n (drop at l)) k 0 < 2 ^ 32
     place (yes q) = subst (λ (x : ℕ). x < 2 ^ 32) (sym (part-at l at n k q)) (fit (at + k))
-    place (no q) = subst (λ (x : ℕ). x < 2 ^ 32) (sym (List·getD-eq-default (take n (drop at l)) 0 (past q))) (omega arith)
+    place (no q) =
+        subst (λ (x : ℕ). x < 2 ^ 32) (sym (List·getD-eq-default (take n (drop at l)) 0 (past q)))
+        (omega arith)
 
 -- a file loaded has the shape, where the block's words have 32 bits
 pub loaded-shaped : (l : List ℕ) (at : ℕ) → WordsFit l → at + 18 ≤ length l → Shaped (fileAt l at)
@@ -144,7 +160,7 @@ loaded-shaped l at fit h =
       pendingLong = part-length l (at + 2) 8 (omega arith);
       pendingFit = part-fit l (at + 2) 8 fit;
       enableLong = part-length l (at + 10) 8 (omega arith);
-      enableFit = part-fit l (at + 10) 8 fit
+      enableFit = part-fit l (at + 10) 8 fit;
     }
 
 -- the words of a file loaded are the block's own
@@ -154,12 +170,13 @@ words-loaded l at h =
     let next : at + 2 + 8 ≡ at + 10 = omega arith in
     let two : suc (at + 1) ≡ at + 2 = omega arith in
     let second : drop (suc at) l ≡ getD l (at + 1) 0 ∷ drop (at + 2) l =
-          ap (λ (k : ℕ). drop k l) (sym (add-one at)) ∙ drop-cons l (at + 1) 0 (omega arith)
-          ∙ ap (λ (k : ℕ). getD l (at + 1) 0 ∷ drop k l) two in
+    ap (λ (k : ℕ). drop k l) (sym (add-one at)) ∙ drop-cons l (at + 1) 0 (omega arith)
+    ∙ ap (λ (k : ℕ). getD l (at + 1) 0 ∷ drop k l) two in
     ap (take 18) (drop-cons l at 0 (omega arith) ∙ ap (λ (r : List ℕ). getD l at 0 ∷ r) second)
     ∙ ap (λ (r : List ℕ). getD l at 0 ∷ getD l (at + 1) 0 ∷ r)
-      (take-add 8 8 (drop (at + 2) l)
-      ∙ ap (λ (r : List ℕ). take 8 (drop (at + 2) l) ++ take 8 r) (drop-drop 8 (at + 2) l ∙ ap (λ (k : ℕ). drop k l) next))
+    (take-add 8 8 (drop (at + 2) l)
+    ∙ ap (λ (r : List ℕ). take 8 (drop (at + 2) l) ++ take 8 r) (drop-drop 8 (at + 2) l
+    ∙ ap (λ (k : ℕ). drop k l) next))
 
 -- what is loaded is stored back as it was
 pub block-back : (l : List ℕ) (at : ℕ) → at + 18 ≤ length l → putFile l at (fileAt l at) ≡ l

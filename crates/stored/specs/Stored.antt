@@ -1,4 +1,5 @@
--- A file's 18 words in a block: delivery, threshold, eight words of pending, eight of enable. Assumes nothing.
+-- A file's 18 words in a block: delivery, threshold, eight words of pending, eight of enable. Assumes
+-- nothing.
 --   fileWords f        these words
 --   fileAt l at        the file whose words stand in the block l from at on
 --   putFile l at f     the block l with f's words from at on

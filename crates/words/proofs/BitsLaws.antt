@@ -1,4 +1,5 @@
--- Laws of specs/Bits.antt: what each bit of a changed word is, and that a word is its bits. No contract cites this file. Assumes nothing.
+-- Laws of specs/Bits.antt: what each bit of a changed word is, and that a word is its bits. No contract cites
+-- this file. Assumes nothing.
 --   bitOf-..           a bit as a number, for each definition
 --   hasBit-..          the same as a truth value: -same the bit that was changed, -other any other
 --   bits-ext           two words of n bits are equal if their bits are
@@ -7,7 +8,8 @@ use Prim.Native.Nat.{ℕ, zero, suc, _+_, _-_, _*_, _/_, _%_, _^_, _≤_, _<_, m
 use mathlib.Core.Path.{_≡_, refl, sym, ap, ap₂, _∙_, subst}
 use mathlib.Core.Bool.{true, false, not, _&&_, _||_, true≢false, false≢true}
 use mathlib.Core.Logic.{_≢_}
-use native.Mathlib.Nat.{mod-lt, div-add-mod', mod-eq-of-lt, div-eq-of-lt, add-mul-div-right, mul-add-mod-self-right, pow-suc, zero-lt-suc, lt-of-le-of-lt, zero-add, le-of-eq}
+use native.Mathlib.Nat.{mod-lt, div-add-mod', mod-eq-of-lt, div-eq-of-lt, add-mul-div-right}
+use native.Mathlib.Nat.{mul-add-mod-self-right, pow-suc, zero-lt-suc, lt-of-le-of-lt, zero-add, le-of-eq}
 use native.Mathlib.Omega.{arith}
 use lib.Arith.{lt-one}
 use lib.Dec.{eqb}
@@ -28,7 +30,9 @@ bitOf-zero w = ap (λ (x : ℕ). x % 2) (simp native.Mathlib.Nat.div-one)
 
 pub bitOf-suc : (w k : ℕ) → bitOf w (suc k) ≡ bitOf (w / 2) k
 unfolding bitOf
-bitOf-suc w k = ap (λ (x : ℕ). x % 2) (sym (shr-shr w 1 k ∙ ap (λ (n : ℕ). w / 2 ^ n) (native.Mathlib.Numerals.one-add k)))
+bitOf-suc w k =
+    ap
+    (λ (x : ℕ). x % 2) (sym (shr-shr w 1 k ∙ ap (λ (n : ℕ). w / 2 ^ n) (native.Mathlib.Numerals.one-add k)))
 
 -- a word is its bits: induction on how many it has
 pub bits-ext : (n : ℕ) (w v : ℕ) → w < 2 ^ n → v < 2 ^ n → ((k : ℕ) → k < n → bitOf w k ≡ bitOf v k) → w ≡ v
@@ -54,7 +58,8 @@ unfolding bitOf union
 bitOf-union w v k =
     ap (λ (x : ℕ). x % 2) (or-shr w v k)
     ∙ or-mod (w / 2 ^ k) (v / 2 ^ k) 1
-    ∙ bit-max (w / 2 ^ k % 2) (v / 2 ^ k % 2) (mod-lt (w / 2 ^ k) (zero-lt-suc 1)) (mod-lt (v / 2 ^ k) (zero-lt-suc 1))
+    ∙ bit-max (w / 2 ^ k % 2) (v / 2 ^ k % 2) (mod-lt (w / 2 ^ k) (zero-lt-suc 1))
+    (mod-lt (v / 2 ^ k) (zero-lt-suc 1))
 
 without-step : (w v : ℕ) → without w v ≡ without (w / 2) (v / 2) * 2 + (w % 2 - v % 2)
 unfolding without
@@ -67,7 +72,8 @@ bitOf-without w v (suc k) =
     bitOf-suc (without w v) k ∙ ap (λ (x : ℕ). bitOf x k) (omega (arith, without-step w v))
     ∙ bitOf-without (w / 2) (v / 2) k ∙ ap₂ _-_ (sym (bitOf-suc w k)) (sym (bitOf-suc v k))
 
-and-last : (w v : ℕ) → without (w / 2) (v / 2) * 2 + min (w % 2) (1 - v % 2) ≡ without (w / 2) (v / 2) * 2 + (w % 2 - v % 2)
+and-last : (w v : ℕ)
+    → without (w / 2) (v / 2) * 2 + min (w % 2) (1 - v % 2) ≡ without (w / 2) (v / 2) * 2 + (w % 2 - v % 2)
 and-last w v = omega arith
 
 -- what `w & !v` gives at n bits
@@ -137,7 +143,8 @@ bitOf-withBit-same w k =
 
 pub bitOf-withBit-other : (w k j : ℕ) → j ≢ k → bitOf (withBit w k) j ≡ bitOf w j
 bitOf-withBit-other w k j h =
-    ap (λ (x : ℕ). bitOf x j) (withBit-union w k) ∙ bitOf-union w (2 ^ k) j ∙ omega (arith, pow-bit-other k j h)
+    ap (λ (x : ℕ). bitOf x j) (withBit-union w k) ∙ bitOf-union w (2 ^ k) j
+    ∙ omega (arith, pow-bit-other k j h)
 
 pub bitOf-withoutBit-same : (w k : ℕ) → bitOf (withoutBit w k) k ≡ 0
 bitOf-withoutBit-same w k =
@@ -146,7 +153,8 @@ bitOf-withoutBit-same w k =
 
 pub bitOf-withoutBit-other : (w k j : ℕ) → j ≢ k → bitOf (withoutBit w k) j ≡ bitOf w j
 bitOf-withoutBit-other w k j h =
-    ap (λ (x : ℕ). bitOf x j) (withoutBit-without w k) ∙ bitOf-without w (2 ^ k) j ∙ omega (arith, pow-bit-other k j h)
+    ap (λ (x : ℕ). bitOf x j) (withoutBit-without w k) ∙ bitOf-without w (2 ^ k) j
+    ∙ omega (arith, pow-bit-other k j h)
 
 -- ---- as truth values
 
@@ -200,12 +208,14 @@ bool-sub x y hx hy =
 pub hasBit-union : (w v k : ℕ) → hasBit (union w v) k ≡ (hasBit w k || hasBit v k)
 unfolding hasBit
 hasBit-union w v k =
-    ap (λ (x : ℕ). eqb x 1) (bitOf-union w v k) ∙ bool-max (bitOf w k) (bitOf v k) (bitOf-lt w k) (bitOf-lt v k)
+    ap (λ (x : ℕ). eqb x 1) (bitOf-union w v k)
+    ∙ bool-max (bitOf w k) (bitOf v k) (bitOf-lt w k) (bitOf-lt v k)
 
 pub hasBit-without : (w v k : ℕ) → hasBit (without w v) k ≡ (hasBit w k && not (hasBit v k))
 unfolding hasBit
 hasBit-without w v k =
-    ap (λ (x : ℕ). eqb x 1) (bitOf-without w v k) ∙ bool-sub (bitOf w k) (bitOf v k) (bitOf-lt w k) (bitOf-lt v k)
+    ap (λ (x : ℕ). eqb x 1) (bitOf-without w v k)
+    ∙ bool-sub (bitOf w k) (bitOf v k) (bitOf-lt w k) (bitOf-lt v k)
 
 bool-bit : (x y : ℕ) → x < 2 → y < 2 → eqb x 1 ≡ eqb y 1 → x ≡ y
 bool-bit x y hx hy =
@@ -214,7 +224,8 @@ bool-bit x y hx hy =
     (bit-cases (λ (b : ℕ). eqb 1 1 ≡ eqb b 1 → 1 ≡ b) (λ e. absurd (true≢false e)) (λ e. refl) y hy)
     x hx
 
-pub hasBit-ext : (n : ℕ) (w v : ℕ) → w < 2 ^ n → v < 2 ^ n → ((k : ℕ) → k < n → hasBit w k ≡ hasBit v k) → w ≡ v
+pub hasBit-ext : (n : ℕ) (w v : ℕ) → w < 2 ^ n → v < 2 ^ n → ((k : ℕ) → k < n → hasBit w k ≡ hasBit v k)
+    → w ≡ v
 unfolding hasBit
 hasBit-ext n w v hw hv h =
     bits-ext n w v hw hv (λ k l. bool-bit (bitOf w k) (bitOf v k) (bitOf-lt w k) (bitOf-lt v k) (h k l))

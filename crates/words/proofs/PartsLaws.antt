@@ -1,7 +1,8 @@
--- Laws of specs/Parts.antt: what the code's shifts and masks give, and that parts and wholes undo each other. No contract cites this file.
+-- Laws of specs/Parts.antt: what the code's shifts and masks give, and that parts and wholes undo each other.
+-- No contract cites this file.
 -- Assumes nothing.
 use Prim.Native.Nat.{ℕ, _+_, _-_, _*_, _/_, _%_, _^_, _≤_, _<_}
-use mathlib.Core.Path.{_≡_, sym, ap, _∙_}
+use mathlib.Core.Path.{_≡_, refl, sym, ap, _∙_}
 use native.Mathlib.Nat.{mod-lt, one-mul, mod-eq-of-lt}
 use native.Mathlib.Omega.{arith}
 use lib.Dec.{lit<, lit≤}
@@ -19,24 +20,28 @@ pub one-shl : (n k : ℕ) → k < n → 1 * 2 ^ k % 2 ^ n ≡ 2 ^ k
 one-shl n k h = shl-exact 1 k n (lit< tt) (omega arith) ∙ one-mul (2 ^ k)
 
 -- `(w >> at) & ((1 << size) - 1)` at n bits
-pub fieldOf-and : (n w at size : ℕ) → size < n → bitAnd (w / 2 ^ at) (1 * 2 ^ size % 2 ^ n - 1) ≡ fieldOf w at size
+pub fieldOf-and : (n w at size : ℕ) → size < n
+    → bitAnd (w / 2 ^ at) (1 * 2 ^ size % 2 ^ n - 1) ≡ fieldOf w at size
 unfolding fieldOf
 fieldOf-and n w at size h =
     ap (λ (x : ℕ). bitAnd (w / 2 ^ at) (x - 1)) (one-shl n size h) ∙ and-mask (w / 2 ^ at) size
 
 -- `(hi << at) | lo` at n bits
-pub packed-or : (n hi at lo : ℕ) → lo < 2 ^ at → hi * 2 ^ at < 2 ^ n → bitOr (hi * 2 ^ at % 2 ^ n) lo ≡ packed hi at lo
+pub packed-or : (n hi at lo : ℕ) → lo < 2 ^ at → hi * 2 ^ at < 2 ^ n
+    → bitOr (hi * 2 ^ at % 2 ^ n) lo ≡ packed hi at lo
 unfolding packed
 packed-or n hi at lo hlo hhi = ap (λ (x : ℕ). bitOr x lo) (mod-eq-of-lt hhi) ∙ or-shifted hi at lo hlo
 
 -- a byte put at a place above what is there
-byte-or : (b at lo : ℕ) → b < 256 → lo < 2 ^ at → at + 8 ≤ 32 → bitOr (b * 2 ^ at % 2 ^ 32) lo ≡ b * 2 ^ at + lo
+byte-or : (b at lo : ℕ) → b < 256 → lo < 2 ^ at → at + 8 ≤ 32
+    → bitOr (b * 2 ^ at % 2 ^ 32) lo ≡ b * 2 ^ at + lo
 byte-or b at lo hb hlo h =
     ap (λ (x : ℕ). bitOr x lo) (shl-exact 8 at 32 hb (omega arith)) ∙ or-shifted b at lo hlo
 
 pub reversed-or : (w : ℕ) → w < 2 ^ 32
     → bitOr (bitAnd w 255 * 2 ^ 24 % 2 ^ 32)
-    (bitOr (bitAnd (w / 2 ^ 8) 255 * 2 ^ 16 % 2 ^ 32) (bitOr (bitAnd (w / 2 ^ 16) 255 * 2 ^ 8 % 2 ^ 32) (w / 2 ^ 24)))
+    (bitOr (bitAnd (w / 2 ^ 8) 255 * 2 ^ 16 % 2 ^ 32)
+    (bitOr (bitAnd (w / 2 ^ 16) 255 * 2 ^ 8 % 2 ^ 32) (w / 2 ^ 24)))
     ≡ reversed w
 unfolding reversed
 reversed-or w h =
@@ -62,6 +67,10 @@ high-lt w h = omega arith
 pub joined-lt : (lo hi : ℕ) → lo < 2 ^ 32 → hi < 2 ^ 32 → joined lo hi < 2 ^ 64
 unfolding joined
 joined-lt lo hi hlo hhi = omega arith
+
+pub joined-zero : joined 0 0 ≡ 0
+unfolding joined
+joined-zero = refl
 
 pub low-joined : (lo hi : ℕ) → lo < 2 ^ 32 → low (joined lo hi) ≡ lo
 unfolding low joined
@@ -97,7 +106,8 @@ reversed-bytes a b c d ha hb hc hd =
 
 pub reversed-back : (w : ℕ) → w < 2 ^ 32 → reversed (reversed w) ≡ w
 reversed-back w h =
-    let bytes : w ≡ w / 2 ^ 24 * 2 ^ 24 + w / 2 ^ 16 % 256 * 2 ^ 16 + w / 2 ^ 8 % 256 * 2 ^ 8 + w % 256 = omega arith in
+    let bytes : w ≡ w / 2 ^ 24 * 2 ^ 24 + w / 2 ^ 16 % 256 * 2 ^ 16 + w / 2 ^ 8 % 256 * 2 ^ 8 + w % 256 =
+    omega arith in
     let top : w / 2 ^ 24 < 256 = omega arith in
     let b : w / 2 ^ 16 % 256 < 256 = omega arith in
     let c : w / 2 ^ 8 % 256 < 256 = omega arith in
@@ -111,9 +121,11 @@ unfolding fieldOf
 fieldOf-lt w at size = mod-lt (w / 2 ^ at) (pow-pos size)
 
 -- the field that was put above is read there, and what lies below stays
-pub fieldOf-packed : (hi at lo size : ℕ) → lo < 2 ^ at → hi < 2 ^ size → fieldOf (packed hi at lo) at size ≡ hi
+pub fieldOf-packed : (hi at lo size : ℕ) → lo < 2 ^ at → hi < 2 ^ size
+    → fieldOf (packed hi at lo) at size ≡ hi
 unfolding fieldOf packed
-fieldOf-packed hi at lo size hlo hhi = ap (λ (x : ℕ). x % 2 ^ size) (lib.Pow.high hi at hlo) ∙ mod-eq-of-lt hhi
+fieldOf-packed hi at lo size hlo hhi = ap (λ (x : ℕ). x % 2 ^ size) (lib.Pow.high hi at hlo)
+    ∙ mod-eq-of-lt hhi
 
 pub packed-low : (hi at lo : ℕ) → lo < 2 ^ at → packed hi at lo % 2 ^ at ≡ lo
 unfolding packed

@@ -1,10 +1,11 @@
--- Laws of specs/Sets.antt: which numbers a changed set has, and that a set is its members. No contract cites this file. Assumes nothing.
+-- Laws of specs/Sets.antt: which numbers a changed set has, and that a set is its members. No contract cites
+-- this file. Assumes nothing.
 --   member-..-same      the number that was put in or taken out
 --   member-..-other     any other
 --   ..-fit              the words stay below 2 ^ 32
 --   member-ext          two sets of one length are equal if their members are
 use Prim.Native.Nat.{ℕ, _+_, _*_, _/_, _%_, _^_, _<_}
-use mathlib.Core.Path.{_≡_, sym, ap, _∙_, subst}
+use mathlib.Core.Path.{_≡_, refl, sym, ap, _∙_}
 use mathlib.Core.Bool.{true, false}
 use mathlib.Core.List.{List}
 use mathlib.Core.Logic.{_≢_}
@@ -15,7 +16,24 @@ use lib.ListN.{length, getD, set, length-set}
 use lib.Seq.{getD-set-same, getD-set-other, set-out, ext-getD}
 use Rattle.words.specs.Bits.{hasBit, withBit, withoutBit}
 use Rattle.words.specs.Sets.{member, insert, remove, WordsFit}
-use Rattle.words.proofs.BitsLaws.{hasBit-withBit-same, hasBit-withBit-other, hasBit-withoutBit-same, hasBit-withoutBit-other, hasBit-ext, withBit-lt, withoutBit-le}
+use Rattle.words.proofs.BitsLaws.{hasBit-withBit-same, hasBit-withBit-other, hasBit-withoutBit-same}
+use Rattle.words.proofs.BitsLaws.{hasBit-withoutBit-other, hasBit-ext, withBit-lt, withoutBit-le}
+
+-- ---- what the code reads and writes
+
+pub member-word : (ws : List ℕ) (i : ℕ) → hasBit (getD ws (i / 32) 0) (i % 32) ≡ member ws i
+unfolding member
+member-word ws i = refl
+
+pub insert-word : (ws : List ℕ) (i : ℕ)
+    → set ws (i / 32) (withBit (getD ws (i / 32) 0) (i % 32)) ≡ insert ws i
+unfolding insert
+insert-word ws i = refl
+
+pub remove-word : (ws : List ℕ) (i : ℕ)
+    → set ws (i / 32) (withoutBit (getD ws (i / 32) 0) (i % 32)) ≡ remove ws i
+unfolding remove
+remove-word ws i = refl
 
 -- ---- one word replaced, for both changes
 
@@ -24,25 +42,29 @@ module _ (ws : List ℕ) (i w : ℕ) where
   unfolding member
   placed-same h = ap (λ (x : ℕ). hasBit x (i % 32)) (getD-set-same ws (i / 32) w 0 h)
 
-  placed-other : (j : ℕ) → ((k : ℕ) → k ≢ i % 32 → hasBit w k ≡ hasBit (getD ws (i / 32) 0) k) → j ≢ i → member (set ws (i / 32) w) j ≡ member ws j
+  placed-other : (j : ℕ) → ((k : ℕ) → k ≢ i % 32 → hasBit w k ≡ hasBit (getD ws (i / 32) 0) k) → j ≢ i
+      → member (set ws (i / 32) w) j ≡ member ws j
   unfolding member
   placed-other j keeps n = at (ℕ-discrete (j / 32) (i / 32)) (decLt (i / 32) (length ws))
     where
-      at : Dec (j / 32 ≡ i / 32) → Dec (i / 32 < length ws) → hasBit (getD (set ws (i / 32) w) (j / 32) 0) (j % 32) ≡ hasBit (getD ws (j / 32) 0) (j % 32)
+      at : Dec (j / 32 ≡ i / 32) → Dec (i / 32 < length ws)
+          → hasBit (getD (set ws (i / 32) w) (j / 32) 0) (j % 32) ≡ hasBit (getD ws (j / 32) 0) (j % 32)
       at (no e) d = ap (λ (x : ℕ). hasBit x (j % 32)) (getD-set-other ws (i / 32) (j / 32) w 0 e)
-      at (yes e) (no l) = ap (λ (l : List ℕ). hasBit (getD l (j / 32) 0) (j % 32)) (set-out ws (i / 32) w (omega arith))
+      at (yes e) (no l) =
+          ap (λ (l : List ℕ). hasBit (getD l (j / 32) 0) (j % 32)) (set-out ws (i / 32) w (omega arith))
       at (yes e) (yes h) =
-          ap (λ (x : ℕ). hasBit x (j % 32)) (ap (λ (k : ℕ). getD (set ws (i / 32) w) k 0) e ∙ getD-set-same ws (i / 32) w 0 h)
+          ap (λ (x : ℕ). hasBit x (j % 32)) (ap (λ (k : ℕ). getD (set ws (i / 32) w) k 0) e
+          ∙ getD-set-same ws (i / 32) w 0 h)
           ∙ keeps (j % 32) (λ q. n (omega arith)) ∙ ap (λ (k : ℕ). hasBit (getD ws k 0) (j % 32)) (sym e)
 
-  placed-fit : w < 2 ^ 32 → WordsFit ws → WordsFit (set ws (i / 32) w)
-  unfolding WordsFit
-  placed-fit h f k = at (ℕ-discrete k (i / 32)) (decLt (i / 32) (length ws))
-    where
-      at : Dec (k ≡ i / 32) → Dec (i / 32 < length ws) → getD (set ws (i / 32) w) k 0 < 2 ^ 32
-      at (no n) d = subst (λ (x : ℕ). x < 2 ^ 32) (sym (getD-set-other ws (i / 32) k w 0 n)) (f k)
-      at (yes e) (no l) = subst (λ (xs : List ℕ). getD xs k 0 < 2 ^ 32) (sym (set-out ws (i / 32) w (omega arith))) (f k)
-      at (yes e) (yes l) = subst (λ (x : ℕ). x < 2 ^ 32) (sym (ap (λ (m : ℕ). getD (set ws (i / 32) w) m 0) e ∙ getD-set-same ws (i / 32) w 0 l)) h
+pub set-fit : (ws : List ℕ) (k w : ℕ) → w < 2 ^ 32 → WordsFit ws → WordsFit (set ws k w)
+unfolding WordsFit
+set-fit ws k w h fit i = at (ℕ-discrete i k) (decLt k (length ws))
+  where
+    at : Dec (i ≡ k) → Dec (k < length ws) → getD (set ws k w) i 0 < 2 ^ 32
+    at (no d) q = rw (getD-set-other ws k i w 0 d) (fit i)
+    at (yes e) (yes q) = rw (e, getD-set-same ws k w 0 q) h
+    at (yes e) (no q) = rw (set-out ws k w (omega arith)) (fit i)
 
 -- ---- a number put in, a number taken out
 
@@ -76,11 +98,15 @@ module _ (ws : List ℕ) (i : ℕ) where
 
   pub insert-fit : WordsFit ws → WordsFit (insert ws i)
   unfolding insert
-  insert-fit f = placed-fit ws i (withBit old (i % 32)) (withBit-lt 32 old (i % 32) (unfold WordsFit in f (i / 32)) (omega arith)) f
+  insert-fit f =
+      set-fit ws (i / 32) (withBit old (i % 32))
+      (withBit-lt 32 old (i % 32) (unfold WordsFit in f (i / 32)) (omega arith)) f
 
   pub remove-fit : WordsFit ws → WordsFit (remove ws i)
   unfolding remove
-  remove-fit f = placed-fit ws i (withoutBit old (i % 32)) (lt-of-le-of-lt (withoutBit-le old (i % 32)) (unfold WordsFit in f (i / 32))) f
+  remove-fit f =
+      set-fit ws (i / 32) (withoutBit old (i % 32))
+      (lt-of-le-of-lt (withoutBit-le old (i % 32)) (unfold WordsFit in f (i / 32))) f
 
 -- ---- a set is its members
 

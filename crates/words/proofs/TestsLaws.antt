@@ -1,4 +1,5 @@
--- A test goes one way or the other, what a joined test says of its parts, and a range taken apart at its start. No contract cites this file. Assumes nothing.
+-- A test goes one way or the other, what a joined test says of its parts, and a range taken apart at its
+-- start. No contract cites this file. Assumes nothing.
 use Prim.Native.Nat.{ℕ, suc, _≤_}
 use mathlib.Core.Path.{_≡_, refl, subst}
 use mathlib.Core.Bool.{Bool, true, false, not, _&&_, _||_, true≢false, false≢true}

@@ -1,4 +1,5 @@
--- A set of small numbers as words of 32 bits, lowest first: number i is bit i mod 32 of word i div 32. Assumes nothing.
+-- A set of small numbers as words of 32 bits, lowest first: number i is bit i mod 32 of word i div 32.
+-- Assumes nothing.
 --   member ws i     i is in the set; past the last word nothing is
 --   insert ws i     the set with i; past the last word, the set as it is
 --   remove ws i     the set without i

@@ -1,4 +1,4 @@
-// Bits of words, their bytes, halves and fields: each a shift, a mask or an `|`, with what it means as arithmetic.
+// Bits of words, their bytes, halves and fields: shifts and masks, with their meaning as arithmetic.
 mod bits;
 mod parts;
 

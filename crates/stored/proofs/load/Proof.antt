@@ -39,7 +39,14 @@ returns : tie.Need-returns
 unfolding fileAt
 returns c =
     let args = c .before .before .before .before .before .args in
-    ap₂ (λ (p e : List ℕ). record { delivery = getD (args .block .now) (args .at) 0; threshold = getD (args .block .now) (args .at + 1) 0; pending = p; enable = e })
+    ap₂
+    (λ (p e : List ℕ). record {
+      delivery = getD (args .block .now) (args .at) 0;
+      threshold =
+          getD (args .block .now) (args .at + 1) 0;
+      pending = p;
+      enable = e;
+    })
     (c .before .before .before .eight .ensures) (c .before .before .eight2 .ensures)
 
 pub load-spec : {M : Type 1} → statement M

@@ -48,7 +48,8 @@ returns c =
     let start = first .before .before .before .before .before in
     let f = start .args .f in
     let at = start .args .at in
-    c .before .before .put-eight2 .ensures ∙ ap (λ (l : List ℕ). sets l (at + 10) (f .enable)) (first .put-eight .ensures)
+    c .before .before .put-eight2 .ensures
+    ∙ ap (λ (l : List ℕ). sets l (at + 10) (f .enable)) (first .put-eight .ensures)
     ∙ file-written (start .args .block .now) at f (search needs)
 
 pub store-spec : {M : Type 1} → statement M

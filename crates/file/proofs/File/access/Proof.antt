@@ -1,4 +1,5 @@
--- `file::File::access` meets its contract: an illegal number is told apart, and each kind goes by its case. Assumes nothing.
+-- `file::File::access` meets its contract: an illegal number is told apart, and each kind goes by its case.
+-- Assumes nothing.
 use Prim.Native.Nat.{ℕ}
 use Rattle.words.specs.Bits.{union, without}
 use Rattle.file.specs.declared.File.{File}
@@ -16,7 +17,8 @@ select-legal-requires : tie.Need-select-legal-requires
 select-legal-requires c κs = search needs
 
 returns : tie.Need-returns
-returns c = sym (accessed-illegal _ _ _ _ _ _ (sym (c .before .select-legal .ensures) ∙ not-true _ (c .if1 .taken)))
+returns c =
+    sym (accessed-illegal _ _ _ _ _ _ (sym (c .before .select-legal .ensures) ∙ not-true _ (c .if1 .taken)))
 
 register-of-requires : tie.Need-register-of-requires
 register-of-requires c κs = search needs
@@ -60,7 +62,8 @@ returns-2 c =
     let legal = sym (at-legal .before .select-legal .ensures) ∙ not-false _ (at-legal .if1 .left) in
     ap (λ (old : ℕ). record { answer = Value old; file = args .self }) (at-held .held .ensures)
     ∙ sym (accessed-kind 255 (args .guest) (args .self) (args .kind) (args .select) (args .value)
-    (at-held .before .register-of .result) Read legal (at-held .before .register-of .ensures) (c .enum-told .given .1))
+    (at-held .before .register-of .result) Read legal (at-held .before .register-of .ensures)
+    (c .enum-told .given .1))
 
 returns-3 : tie.Need-returns-3
 unfolding accessedAt
@@ -71,7 +74,8 @@ returns-3 c =
     let legal = sym (at-legal .before .select-legal .ensures) ∙ not-false _ (at-legal .if1 .left) in
     ap (λ (f : File). record { answer = Value 0; file = f }) (c .written .ensures)
     ∙ sym (accessed-kind 255 (args .guest) (args .self) (args .kind) (args .select) (args .value)
-    (at-held .before .register-of .result) Write legal (at-held .before .register-of .ensures) (c .before .enum-told2 .given .1))
+    (at-held .before .register-of .result) Write legal (at-held .before .register-of .ensures)
+    (c .before .enum-told2 .given .1))
 
 returns-4 : tie.Need-returns-4
 unfolding accessedAt
@@ -81,9 +85,12 @@ returns-4 c =
     let args = at-legal .before .before .args in
     let legal = sym (at-legal .before .select-legal .ensures) ∙ not-false _ (at-legal .if1 .left) in
     ap₂ (λ (old : ℕ) (f : File). record { answer = Value old; file = f }) (at-held .held .ensures)
-    (c .written2 .ensures ∙ ap (written _ _ _ _) (c .before .union64 .ensures ∙ ap (λ (old : ℕ). union old (args .value)) (at-held .held .ensures)))
+    (c .written2 .ensures
+    ∙ ap (written _ _ _ _) (c .before .union64 .ensures
+    ∙ ap (λ (old : ℕ). union old (args .value)) (at-held .held .ensures)))
     ∙ sym (accessed-kind 255 (args .guest) (args .self) (args .kind) (args .select) (args .value)
-    (at-held .before .register-of .result) Set legal (at-held .before .register-of .ensures) (c .before .before .enum-told3 .given .1))
+    (at-held .before .register-of .result) Set legal (at-held .before .register-of .ensures)
+    (c .before .before .enum-told3 .given .1))
 
 returns-5 : tie.Need-returns-5
 unfolding accessedAt
@@ -93,9 +100,12 @@ returns-5 c =
     let args = at-legal .before .before .args in
     let legal = sym (at-legal .before .select-legal .ensures) ∙ not-false _ (at-legal .if1 .left) in
     ap₂ (λ (old : ℕ) (f : File). record { answer = Value old; file = f }) (at-held .held .ensures)
-    (c .written3 .ensures ∙ ap (written _ _ _ _) (c .before .without64 .ensures ∙ ap (λ (old : ℕ). without old (args .value)) (at-held .held .ensures)))
+    (c .written3 .ensures
+    ∙ ap (written _ _ _ _) (c .before .without64 .ensures
+    ∙ ap (λ (old : ℕ). without old (args .value)) (at-held .held .ensures)))
     ∙ sym (accessed-kind 255 (args .guest) (args .self) (args .kind) (args .select) (args .value)
-    (at-held .before .register-of .result) Clear legal (at-held .before .register-of .ensures) (c .before .before .enum-told4 .given .1))
+    (at-held .before .register-of .result) Clear legal (at-held .before .register-of .ensures)
+    (c .before .before .enum-told4 .given .1))
 
 pub access-spec : {M : Type 1} → statement M
 access-spec =

@@ -1,9 +1,10 @@
--- `file::File::arrive` meets its contract: an identity of 1 to 255 is put in, any other number does nothing. Assumes nothing.
+-- `file::File::arrive` meets its contract: an identity of 1 to 255 is put in, any other number does nothing.
+-- Assumes nothing.
 use Prim.Native.Nat.{ℕ, _/_}
 use mathlib.Core.Path.{ap, sym, _∙_}
 use native.Mathlib.Omega.{arith}
 use lib.ListN.{set}
-use Rattle.words.specs.Sets.{insert}
+use Rattle.words.proofs.SetsLaws.{insert-word}
 use Rattle.file.specs.Parts.{withPending}
 use Rattle.file.proofs.PageLaws.{arrived-below, arrived-above, arrived-within}
 use borrow.Author.Needs.{needs}
@@ -35,10 +36,12 @@ element-write-self : tie.Need-element-write-self
 element-write-self c = search needs
 
 returns-3 : tie.Need-returns-3
-unfolding insert
 returns-3 c =
     let before = c .before .before .before in
-    ap (λ (w : ℕ). withPending (before .before .args .t1) (set (before .before .args .t1 .pending) (before .before .args .identity / 32) w)) (c .with-bit .ensures)
+    let f = before .before .args .t1 in
+    let i = before .before .args .identity in
+    ap (λ (w : ℕ). withPending f (set (f .pending) (i / 32) w)) (c .with-bit .ensures)
+    ∙ ap (withPending f) (insert-word (f .pending) i)
     ∙ sym (arrived-within _ _ _ (before .if1 .left) (omega arith))
 
 pub arrive-spec : {M : Type 1} → statement M

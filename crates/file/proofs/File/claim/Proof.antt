@@ -1,9 +1,11 @@
--- `file::File::claim` meets its contract: the top is told and its bit taken out; with no top nothing changes. Assumes nothing.
+-- `file::File::claim` meets its contract: the top is told and its bit taken out; with no top nothing changes.
+-- Assumes nothing.
 use Prim.Native.Nat.{ℕ, _+_, _*_, _/_}
 use mathlib.Core.Path.{_≡_, ap, sym, _∙_}
 use native.Mathlib.Omega.{arith}
 use lib.ListN.{set}
 use Rattle.words.specs.Sets.{remove}
+use Rattle.words.proofs.SetsLaws.{remove-word}
 use Rattle.file.specs.Parts.{withPending}
 use Rattle.file.specs.Top.{topIdentity, topOf}
 use Rattle.file.proofs.TopLaws.{topIdentity-le, topOf-zero-2, claimed-none, claimed-some}
@@ -26,7 +28,8 @@ mul-without-bit : tie.Need-mul-without-bit
 mul-without-bit c = search needs
 
 element-copy-out-without-bit : tie.Need-element-copy-out-without-bit
-element-copy-out-without-bit c = omega (arith, c .before .top-identity .ensures, topIdentity-le 255 (c .before .before .args .t1))
+element-copy-out-without-bit c =
+    omega (arith, c .before .top-identity .ensures, topIdentity-le 255 (c .before .before .args .t1))
 
 without-bit-requires : tie.Need-without-bit-requires
 without-bit-requires c κs = search needs
@@ -35,23 +38,40 @@ mul-self : tie.Need-mul-self
 mul-self c = search needs
 
 element-write-self : tie.Need-element-write-self
-element-write-self c = omega (arith, c .before .before .before .top-identity .ensures, topIdentity-le 255 (c .before .before .before .before .args .t1))
+element-write-self c =
+    omega (
+      arith,
+      c .before .before .before .top-identity .ensures,
+      topIdentity-le 255 (c .before .before .before .before .args .t1),
+    )
 
 mul-t8 : tie.Need-mul-t8
-mul-t8 c = omega (arith, c .before .before .before .top-identity .ensures, topIdentity-le 255 (c .before .before .before .before .args .t1))
+mul-t8 c =
+    omega (
+      arith,
+      c .before .before .before .top-identity .ensures,
+      topIdentity-le 255 (c .before .before .before .before .args .t1),
+    )
 
 add-t12 : tie.Need-add-t12
-add-t12 c = omega (arith, c .before .before .before .top-identity .ensures, topIdentity-le 255 (c .before .before .before .before .args .t1))
+add-t12 c =
+    omega (
+      arith,
+      c .before .before .before .top-identity .ensures,
+      topIdentity-le 255 (c .before .before .before .before .args .t1),
+    )
 
 returns-2 : tie.Need-returns-2
-unfolding topOf remove
+unfolding topOf
 returns-2 c =
     let at-top = c .before .before .before in
     let f = at-top .before .args .t1 in
     let same = at-top .top-identity .ensures in
     let there : topIdentity 255 f ≡ 0 → ⊥ = λ z. c .before .before .if1 .left (same ∙ z) in (
       ap (λ (i : ℕ). i * 65536 + i) same,
-      ap (λ (w : ℕ). withPending f (set (f .pending) (at-top .top-identity .result / 32) w)) (c .without-bit .ensures)
+      ap (λ (w : ℕ). withPending f (set (f .pending) (at-top .top-identity .result / 32) w))
+          (c .without-bit .ensures)
+          ∙ ap (withPending f) (remove-word (f .pending) (at-top .top-identity .result))
           ∙ ap (λ (i : ℕ). withPending f (remove (f .pending) i)) same ∙ sym (claimed-some 255 f there),
     )
 

@@ -19,7 +19,8 @@ arrive-requires-2 : tie.Need-arrive-requires-2
 arrive-requires-2 c κs = search needs
 
 returns-2 : tie.Need-returns-2
-returns-2 c = c .arrive2 .ensures ∙ ap (arrived _ _) (c .before .reversed32 .ensures) ∙ sym (written-big _ _ _ _ (c .before .before .if2 .taken))
+returns-2 c = c .arrive2 .ensures ∙ ap (arrived _ _) (c .before .reversed32 .ensures)
+    ∙ sym (written-big _ _ _ _ (c .before .before .if2 .taken))
 
 returns-3 : tie.Need-returns-3
 returns-3 c = sym (written-elsewhere _ _ _ _ (c .before .if1 .left) (c .if2 .left))

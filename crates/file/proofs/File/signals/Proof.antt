@@ -12,7 +12,8 @@ top-identity-requires : tie.Need-top-identity-requires
 top-identity-requires c κs = search needs
 
 returns : tie.Need-returns
-returns c = ap (λ (i : ℕ). not (eqb i 0)) (c .top-identity .ensures) ∙ sym (signals-on _ _ (c .before .if1 .taken))
+returns c = ap (λ (i : ℕ). not (eqb i 0)) (c .top-identity .ensures)
+    ∙ sym (signals-on _ _ (c .before .if1 .taken))
 
 returns-2 : tie.Need-returns-2
 returns-2 c = sym (signals-off _ _ (c .if1 .left))

@@ -1,4 +1,5 @@
--- `file::File::top_identity` meets its contract: the identities from i on still have the lowest. Assumes nothing.
+-- `file::File::top_identity` meets its contract: the identities from i on still have the lowest. Assumes
+-- nothing.
 use Prim.Native.Nat.{_-_, _≤_}
 use mathlib.Core.Path.{_≡_, refl, sym, _∙_, ap}
 use native.Mathlib.Omega.{arith}

@@ -45,39 +45,54 @@ returns c =
     let at-told = c .before .before in
     let args = at-told .before .before .args in
     let legal = sym (c .before .delivery-legal .ensures) ∙ c .if1 .taken in
-    sym (ap (λ (r : Register). written 255 (args .guest) (args .self) r (args .value)) (at-told .enum-told .given .1)
-    ∙ written-legal _ _ _ _ legal ∙ ap (withDelivery (args .self)) (sym (mod-eq-of-lt (legal-lt (args .guest) (args .value) legal))))
+    sym
+    (ap (λ (r : Register). written 255 (args .guest) (args .self) r (args .value))
+    (at-told .enum-told .given .1)
+    ∙ written-legal _ _ _ _ legal
+    ∙ ap (withDelivery (args .self)) (sym (mod-eq-of-lt (legal-lt (args .guest) (args .value) legal))))
 
 returns-2 : tie.Need-returns-2
 returns-2 c =
     let at-told = c .before .before in
     let args = at-told .before .before .args in
-    sym (ap (λ (r : Register). written 255 (args .guest) (args .self) r (args .value)) (at-told .enum-told .given .1)
+    sym
+    (ap (λ (r : Register). written 255 (args .guest) (args .self) r (args .value))
+    (at-told .enum-told .given .1)
     ∙ written-illegal _ _ _ _ (sym (c .before .delivery-legal .ensures) ∙ c .if1 .left))
 
 returns-3 : tie.Need-returns-3
 unfolding written
 returns-3 c =
     let args = c .before .before .args in
-    sym (ap (λ (r : Register). written 255 (args .guest) (args .self) r (args .value)) (c .enum-told2 .given .1))
+    sym
+    (ap (λ (r : Register). written 255 (args .guest) (args .self) r (args .value))
+    (c .enum-told2 .given .1))
 
 returns-4 : tie.Need-returns-4
 unfolding written
 returns-4 c =
     let args = c .before .before .before .before .before .args in
-    ap (withPending (args .self)) (c .put-doubleword .ensures) ∙ sym (ap (λ (r : Register). written 255 (args .guest) (args .self) r (args .value)) (c .before .before .before .register .given .1))
+    ap (withPending (args .self)) (c .put-doubleword .ensures)
+    ∙ sym
+    (ap (λ (r : Register). written 255 (args .guest) (args .self) r (args .value))
+    (c .before .before .before .register .given .1))
 
 returns-5 : tie.Need-returns-5
 unfolding written
 returns-5 c =
     let args = c .before .before .before .before .before .args in
-    ap (withEnable (args .self)) (c .put-doubleword2 .ensures) ∙ sym (ap (λ (r : Register). written 255 (args .guest) (args .self) r (args .value)) (c .before .before .before .register2 .given .1))
+    ap (withEnable (args .self)) (c .put-doubleword2 .ensures)
+    ∙ sym
+    (ap (λ (r : Register). written 255 (args .guest) (args .self) r (args .value))
+    (c .before .before .before .register2 .given .1))
 
 returns-6 : tie.Need-returns-6
 unfolding written
 returns-6 c =
     let args = c .before .before .args in
-    sym (ap (λ (r : Register). written 255 (args .guest) (args .self) r (args .value)) (c .enum-told3 .given .1))
+    sym
+    (ap (λ (r : Register). written 255 (args .guest) (args .self) r (args .value))
+    (c .enum-told3 .given .1))
 
 pub written-spec : {M : Type 1} → statement M
 written-spec =

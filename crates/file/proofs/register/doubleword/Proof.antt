@@ -1,4 +1,5 @@
--- `file::register::doubleword` meets its contract: two words joined, and nothing past the last. Assumes nothing.
+-- `file::register::doubleword` meets its contract: two words joined, and nothing past the last. Assumes
+-- nothing.
 use Prim.Native.Nat.{ℕ, _+_}
 use mathlib.Core.Path.{ap, sym, _∙_}
 use native.Mathlib.Nat.{mul-comm}

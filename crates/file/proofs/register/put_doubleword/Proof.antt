@@ -1,4 +1,5 @@
--- `file::register::put_doubleword` meets its contract: identity 0 is dropped from word 0 alone. Assumes nothing.
+-- `file::register::put_doubleword` meets its contract: identity 0 is dropped from word 0 alone. Assumes
+-- nothing.
 use mathlib.Core.Path.{ap, sym, _∙_}
 use Rattle.file.specs.Register.{putHalves}
 use Rattle.file.proofs.RegisterLaws.{put-first, put-later}
@@ -13,7 +14,8 @@ put-halves-requires : tie.Need-put-halves-requires
 put-halves-requires c κs = search needs
 
 returns : tie.Need-returns
-returns c = c .put-halves .ensures ∙ ap (putHalves _ 0) (c .before .without64 .ensures) ∙ sym (put-first _ _ _ (c .before .before .if1 .taken))
+returns c = c .put-halves .ensures ∙ ap (putHalves _ 0) (c .before .without64 .ensures)
+    ∙ sym (put-first _ _ _ (c .before .before .if1 .taken))
 
 put-halves-requires-2 : tie.Need-put-halves-requires-2
 put-halves-requires-2 c κs = search needs

@@ -1,4 +1,5 @@
--- `file::register::put_halves` meets its contract: two words replaced, and nothing past the last. Assumes nothing.
+-- `file::register::put_halves` meets its contract: two words replaced, and nothing past the last. Assumes
+-- nothing.
 use Prim.Native.Nat.{ℕ, _+_, _*_}
 use mathlib.Core.Path.{ap, sym, _∙_, ap₂}
 use native.Mathlib.Nat.{mul-comm}
@@ -42,8 +43,10 @@ returns-2 : tie.Need-returns-2
 unfolding putHalves
 returns-2 c =
     let args = c .before .before .before .args in
-    ap₂ (λ (lo hi : ℕ). set (set (args .t1) (args .j * 2) lo) (args .j * 2 + 1) hi) (c .before .low32 .ensures) (c .high32 .ensures)
-    ∙ ap (λ (k : ℕ). set (set (args .t1) k (low (args .value))) (k + 1) (high (args .value))) (mul-comm (args .j) 2)
+    ap₂ (λ (lo hi : ℕ). set (set (args .t1) (args .j * 2) lo) (args .j * 2 + 1) hi)
+    (c .before .low32 .ensures) (c .high32 .ensures)
+    ∙ ap (λ (k : ℕ). set (set (args .t1) k (low (args .value))) (k + 1) (high (args .value)))
+    (mul-comm (args .j) 2)
 
 pub put-halves-spec : {M : Type 1} → statement M
 put-halves-spec =

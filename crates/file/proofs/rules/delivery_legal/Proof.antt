@@ -10,10 +10,14 @@ returns : tie.Need-returns
 returns c = sym (legal-switch _ _ (c .if1 .taken))
 
 returns-2 : tie.Need-returns-2
-returns-2 c = sym (legal-other _ _ (c .before .if1 .left) ∙ ap (λ (g : Bool). not g && eqb (c .before .before .args .value) 0x40000000) (c .if2 .taken))
+returns-2 c =
+    sym (legal-other _ _ (c .before .if1 .left)
+    ∙ ap (λ (g : Bool). not g && eqb (c .before .before .args .value) 0x40000000) (c .if2 .taken))
 
 returns-3 : tie.Need-returns-3
-returns-3 c = sym (legal-other _ _ (c .before .if1 .left) ∙ ap (λ (g : Bool). not g && eqb (c .before .before .args .value) 0x40000000) (c .if2 .left))
+returns-3 c =
+    sym (legal-other _ _ (c .before .if1 .left)
+    ∙ ap (λ (g : Bool). not g && eqb (c .before .before .args .value) 0x40000000) (c .if2 .left))
 
 pub delivery-legal-spec : {M : Type 1} → statement M
 delivery-legal-spec = tie.close (tie.spec returns returns-2 returns-3)

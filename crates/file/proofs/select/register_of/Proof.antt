@@ -1,7 +1,8 @@
 -- `file::select::register_of` meets its contract: each range by its law. Assumes nothing.
 use mathlib.Core.Path.{sym, _∙_}
 use native.Mathlib.Omega.{arith}
-use Rattle.file.proofs.SelectLaws.{register-delivery, register-threshold, register-named, register-pending, register-enable, words-there, words-past}
+use Rattle.file.proofs.SelectLaws.{register-delivery, register-threshold, register-named}
+use Rattle.file.proofs.SelectLaws.{register-pending, register-enable, words-there, words-past}
 use Rattle.file.proofs.select.register_of.Statement.{statement}
 use Rattle.file.proofs.select.register_of.Tie as tie
 
@@ -15,7 +16,8 @@ returns-3 : tie.Need-returns-3
 returns-3 c = sym (register-named _ _ (c .before .before .if1 .left) (c .before .if2 .left) (c .if3 .taken))
 
 returns-4 : tie.Need-returns-4
-returns-4 c = sym (register-pending _ _ (c .before .if3 .left) (omega arith) ∙ words-there _ _ _ _ (omega arith))
+returns-4 c =
+    sym (register-pending _ _ (c .before .if3 .left) (omega arith) ∙ words-there _ _ _ _ (omega arith))
 
 returns-5 : tie.Need-returns-5
 returns-5 c = sym (register-pending _ _ (omega arith) (c .if5 .taken) ∙ words-past _ _ _ _ (omega arith))

@@ -1,0 +1,40 @@
+# make proves and builds what there is and prints the table cases; make test is the whole gate; see make help.
+.DEFAULT_GOAL := all
+.PHONY: all test check fmt style clean help toolchain
+
+# rt check runs each program once it is proved, and keeps what it wrote
+all: check
+	@echo "table cases:"
+	@cat target/log/cases.stdout
+
+# rt ci comes last and nothing follows it: its last line is the verdict
+test: toolchain
+	@scripts/style
+	@rt fmt --check
+	@rt ci
+
+check: toolchain
+	@rt check
+
+fmt: toolchain
+	@rt fmt
+
+style:
+	@scripts/style
+
+clean:
+	@rm -rf target
+
+help:
+	@echo "make          prove every crate, build and run the programs, print the table cases"
+	@echo "make test     the whole gate: style, layout, then rt ci, from nothing; its last line is the verdict"
+	@echo "make check    prove what changed since it was last proved, and run the programs"
+	@echo "make fmt      bring every source file under crates/ into the layout"
+	@echo "make style    what the checker does not see: width, headers, holes, contracts, edits, names, paths"
+	@echo "make clean    remove target/, where all that is built lies"
+	@echo "All but style, clean and help need rt, the command of the Rattle toolchain, on PATH."
+
+toolchain:
+	@command -v rt >/dev/null 2>&1 || { \
+	    echo "make: rt is not on PATH. It is the command of the Rattle toolchain, and all that is needed." >&2; \
+	    exit 1; }

@@ -1,0 +1,32 @@
+-- The table cases hold: one statement, computed over the whole table. Assumes nothing.
+use Prim.Native.Nat.{ℕ}
+use mathlib.Core.Path.{_≡_, refl, ap₂}
+use mathlib.Core.Bool.{true, false, false≢true}
+use mathlib.Core.List.{List, [], _∷_}
+use lib.Dec.{eqb}
+use borrow.Author.Tests.{eqb-true}
+use Rattle.words.specs.Bits.{bitOf, hasBit, withBit}
+use Rattle.words.specs.Parts.{reversed}
+use Rattle.words.specs.Sets.{member, insert}
+use Rattle.words.proofs.TestsLaws.{and-first, and-second}
+use Rattle.file.specs.Page.{arrived, pageWritten}
+use Rattle.file.specs.Top.{passes, qualifies, lowest, topIdentity, topOf}
+use Rattle.file.specs.Select.{selectLegal, registerOf}
+use Rattle.file.specs.Register.{held, accessedAt, accessed}
+use Rattle.stored.specs.Stored.{fileWords}
+use Rattle.claims.specs.Table.{Row, table, same, holds}
+
+pub table-holds : holds table ≡ true
+unfolding holds table same topOf topIdentity lowest qualifies passes member hasBit bitOf pageWritten arrived
+    insert withBit reversed fileWords accessed accessedAt selectLegal registerOf held
+table-holds = refl
+
+-- what the test says of one row: the two lists are equal
+pub same-equal : (xs ys : List ℕ) → same xs ys ≡ true → xs ≡ ys
+unfolding same
+same-equal [] [] e = refl
+same-equal [] (y ∷ ys) e = absurd (false≢true e)
+same-equal (x ∷ xs) [] e = absurd (false≢true e)
+same-equal (x ∷ xs) (y ∷ ys) e =
+    ap₂ (λ (a : ℕ) (l : List ℕ). a ∷ l) (eqb-true x y (and-first (eqb x y) (same xs ys) e))
+    (same-equal xs ys (and-second (eqb x y) (same xs ys) e))

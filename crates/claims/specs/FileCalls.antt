@@ -1,0 +1,98 @@
+-- Claims 1 to 14, on the calls of one message file: whatever a contract lets a method give back is what the
+-- definition says and nothing else.
+-- So two answers that a contract allows are equal, and a contract that says less breaks its claim. Assumes
+-- nothing.
+-- `Learnt l a r a` is what a caller learns of a call with the arguments a that answered r. 01, "One message
+-- file".
+use Prim.Native.Nat.{ℕ}
+use mathlib.Core.Path.{_≡_}
+use mathlib.Core.Bool.{Bool}
+use mathlib.Core.List.{List}
+use contract.Lifetimes.{Lfts}
+use denote.Ref.{RefT, now}
+use Rattle.file.specs.declared.File.{File}
+use Rattle.file.specs.declared.select.Register.{Register}
+use Rattle.file.specs.declared.register.Access.{Access}
+use Rattle.file.specs.declared.register.Accessed.{Accessed}
+use Rattle.file.specs.declared.top.Claimed.{Claimed}
+use Rattle.file.specs.Page.{arrived, pageWritten, pageRead}
+use Rattle.file.specs.Top.{topIdentity, topOf, claimed, signals}
+use Rattle.file.specs.Select.{selectLegal, registerOf}
+use Rattle.file.specs.Rules.{deliveryLegal, fileSound}
+use Rattle.file.specs.Register.{accessed}
+use Rattle.stored.specs.Stored.{fileAt, putFile}
+use Rattle.file.proofs.File.arrive.Reads as arrive
+use Rattle.file.proofs.File.page_write.Reads as page-write
+use Rattle.file.proofs.File.page_read.Reads as page-read
+use Rattle.file.proofs.File.top_identity.Reads as top-identity
+use Rattle.file.proofs.File.top.Reads as top
+use Rattle.file.proofs.File.claim.Reads as claim
+use Rattle.file.proofs.File.signals.Reads as signals-of
+use Rattle.file.proofs.select_legal.Reads as select-legal
+use Rattle.file.proofs.register_of.Reads as register-of
+use Rattle.file.proofs.delivery_legal.Reads as delivery-legal
+use Rattle.file.proofs.File.access.Reads as access
+use Rattle.file.proofs.File.sound.Reads as sound
+use Rattle.stored.proofs.load.Reads as load
+use Rattle.stored.proofs.store.Reads as store
+
+-- a message arrives
+unfoldable pub Claim-1 : Type 0
+Claim-1 = (f r : File) (i : ℕ) → arrive.Learnt tt (f, (i, tt)) r (f, (i, tt)) → r ≡ arrived 255 f i
+
+-- a word of the page is written
+unfoldable pub Claim-2 : Type 0
+Claim-2 = (f r : File) (a v : ℕ) → page-write.Learnt tt (f, (a, (v, tt))) r (f, (a, (v, tt)))
+    → r ≡ pageWritten 255 f a v
+
+-- a word of the page is read
+unfoldable pub Claim-3 : Type 0
+Claim-3 = (f : File) (a r : ℕ) → page-read.Learnt tt (f, (a, tt)) r (f, (a, tt)) → r ≡ pageRead f a
+
+-- the top's identity, and the top
+unfoldable pub Claim-4 : Type 0
+Claim-4 = (f : File) (r : ℕ) → top-identity.Learnt tt (f, tt) r (f, tt) → r ≡ topIdentity 255 f
+
+unfoldable pub Claim-5 : Type 0
+Claim-5 = (f : File) (r : ℕ) → top.Learnt tt (f, tt) r (f, tt) → r ≡ topOf 255 f
+
+-- a claim: the top as it was, and the file after it
+unfoldable pub Claim-6 : Type 0
+Claim-6 = (f : File) (r : Claimed) → claim.Learnt tt (f, tt) r (f, tt)
+    → (r .top ≡ topOf 255 f) × (r .file ≡ claimed 255 f)
+
+-- the signal
+unfoldable pub Claim-7 : Type 0
+Claim-7 = (f : File) (r : Bool) → signals-of.Learnt tt (f, tt) r (f, tt) → r ≡ signals 255 f
+
+-- which select numbers are legal, and what each names
+unfoldable pub Claim-8 : Type 0
+Claim-8 = (s : ℕ) (r : Bool) → select-legal.Learnt tt (s, tt) r (s, tt) → r ≡ selectLegal s
+
+unfoldable pub Claim-9 : Type 0
+Claim-9 = (s : ℕ) (r : Register) → register-of.Learnt tt (s, tt) r (s, tt) → r ≡ registerOf 255 s
+
+-- which deliveries are legal
+unfoldable pub Claim-10 : Type 0
+Claim-10 = (g r : Bool) (d : ℕ) → delivery-legal.Learnt tt (g, (d, tt)) r (g, (d, tt)) → r ≡ deliveryLegal g d
+
+-- an access to a register: the answer and the file after it
+unfoldable pub Claim-11 : Type 0
+Claim-11 =
+    (f : File) (g : Bool) (k : Access) (s v : ℕ) (r : Accessed)
+    → access.Learnt tt (f, (g, (k, (s, (v, tt))))) r (f, (g, (k, (s, (v, tt))))) → r ≡ accessed 255 g f k s v
+
+-- the state rules of a file
+unfoldable pub Claim-12 : Type 0
+Claim-12 = (f : File) (g r : Bool) → sound.Learnt tt (f, (g, tt)) r (f, (g, tt)) → r ≡ fileSound 255 g f
+
+-- a file is loaded from its words
+unfoldable pub Claim-13 : Type 0
+Claim-13 = (l : Lfts 1) (b : RefT (List ℕ)) (at : ℕ) (r : File) → load.Learnt l (b, (at, tt)) r (b, (at, tt))
+    → r ≡ fileAt (now b) at
+
+-- a file's words are stored in a block
+unfoldable pub Claim-14 : Type 0
+Claim-14 =
+    (l : Lfts 1) (b b′ : RefT (List ℕ)) (at : ℕ) (f : File)
+    → store.Learnt l (b, (at, (f, tt))) tt (b′, (at, (f, tt))) → now b′ ≡ putFile (now b) at f

@@ -1,0 +1,135 @@
+-- Claims 20 to 34, on what the definitions of one message file mean: the paper's sentences as theorems.
+-- `Stands f i` is the paper's rule for a candidate, `member ws i` is bit i of a set's words, n the number of
+-- identities, 255 where a claim is about a file's own words. 01, "One message file", "State rules".
+-- Assumes nothing.
+use Prim.Native.Nat.{ℕ, _+_, _*_, _/_, _%_, _^_, _≤_, _<_}
+use mathlib.Core.Path.{_≡_}
+use mathlib.Core.Bool.{Bool, true, false, not, cond, _&&_, _||_}
+use mathlib.Core.List.{List}
+use mathlib.Core.Logic.{_≢_, _↔_, _⊎_}
+use lib.Dec.{eqb, leb}
+use lib.ListN.{length}
+use Rattle.words.specs.Bits.{hasBit, withoutBit}
+use Rattle.words.specs.Sets.{member, WordsFit}
+use Rattle.file.specs.declared.File.{File}
+use Rattle.file.specs.declared.select.Register.the-variants.{Delivery, Threshold, Pending, Enable}
+use Rattle.file.specs.declared.register.Access.{Access}
+use Rattle.file.specs.declared.register.Answer.the-variants.{Illegal}
+use Rattle.file.specs.Shape.{Shaped}
+use Rattle.file.specs.Parts.{withDelivery}
+use Rattle.file.specs.Page.{arrived, pageWritten}
+use Rattle.file.specs.Top.{topIdentity, topOf, claimed, signals}
+use Rattle.file.specs.Rules.{deliveryLegal, fileSound}
+use Rattle.file.specs.Select.{selectLegal}
+use Rattle.file.specs.Register.{held, written, accessed}
+use Rattle.stored.specs.Stored.{fileAt, putFile}
+
+-- identity i is pending and enabled, and below the threshold if that is not 0
+pub record Stands (f : File) (i : ℕ) : Type 0 where
+  pub pending : member (f .pending) i ≡ true
+  pub enabled : member (f .enable) i ≡ true
+  pub passes : (f .threshold ≡ 0) ⊎ (i < f .threshold)
+
+-- the top reads 0 exactly if no identity qualifies
+unfoldable pub Claim-20 : Type 0
+Claim-20 = (n : ℕ) (f : File) → (topOf n f ≡ 0) ↔ ((i : ℕ) → 1 ≤ i → i ≤ n → Stands f i → ⊥)
+
+-- a top that is not 0 is an identity twice; that identity qualifies, and none below it does
+unfoldable pub Claim-21 : Type 0
+Claim-21 =
+    (n : ℕ) (f : File) → topOf n f ≢ 0
+    → (i : ℕ) × (topOf n f ≡ i * 65536 + i) × (1 ≤ i) × (i ≤ n) × Stands f i
+    × ((j : ℕ) → 1 ≤ j → j < i → Stands f j → ⊥)
+
+-- threshold P shuts P out, and all above it
+unfoldable pub Claim-22 : Type 0
+Claim-22 = (n : ℕ) (f : File) → f .threshold ≢ 0 → (i : ℕ) → f .threshold ≤ i → topOf n f ≢ i * 65536 + i
+
+-- a claim clears the pending bit of the top and no other, and nothing else of the file; with no top it
+-- changes nothing
+unfoldable pub Claim-23 : Type 0
+Claim-23 =
+    (f : File) → Shaped f
+    → ((j : ℕ) → 1 ≤ j
+    → member (claimed 255 f .pending) j ≡
+    (member (f .pending) j && not (eqb (j * 65536 + j) (topOf 255 f))))
+    × (claimed 255 f .delivery ≡ f .delivery) × (claimed 255 f .threshold ≡ f .threshold)
+    × (claimed 255 f .enable ≡ f .enable)
+
+unfoldable pub Claim-24 : Type 0
+Claim-24 = (n : ℕ) (f : File) → topOf n f ≡ 0 → claimed n f ≡ f
+
+-- a message sets its own pending bit and no other, and nothing else of the file; a number that is no identity
+-- does nothing
+unfoldable pub Claim-25 : Type 0
+Claim-25 =
+    (f : File) (i : ℕ) → Shaped f
+    → ((j : ℕ)
+    → member (arrived 255 f i .pending) j ≡
+    (member (f .pending) j || (eqb j i && (leb 1 i && leb i 255))))
+    × (arrived 255 f i .delivery ≡ f .delivery) × (arrived 255 f i .threshold ≡ f .threshold)
+    × (arrived 255 f i .enable ≡ f .enable)
+
+-- arrival does not depend on delivery
+unfoldable pub Claim-26 : Type 0
+Claim-26 = (n : ℕ) (f : File) (i d : ℕ) → arrived n (withDelivery f d) i ≡ withDelivery (arrived n f i) d
+
+-- delivery: a legal number reads back, any other keeps the old one; the threshold keeps the low 8 bits
+unfoldable pub Claim-27 : Type 0
+Claim-27 =
+    (g : Bool) (f : File) (v : ℕ)
+    → (deliveryLegal g v ≡ true → held (written 255 g f Delivery v) Delivery ≡ v)
+    × (deliveryLegal g v ≡ false → written 255 g f Delivery v ≡ f)
+    × (held (written 255 g f Threshold v) Threshold ≡ v % 2 ^ 8)
+
+-- select 0x80 + 2j: what is written reads back, but for identity 0; bit k is identity 64j + k; the other
+-- identities stay
+unfoldable pub Claim-28 : Type 0
+Claim-28 =
+    (g : Bool) (f : File) (j v : ℕ) → Shaped f → j < 4
+    → (held (written 255 g f (Pending j) v) (Pending j) ≡ cond (eqb j 0) (withoutBit v 0) v)
+    × ((k : ℕ) → k < 64 → 64 * j + k ≢ 0
+    → member (written 255 g f (Pending j) v .pending) (64 * j + k) ≡ hasBit v k)
+    × ((i : ℕ) → i / 64 ≢ j → member (written 255 g f (Pending j) v .pending) i ≡ member (f .pending) i)
+
+-- select 0xC0 + 2j: the same for the enable bits
+unfoldable pub Claim-29 : Type 0
+Claim-29 =
+    (g : Bool) (f : File) (j v : ℕ) → Shaped f → j < 4
+    → (held (written 255 g f (Enable j) v) (Enable j) ≡ cond (eqb j 0) (withoutBit v 0) v)
+    × ((k : ℕ) → k < 64 → 64 * j + k ≢ 0
+    → member (written 255 g f (Enable j) v .enable) (64 * j + k) ≡ hasBit v k)
+    × ((i : ℕ) → i / 64 ≢ j → member (written 255 g f (Enable j) v .enable) i ≡ member (f .enable) i)
+
+-- the illegal select numbers, exactly; an access to one answers so and changes nothing
+unfoldable pub Claim-30 : Type 0
+Claim-30 = (s : ℕ) → (selectLegal s ≡ false) ↔ ((s < 0x70) ⊎ ((0xFF < s) ⊎ ((0x80 ≤ s) × (s % 2 ≡ 1))))
+
+unfoldable pub Claim-31 : Type 0
+Claim-31 =
+    (n : ℕ) (g : Bool) (f : File) (k : Access) (s v : ℕ) → selectLegal s ≡ false
+    → accessed n g f k s v ≡ record { answer = Illegal; file = f }
+
+-- every operation keeps the state rules, and with them identity 0 clear
+pub record KeepsRules (g : Bool) (f : File) : Type 0 where
+  pub message : (a v : ℕ) → fileSound 255 g (pageWritten 255 f a v) ≡ true
+  pub claim : fileSound 255 g (claimed 255 f) ≡ true
+  pub access : (k : Access) (s v : ℕ) → v < 2 ^ 64 → fileSound 255 g (accessed 255 g f k s v .file) ≡ true
+
+unfoldable pub Claim-32 : Type 0
+Claim-32 = (g : Bool) (f : File) → Shaped f → fileSound 255 g f ≡ true → KeepsRules g f
+
+-- a file signals exactly if its delivery is 1 and its top is not 0
+unfoldable pub Claim-33 : Type 0
+Claim-33 = (n : ℕ) (f : File) → (signals n f ≡ true) ↔ ((f .delivery ≡ 1) × (topOf n f ≢ 0))
+
+-- what is stored is loaded, what is loaded is stored as it was, and a file that stands apart stays
+pub record RoundTrips (l : List ℕ) (at : ℕ) : Type 0 where
+  pub file : (f : File) → Shaped f → fileAt (putFile l at f) at ≡ f
+  pub block : putFile l at (fileAt l at) ≡ l
+  pub apart : (f : File) → Shaped f → (i : ℕ) → i + 18 ≤ length l → (i + 18 ≤ at) ⊎ (at + 18 ≤ i)
+      → fileAt (putFile l at f) i ≡ fileAt l i
+  pub shape : WordsFit l → Shaped (fileAt l at)
+
+unfoldable pub Claim-34 : Type 0
+Claim-34 = (l : List ℕ) (at : ℕ) → at + 18 ≤ length l → RoundTrips l at

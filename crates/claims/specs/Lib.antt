@@ -1,0 +1,4 @@
+-- The claims, by topic: each a statement written out in full. Assumes nothing.
+pub mod Table
+pub mod FileCalls
+pub mod FileFacts
