@@ -2,3 +2,7 @@
 pub mod Table
 pub mod FileCalls
 pub mod FileFacts
+pub mod Causes
+pub mod Sending
+pub mod WiredCalls
+pub mod Direct

@@ -5,20 +5,34 @@ use mathlib.Core.Bool.{true, false, false≢true}
 use mathlib.Core.List.{List, [], _∷_}
 use lib.Dec.{eqb}
 use borrow.Author.Tests.{eqb-true}
-use Rattle.words.specs.Bits.{bitOf, hasBit, withBit}
-use Rattle.words.specs.Parts.{reversed}
-use Rattle.words.specs.Sets.{member, insert}
+use Rattle.words.specs.Bits.{bitOf, hasBit, withBit, withoutBit}
+use Rattle.words.specs.Parts.{reversed, fieldOf, packed}
+use Rattle.words.specs.Sets.{member, insert, remove, put}
 use Rattle.words.proofs.TestsLaws.{and-first, and-second}
 use Rattle.file.specs.Page.{arrived, pageWritten}
 use Rattle.file.specs.Top.{passes, qualifies, lowest, topIdentity, topOf}
 use Rattle.file.specs.Select.{selectLegal, registerOf}
 use Rattle.file.specs.Register.{held, accessedAt, accessed}
 use Rattle.stored.specs.Stored.{fileWords}
+use Rattle.mode.specs.Mode.{isActive}
+use Rattle.target.specs.Target.{hartOf, guestOf, numberOf, receiverOf, keptTarget, logWord, messageOf}
+use Rattle.delivery.specs.Delivery.{lets}
+use Rattle.source.specs.Pending.{redelivered}
+use Rattle.domain.specs.Domain.{configOf, byMessages, withConfig, withGenerated}
+use Rattle.domain.specs.Slot.{sourceAt, withSource}
+use Rattle.domain.specs.Structure.{structureAt}
+use Rattle.writes.specs.Config.{keptConfig, redeliveredAt, redeliveredFrom, modeSettled, configWritten}
+use Rattle.direct.specs.Direct.{standing, eligible, precedes, topFrom, topSource, topiOf}
+use Rattle.registers.specs.Read.{valueOf as readOf}
 use Rattle.claims.specs.Table.{Row, table, same, holds}
 
 pub table-holds : holds table ≡ true
 unfolding holds table same topOf topIdentity lowest qualifies passes member hasBit bitOf pageWritten arrived
-    insert withBit reversed fileWords accessed accessedAt selectLegal registerOf held
+    insert withBit reversed fileWords accessed accessedAt selectLegal registerOf held topiOf topSource topFrom
+    standing eligible precedes lets structureAt sourceAt byMessages configOf hartOf guestOf numberOf fieldOf
+    keptTarget receiverOf packed messageOf logWord readOf configWritten modeSettled keptConfig
+    withConfig withGenerated redeliveredFrom redeliveredAt redelivered withSource isActive put remove
+    withoutBit
 table-holds = refl
 
 -- what the test says of one row: the two lists are equal

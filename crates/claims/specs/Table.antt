@@ -1,5 +1,4 @@
--- The table cases of the paper that one message file has, T1 to T5 and T11: what the definitions give, beside
--- what the table says.
+-- The table cases of the paper, T1 to T9 and T11: what the definitions give, beside what the table says.
 -- 01, "Table cases". Assumes nothing.
 use Prim.Native.Nat.{ℕ}
 use mathlib.Core.Bool.{Bool, true, false, _&&_}
@@ -13,6 +12,13 @@ use Rattle.file.specs.Page.{pageWritten}
 use Rattle.file.specs.Top.{topOf}
 use Rattle.file.specs.Register.{accessed}
 use Rattle.stored.specs.Stored.{fileWords}
+use Rattle.words.specs.Parts.{packed}
+use Rattle.target.specs.Target.{keptTarget, messageOf}
+use Rattle.region.specs.declared.Word.the-variants.{Domaincfg}
+use Rattle.domain.specs.Domain.{Domain}
+use Rattle.writes.specs.Config.{configWritten}
+use Rattle.direct.specs.Direct.{topiOf}
+use Rattle.registers.specs.Read.{valueOf as readOf}
 
 -- a row: the case's number, what the definitions give, what the table says
 pub record Row : Type 0 where
@@ -32,6 +38,32 @@ empty = record { delivery = 1; threshold = 0; pending = replicate 8 0; enable = 
 abbrev pub five : File
 five = record { delivery = 1; threshold = 0; pending = 0x20 ∷ replicate 7 0; enable = replicate 8 0 }
 
+-- a domain in direct mode in which every source is Detached, enabled and has priority 3 for hart 0, and those
+-- of a set are pending
+abbrev pub ofSources : List ℕ → Domain
+ofSources pending =
+    record {
+      source = 0 ∷ replicate 63 1;
+      target = 0 ∷ replicate 63 3;
+      pending = pending;
+      enable = 0xFFFFFFFE ∷ 0xFFFFFFFF ∷ [];
+      delivery = replicate 12 0;
+    }
+
+-- a domain as after reset, and low wires
+abbrev pub quiet : Domain
+quiet =
+    record {
+      source = replicate 64 0;
+      target = replicate 64 0;
+      pending = replicate 2 0;
+      enable = replicate 2 0;
+      delivery = replicate 12 0;
+    }
+
+abbrev pub wires : List ℕ
+wires = replicate 2 0
+
 unfoldable pub table : List Row
 table =
     record { case = 1; given = topOf 255 (fiveAndNine 0) ∷ []; says = 0x00050005 ∷ [] }
@@ -39,6 +71,18 @@ table =
     ∷ record { case = 3; given = topOf 255 (fiveAndNine 6) ∷ []; says = 0x00050005 ∷ [] }
     ∷ record { case = 4; given = fileWords (pageWritten 255 empty 0 256); says = fileWords empty }
     ∷ record { case = 5; given = fileWords (pageWritten 255 empty 4 0x05000000); says = fileWords five }
+    ∷ record { case = 6; given = topiOf (ofSources (0x80 ∷ 0 ∷ [])) 0 ∷ []; says = 0x00070003 ∷ [] }
+    ∷ record { case = 7; given = topiOf (ofSources (0x180 ∷ 0 ∷ [])) 0 ∷ []; says = 0x00070003 ∷ [] }
+    ∷ record {
+      case = 8;
+      given = keptTarget true true (packed 2 18 (packed 1 12 40)) ∷ messageOf true 0x00081028 ∷ [];
+      says = 0x00081028 ∷ 4648 ∷ [];
+    }
+    ∷ record {
+      case = 9;
+      given = readOf (configWritten quiet wires 0x104) wires Domaincfg ∷ [];
+      says = 0x80000104 ∷ [];
+    }
     ∷ record { case = 11; given = numberOf (accessed 255 true empty Read 0x81 0 .answer) ∷ []; says = 6 ∷ [] }
     ∷ record {
       case = 11;

@@ -6,7 +6,7 @@
 --   ..-or, ..-and      what the code's `|`, `&` and `!` give
 use Prim.Native.Nat.{ℕ, zero, suc, _+_, _-_, _*_, _/_, _%_, _^_, _≤_, _<_, min, max}
 use mathlib.Core.Path.{_≡_, refl, sym, ap, ap₂, _∙_, subst}
-use mathlib.Core.Bool.{true, false, not, _&&_, _||_, true≢false, false≢true}
+use mathlib.Core.Bool.{Bool, true, false, not, _&&_, _||_, true≢false, false≢true}
 use mathlib.Core.Logic.{_≢_}
 use native.Mathlib.Nat.{mod-lt, div-add-mod', mod-eq-of-lt, div-eq-of-lt, add-mul-div-right}
 use native.Mathlib.Nat.{mul-add-mod-self-right, pow-suc, zero-lt-suc, lt-of-le-of-lt, zero-add, le-of-eq}
@@ -14,9 +14,10 @@ use native.Mathlib.Omega.{arith}
 use lib.Arith.{lt-one}
 use lib.Dec.{eqb}
 use lib.Pow.{pow-pos, pow-lt, shr-shr}
-use lib.Bits.{bitAnd, bitOr, and-step, or-step, or-shr, or-mod, and-le-l, or-lt, or-zero-r, and-zero-r}
+use lib.Bits.{bitAnd, bitOr, and-step, or-step, or-shr, or-mod, and-shr, and-mod, and-le-l, or-lt, or-zero-r}
+use lib.Bits.{and-zero-r}
 use borrow.Author.Tests.{eq-eqb, ne-eqb, eqb-true}
-use Rattle.words.specs.Bits.{bitOf, hasBit, withBit, withoutBit, union, without}
+use Rattle.words.specs.Bits.{bitOf, hasBit, withBit, withoutBit, putBit, union, without}
 
 -- ---- a bit as a number
 
@@ -59,6 +60,20 @@ bitOf-union w v k =
     ap (λ (x : ℕ). x % 2) (or-shr w v k)
     ∙ or-mod (w / 2 ^ k) (v / 2 ^ k) 1
     ∙ bit-max (w / 2 ^ k % 2) (v / 2 ^ k % 2) (mod-lt (w / 2 ^ k) (zero-lt-suc 1))
+    (mod-lt (v / 2 ^ k) (zero-lt-suc 1))
+
+bit-min : (x y : ℕ) → x < 2 → y < 2 → bitAnd x y ≡ min x y
+bit-min x y hx hy =
+    and-step x y
+    ∙ ap₂ (λ (a b : ℕ). bitAnd a b * 2 + min (x % 2) (y % 2)) (div-eq-of-lt hx) (div-eq-of-lt hy)
+    ∙ zero-add (min (x % 2) (y % 2)) ∙ ap₂ min (mod-eq-of-lt hx) (mod-eq-of-lt hy)
+
+pub bitOf-and : (w v k : ℕ) → bitOf (bitAnd w v) k ≡ min (bitOf w k) (bitOf v k)
+unfolding bitOf
+bitOf-and w v k =
+    ap (λ (x : ℕ). x % 2) (and-shr w v k)
+    ∙ and-mod (w / 2 ^ k) (v / 2 ^ k) 1
+    ∙ bit-min (w / 2 ^ k % 2) (v / 2 ^ k % 2) (mod-lt (w / 2 ^ k) (zero-lt-suc 1))
     (mod-lt (v / 2 ^ k) (zero-lt-suc 1))
 
 without-step : (w v : ℕ) → without w v ≡ without (w / 2) (v / 2) * 2 + (w % 2 - v % 2)
@@ -198,6 +213,13 @@ bool-max x y hx hy =
     (bit-cases (λ (b : ℕ). eqb (max 1 b) 1 ≡ (eqb 1 1 || eqb b 1)) refl refl y hy)
     x hx
 
+bool-min : (x y : ℕ) → x < 2 → y < 2 → eqb (min x y) 1 ≡ (eqb x 1 && eqb y 1)
+bool-min x y hx hy =
+    bit-cases (λ (a : ℕ). eqb (min a y) 1 ≡ (eqb a 1 && eqb y 1))
+    (bit-cases (λ (b : ℕ). eqb (min 0 b) 1 ≡ (eqb 0 1 && eqb b 1)) refl refl y hy)
+    (bit-cases (λ (b : ℕ). eqb (min 1 b) 1 ≡ (eqb 1 1 && eqb b 1)) refl refl y hy)
+    x hx
+
 bool-sub : (x y : ℕ) → x < 2 → y < 2 → eqb (x - y) 1 ≡ (eqb x 1 && not (eqb y 1))
 bool-sub x y hx hy =
     bit-cases (λ (a : ℕ). eqb (a - y) 1 ≡ (eqb a 1 && not (eqb y 1)))
@@ -210,6 +232,12 @@ unfolding hasBit
 hasBit-union w v k =
     ap (λ (x : ℕ). eqb x 1) (bitOf-union w v k)
     ∙ bool-max (bitOf w k) (bitOf v k) (bitOf-lt w k) (bitOf-lt v k)
+
+pub hasBit-and : (w v k : ℕ) → hasBit (bitAnd w v) k ≡ (hasBit w k && hasBit v k)
+unfolding hasBit
+hasBit-and w v k =
+    ap (λ (x : ℕ). eqb x 1) (bitOf-and w v k)
+    ∙ bool-min (bitOf w k) (bitOf v k) (bitOf-lt w k) (bitOf-lt v k)
 
 pub hasBit-without : (w v k : ℕ) → hasBit (without w v) k ≡ (hasBit w k && not (hasBit v k))
 unfolding hasBit
@@ -246,3 +274,13 @@ withBit-lt n w k hw hk = rw withBit-union (union-lt n w (2 ^ k) hw (pow-lt hk))
 pub withoutBit-le : (w k : ℕ) → withoutBit w k ≤ w
 unfolding withoutBit
 withoutBit-le w k = omega arith
+
+-- ---- a bit put as a test says
+
+pub putBit-on : (w k : ℕ) (b : Bool) → b ≡ true → putBit w k b ≡ withBit w k
+unfolding putBit
+putBit-on w k b e = simp e
+
+pub putBit-off : (w k : ℕ) (b : Bool) → b ≡ false → putBit w k b ≡ withoutBit w k
+unfolding putBit
+putBit-off w k b e = simp e

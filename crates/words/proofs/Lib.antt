@@ -3,3 +3,4 @@ pub mod BitsLaws
 pub mod PartsLaws
 pub mod SetsLaws
 pub mod TestsLaws
+pub mod ZerosLaws

@@ -120,6 +120,14 @@ pub fieldOf-lt : (w at size : ℕ) → fieldOf w at size < 2 ^ size
 unfolding fieldOf
 fieldOf-lt w at size = mod-lt (w / 2 ^ at) (pow-pos size)
 
+pub fieldOf-is : (w at size : ℕ) → fieldOf w at size ≡ w / 2 ^ at % 2 ^ size
+unfolding fieldOf
+fieldOf-is w at size = refl
+
+pub packed-is : (hi at lo : ℕ) → packed hi at lo ≡ hi * 2 ^ at + lo
+unfolding packed
+packed-is hi at lo = refl
+
 -- the field that was put above is read there, and what lies below stays
 pub fieldOf-packed : (hi at lo size : ℕ) → lo < 2 ^ at → hi < 2 ^ size
     → fieldOf (packed hi at lo) at size ≡ hi

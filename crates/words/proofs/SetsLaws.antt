@@ -6,7 +6,7 @@
 --   member-ext          two sets of one length are equal if their members are
 use Prim.Native.Nat.{ℕ, _+_, _*_, _/_, _%_, _^_, _<_}
 use mathlib.Core.Path.{_≡_, refl, sym, ap, _∙_}
-use mathlib.Core.Bool.{true, false}
+use mathlib.Core.Bool.{Bool, true, false}
 use mathlib.Core.List.{List}
 use mathlib.Core.Logic.{_≢_}
 use native.Mathlib.Nat.{lt-of-le-of-lt}
@@ -14,8 +14,10 @@ use native.Mathlib.Decide.{ℕ-discrete, decLt}
 use native.Mathlib.Omega.{arith}
 use lib.ListN.{length, getD, set, length-set}
 use lib.Seq.{getD-set-same, getD-set-other, set-out, ext-getD}
-use Rattle.words.specs.Bits.{hasBit, withBit, withoutBit}
-use Rattle.words.specs.Sets.{member, insert, remove, WordsFit}
+use Rattle.words.specs.Bits.{hasBit, withBit, withoutBit, putBit}
+use Rattle.words.specs.Sets.{member, insert, remove, put, WordsFit}
+use Rattle.words.proofs.TestsLaws.{tested}
+use Rattle.words.proofs.BitsLaws.{putBit-on, putBit-off}
 use Rattle.words.proofs.BitsLaws.{hasBit-withBit-same, hasBit-withBit-other, hasBit-withoutBit-same}
 use Rattle.words.proofs.BitsLaws.{hasBit-withoutBit-other, hasBit-ext, withBit-lt, withoutBit-le}
 
@@ -123,3 +125,30 @@ member-ext ws vs e fw fv h =
     ext-getD 0 ws vs e
     (λ k l. hasBit-ext 32 (getD ws k 0) (getD vs k 0) (fw k) (fv k)
     (λ b lb. sym (word-members ws k b lb) ∙ h (32 * k + b) (omega arith) ∙ word-members vs k b lb))
+
+-- ---- a number put as a test says
+
+module _ (ws : List ℕ) (i : ℕ) (b : Bool) where
+  pub put-word : set ws (i / 32) (putBit (getD ws (i / 32) 0) (i % 32) b) ≡ put ws i b
+  unfolding put
+  put-word =
+      tested b (λ t. simp (t, putBit-on (getD ws (i / 32) 0) (i % 32) true refl) (insert-word ws i))
+      (λ f. simp (f, putBit-off (getD ws (i / 32) 0) (i % 32) false refl) (remove-word ws i))
+
+  pub member-put-same : i / 32 < length ws → member (put ws i b) i ≡ b
+  unfolding put
+  member-put-same h =
+      tested b (λ t. simp t (member-insert-same ws i h)) (λ f. simp f (member-remove-same ws i h))
+
+  pub member-put-other : (j : ℕ) → j ≢ i → member (put ws i b) j ≡ member ws j
+  unfolding put
+  member-put-other j n =
+      tested b (λ t. simp t (member-insert-other ws i j n)) (λ f. simp f (member-remove-other ws i j n))
+
+  pub length-put : length (put ws i b) ≡ length ws
+  unfolding put
+  length-put = tested b (λ t. simp t (length-insert ws i)) (λ f. simp f (length-remove ws i))
+
+  pub put-fit : WordsFit ws → WordsFit (put ws i b)
+  unfolding put
+  put-fit fit = tested b (λ t. simp t (insert-fit ws i fit)) (λ f. simp f (remove-fit ws i fit))

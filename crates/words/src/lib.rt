@@ -3,6 +3,7 @@ mod bits;
 mod parts;
 
 pub use bits::has_bit;
+pub use bits::put_bit;
 pub use bits::union64;
 pub use bits::with_bit;
 pub use bits::without_bit;

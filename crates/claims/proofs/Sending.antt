@@ -1,0 +1,27 @@
+-- Claims 50 to 53, from the laws of sending. Assumes nothing.
+use mathlib.Core.Path.{ap}
+use Rattle.sending.specs.Sending.{Sent}
+use Rattle.sending.proofs.SendingLaws.{sent-off}
+use Rattle.sending_laws.proofs.SendingEffects.{sent-count, sent-rest, sent-quiet, sent-pending, sent-messages}
+use Rattle.sending_laws.proofs.MessageEffects.{sent-named}
+use Rattle.claims.specs.Sending.{Claim-50, Claim-51, Claim-52, Claim-53}
+
+pub claim-50 : Claim-50
+unfolding Claim-50
+claim-50 c d = (
+  sent-messages c d,
+  (λ off.
+      (ap (λ (r : Sent). r .messages) (sent-off c d off), ap (λ (r : Sent). r .domain) (sent-off c d off))),
+)
+
+pub claim-51 : Claim-51
+unfolding Claim-51
+claim-51 c d on i l h = sent-quiet c d on i l h
+
+pub claim-52 : Claim-52
+unfolding Claim-52
+claim-52 c d = (sent-count c d, sent-named c d)
+
+pub claim-53 : Claim-53
+unfolding Claim-53
+claim-53 c d = (sent-rest c d, λ on i l h. sent-pending c d on i l h)

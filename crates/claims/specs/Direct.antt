@@ -1,0 +1,53 @@
+-- Claims 43 to 47, on direct delivery: topi, claimi and the signal to a hart. 01, "Direct delivery and
+-- signals"; the standard 4.8. `eligible d h i`: source i is pending and enabled, for hart h, and passes its
+-- ithreshold.
+-- Assumes nothing.
+use Prim.Native.Nat.{ℕ, _+_, _*_, _≤_}
+use mathlib.Core.Path.{_≡_}
+use mathlib.Core.Bool.{true, false}
+use mathlib.Core.Logic.{_≢_, _↔_, _⊎_}
+use Rattle.target.specs.Target.{numberOf}
+use Rattle.delivery.specs.Delivery.{withoutForce}
+use Rattle.domain.specs.Domain.{Domain, isEnabled, byMessages}
+use Rattle.domain.specs.Slot.{sourceAt}
+use Rattle.domain.specs.Structure.{structureAt, withStructure}
+use Rattle.direct.specs.Direct.{eligible, topSource, topiOf, claimed, signalOf}
+
+-- the priority number of source i
+abbrev pub priority : Domain → ℕ → ℕ
+priority d i = numberOf (sourceAt d i .target)
+
+-- in direct mode topi reads 0 exactly if no source qualifies
+unfoldable pub Claim-43 : Type 0
+Claim-43 =
+    (d : Domain) (h : ℕ) → byMessages d ≡ false
+    → (topiOf d h ≡ 0) ↔ ((i : ℕ) → 1 ≤ i → i ≤ 63 → eligible d h i ≡ false)
+
+-- else it is source × 65536 + priority of a source that qualifies, with the least priority number, and the
+-- lowest source among equals
+unfoldable pub Claim-44 : Type 0
+Claim-44 =
+    (d : Domain) (h : ℕ) → byMessages d ≡ false → topSource d h ≢ 0
+    → (topiOf d h ≡ topSource d h * 65536 + priority d (topSource d h))
+    × (eligible d h (topSource d h) ≡ true)
+    × ((i : ℕ) → 1 ≤ i → i ≤ 63 → eligible d h i ≡ true
+    → (priority d (topSource d h) ≤ priority d i)
+    × (priority d i ≡ priority d (topSource d h) → topSource d h ≤ i))
+
+-- by messages topi reads 0 and a claimi changes nothing
+unfoldable pub Claim-45 : Type 0
+Claim-45 = (d : Domain) (h : ℕ) → byMessages d ≡ true → (topiOf d h ≡ 0) × (claimed d h ≡ d)
+
+-- a claimi of 0 in direct mode clears iforce, and that alone
+unfoldable pub Claim-46 : Type 0
+Claim-46 =
+    (d : Domain) (h : ℕ) → byMessages d ≡ false → topiOf d h ≡ 0
+    → claimed d h ≡ withStructure d h (withoutForce (structureAt d h))
+
+-- the signal: DM = 0, IE = 1, idelivery = 1, and iforce or topi not 0
+unfoldable pub Claim-47 : Type 0
+Claim-47 =
+    (d : Domain) (h : ℕ)
+    → (signalOf d h ≡ true)
+    ↔ ((byMessages d ≡ false) × (isEnabled d ≡ true) × (structureAt d h .idelivery ≡ 1)
+    × ((structureAt d h .iforce ≢ 0) ⊎ (topiOf d h ≢ 0)))

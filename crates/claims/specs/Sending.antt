@@ -1,0 +1,41 @@
+-- Claims 50 to 53, on what a domain sends: which messages, in which order, and what is left. 01, "The wired
+-- controller": each domain with DM = 1 and IE = 1 sends for each source that is active, pending and enabled,
+-- lowest source first, and clears its pending bit. c says that the domain is the child. Assumes nothing.
+use Prim.Native.Nat.{ℕ, _≤_, _<_}
+use mathlib.Core.Path.{_≡_}
+use mathlib.Core.Bool.{Bool, true, false, not, _&&_}
+use mathlib.Core.List.{List, [], map}
+use lib.ListN.{length, getD}
+use Rattle.words.specs.Sets.{member}
+use Rattle.domain.specs.Domain.{Domain, isEnabled, byMessages}
+use Rattle.domain.specs.Slot.{sourceAt}
+use Rattle.sending.specs.Sending.{candidate, sent}
+use Rattle.sending_laws.specs.Candidates.{candidates, messageAt, PendingOnly, Names}
+
+-- the messages are those of the candidates, ascending, and none if IE and DM are not both 1
+unfoldable pub Claim-50 : Type 0
+Claim-50 =
+    (c : Bool) (d : Domain)
+    → ((isEnabled d && byMessages d) ≡ true → sent c d .messages ≡ map (messageAt c d) (candidates d))
+    × ((isEnabled d && byMessages d) ≡ false → (sent c d .messages ≡ []) × (sent c d .domain ≡ d))
+
+-- afterwards none is left
+unfoldable pub Claim-51 : Type 0
+Claim-51 =
+    (c : Bool) (d : Domain) → (isEnabled d && byMessages d) ≡ true
+    → (i : ℕ) → 1 ≤ i → i < 64 → candidate (sourceAt (sent c d .domain) i) ≡ false
+
+-- 63 log words always suffice, and each message names a file that there is: file 0 from the machine domain
+unfoldable pub Claim-52 : Type 0
+Claim-52 =
+    (c : Bool) (d : Domain)
+    → (length (sent c d .messages) ≤ 63)
+    × ((k : ℕ) → k < length (sent c d .messages) → Names c (getD (sent c d .messages) k 0))
+
+-- sending clears the pending bits of what was sent, and changes nothing else
+unfoldable pub Claim-53 : Type 0
+Claim-53 =
+    (c : Bool) (d : Domain)
+    → PendingOnly d (sent c d .domain)
+    × ((isEnabled d && byMessages d) ≡ true → (i : ℕ) → 1 ≤ i → i < 64
+    → member (sent c d .domain .pending) i ≡ (member (d .pending) i && not (candidate (sourceAt d i))))

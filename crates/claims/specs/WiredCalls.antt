@@ -1,0 +1,100 @@
+-- Claims 60 to 70, on the calls of one domain: whatever a contract lets a function answer and leave behind is
+-- what the definitions say and nothing else. `Learnt l a r a′` is what a caller learns of a call with the
+-- arguments a that answered r and left a′. 01, "The wired controller", "Direct delivery and signals".
+-- Assumes nothing.
+use Prim.Native.Nat.{ℕ}
+use mathlib.Core.Path.{_≡_}
+use mathlib.Core.Bool.{Bool}
+use mathlib.Core.List.{List}
+use lib.ListN.{length, take}
+use contract.Lifetimes.{Lfts}
+use denote.Ref.{RefT, now}
+use Rattle.region.specs.declared.Word.{Word}
+use Rattle.region.specs.Region.{wordAt}
+use Rattle.domain.specs.Domain.{domainOf}
+use Rattle.direct.specs.Direct.{signalOf}
+use Rattle.registers.specs.Read.{valueOf, claimedBy}
+use Rattle.registers.specs.Write.{registerWritten}
+use Rattle.sending.specs.Sending.{sent, logged}
+use Rattle.sending.specs.Delivered.{delivered}
+use Rattle.wired.specs.Wired.{wiredOf, readIn, claimedIn, writtenIn, wireSet, sourceWritten}
+use Rattle.region.proofs.word_at.Reads as word-at
+use Rattle.registers.proofs.read.Reads as read
+use Rattle.registers.proofs.write.Reads as write
+use Rattle.direct.proofs.signal.Reads as signal
+use Rattle.sending.proofs.send.Reads as send
+use Rattle.sending.proofs.deliver.Reads as deliver
+use Rattle.wired.proofs.set_wire.Reads as set-wire
+use Rattle.wired.proofs.write_source.Reads as write-source
+use Rattle.wired.proofs.read.Reads as wired-read
+use Rattle.wired.proofs.write.Reads as wired-write
+
+-- which register an address names
+unfoldable pub Claim-60 : Type 0
+Claim-60 = (a : ℕ) (r : Word) → word-at.Learnt tt (a, tt) r (a, tt) → r ≡ wordAt a
+
+-- a read: its value, and the domain after it
+unfoldable pub Claim-61 : Type 0
+Claim-61 =
+    (l : Lfts 1) (b b′ : RefT (List ℕ)) (ws : List ℕ) (w : Word) (r : ℕ)
+    → read.Learnt l (b, (ws, (w, tt))) r (b′, (ws, (w, tt)))
+    → (r ≡ valueOf (domainOf (now b)) ws w) × (domainOf (now b′) ≡ claimedBy (domainOf (now b)) w)
+
+-- a write, before anything is sent
+unfoldable pub Claim-62 : Type 0
+Claim-62 =
+    (l : Lfts 1) (b b′ : RefT (List ℕ)) (c : Bool) (ws : List ℕ) (w : Word) (v : ℕ)
+    → write.Learnt l (b, (c, (ws, (w, (v, tt))))) tt (b′, (c, (ws, (w, (v, tt)))))
+    → domainOf (now b′) ≡ registerWritten c (domainOf (now b)) ws w v
+
+-- the signal to a hart
+unfoldable pub Claim-63 : Type 0
+Claim-63 =
+    (l : Lfts 1) (b : RefT (List ℕ)) (h : ℕ) (r : Bool)
+    → signal.Learnt l (b, (h, tt)) r (b, (h, tt)) → r ≡ signalOf (domainOf (now b)) h
+
+-- sending: how many, the domain after it, and the log
+unfoldable pub Claim-64 : Type 0
+Claim-64 =
+    (l : Lfts 2) (b b′ g g′ : RefT (List ℕ)) (c : Bool) (r : ℕ)
+    → send.Learnt l (b, (c, (g, tt))) r (b′, (c, (g′, tt)))
+    → (domainOf (now b′) ≡ sent c (domainOf (now b)) .domain)
+    × (now g′ ≡ logged (now g) (sent c (domainOf (now b)) .messages))
+    × (r ≡ length (sent c (domainOf (now b)) .messages))
+
+-- what the messages do to the files
+unfoldable pub Claim-65 : Type 0
+Claim-65 =
+    (l : Lfts 2) (f f′ g : RefT (List ℕ)) (n : ℕ)
+    → deliver.Learnt l (f, (g, (n, tt))) tt (f′, (g, (n, tt))) → now f′ ≡ delivered (now f) (take n (now g))
+
+-- a block determines its domain and the domain its block: so these claims determine every word
+unfoldable pub Claim-66 : Type 0
+Claim-66 = (l m : List ℕ) → length l ≡ 144 → length m ≡ 144 → domainOf l ≡ domainOf m → l ≡ m
+
+-- the same for the whole controller
+unfoldable pub Claim-67 : Type 0
+Claim-67 = (l m : List ℕ) → length l ≡ 290 → length m ≡ 290 → wiredOf l ≡ wiredOf m → l ≡ m
+
+-- a wire is set; nothing is sent yet
+unfoldable pub Claim-68 : Type 0
+Claim-68 =
+    (l : Lfts 1) (b b′ : RefT (List ℕ)) (i : ℕ) (level : Bool)
+    → set-wire.Learnt l (b, (i, (level, tt))) tt (b′, (i, (level, tt)))
+    → wiredOf (now b′) ≡ wireSet (wiredOf (now b)) i level
+
+-- a sourcecfg is written; nothing is sent yet
+unfoldable pub Claim-69 : Type 0
+Claim-69 =
+    (l : Lfts 1) (b b′ : RefT (List ℕ)) (c : Bool) (i v : ℕ)
+    → write-source.Learnt l (b, (c, (i, (v, tt)))) tt (b′, (c, (i, (v, tt))))
+    → wiredOf (now b′) ≡ sourceWritten (wiredOf (now b)) c i v
+
+-- any other register of a domain is read or written; nothing is sent yet
+unfoldable pub Claim-70 : Type 0
+Claim-70 =
+    (l : Lfts 1) (b b′ : RefT (List ℕ)) (c : Bool) (w : Word) (v r : ℕ)
+    → (wired-read.Learnt l (b, (c, (w, tt))) r (b′, (c, (w, tt)))
+    → (r ≡ readIn (wiredOf (now b)) c w) × (wiredOf (now b′) ≡ claimedIn (wiredOf (now b)) c w))
+    × (wired-write.Learnt l (b, (c, (w, (v, tt)))) tt (b′, (c, (w, (v, tt))))
+    → wiredOf (now b′) ≡ writtenIn (wiredOf (now b)) c w v)

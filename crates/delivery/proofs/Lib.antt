@@ -1,0 +1,2 @@
+-- The laws of a delivery structure's definitions. Assumes nothing.
+pub mod DeliveryLaws

@@ -1,0 +1,90 @@
+-- Laws of specs/Direct.antt but for the search: topi, a claim, the signal and the settable numbers, case by
+-- case. No contract cites this file. Assumes nothing.
+use Prim.Native.Nat.{ℕ, _+_, _*_}
+use mathlib.Core.Path.{_≡_, _∙_}
+use mathlib.Core.Bool.{Bool, true, false, cond}
+use mathlib.Core.Logic.{_≢_, inr}
+use native.Mathlib.Omega.{arith}
+use lib.Dec.{eqb}
+use borrow.Author.Tests.{eq-eqb, ne-eqb}
+use Rattle.words.proofs.TestsLaws.{tested, not-same}
+use Rattle.target.specs.Target.{numberOf}
+use Rattle.delivery.specs.declared.Delivery.{Delivery}
+use Rattle.delivery.specs.Delivery.{signals}
+use Rattle.delivery.proofs.DeliveryLaws.{signals-iff}
+use Rattle.domain.specs.Domain.{Domain, isEnabled, byMessages}
+use Rattle.domain.specs.Slot.{sourceAt}
+use Rattle.domain.specs.Structure.{structureAt, withStructure}
+use Rattle.direct.specs.declared.Setting.{Setting}
+use Rattle.direct.specs.Direct.{topSource, topiOf, unforced, released, claimed, signalOf}
+use Rattle.direct.specs.Direct.{numberAt, writtenAt, settingOf, settingWritten}
+
+-- a structure that top 1 does not make signal is silent at every top
+signals-silent : (x : Delivery) (e : Bool) (t : ℕ) → signals x e 1 ≡ false → signals x e t ≡ false
+signals-silent x e t off =
+    tested (signals x e t)
+    (λ on. let p = signals-iff x e t .0 on in
+    absurd (not-same (signals x e 1) (signals-iff x e 1 .1 (p .0, p .1, inr (λ z. omega arith))) off))
+    (λ f. f)
+
+-- topi's value for source i, and 0 for no source
+abbrev pub wordOf : Domain → ℕ → ℕ
+wordOf d i = cond (eqb i 0) 0 (i * 65536 + numberOf (sourceAt d i .target))
+
+pub word-none : (d : Domain) (i : ℕ) → i ≡ 0 → wordOf d i ≡ 0
+word-none d i z = simp (eq-eqb i 0 z)
+
+pub word-some : (d : Domain) (i : ℕ) → i ≢ 0 → wordOf d i ≡ i * 65536 + numberOf (sourceAt d i .target)
+word-some d i n = simp (ne-eqb i 0 n)
+
+module _ (d : Domain) (h : ℕ) where
+  pub topi-messages : byMessages d ≡ true → topiOf d h ≡ 0
+  unfolding topiOf
+  topi-messages m = simp m
+
+  pub topi-direct : byMessages d ≡ false → topiOf d h ≡ wordOf d (topSource d h)
+  unfolding topiOf
+  topi-direct m = simp m
+
+  pub claimed-messages : byMessages d ≡ true → claimed d h ≡ d
+  unfolding claimed
+  claimed-messages m = simp m
+
+  pub claimed-none : byMessages d ≡ false → topSource d h ≡ 0 → claimed d h ≡ unforced d h
+  unfolding claimed
+  claimed-none m z = simp (m, eq-eqb (topSource d h) 0 z)
+
+  pub claimed-some : byMessages d ≡ false → topSource d h ≢ 0 → claimed d h ≡ released d (topSource d h)
+  unfolding claimed
+  claimed-some m n = simp (m, ne-eqb (topSource d h) 0 n)
+
+  pub signal-messages : byMessages d ≡ true → signalOf d h ≡ false
+  unfolding signalOf
+  signal-messages m = simp m
+
+  pub signal-direct : byMessages d ≡ false
+      → signalOf d h ≡ signals (structureAt d h) (isEnabled d) (topiOf d h)
+  unfolding signalOf
+  signal-direct m = simp m
+
+  pub signal-silent : byMessages d ≡ false → signals (structureAt d h) (isEnabled d) 1 ≡ false
+      → signalOf d h ≡ false
+  signal-silent m off = signal-direct m ∙ signals-silent (structureAt d h) (isEnabled d) (topiOf d h) off
+
+  module _ (g : Setting) where
+    pub setting-messages : byMessages d ≡ true → settingOf d h g ≡ 0
+    unfolding settingOf
+    setting-messages m = simp m
+
+    pub setting-direct : byMessages d ≡ false → settingOf d h g ≡ numberAt (structureAt d h) g
+    unfolding settingOf
+    setting-direct m = simp m
+
+    pub written-messages : (v : ℕ) → byMessages d ≡ true → settingWritten d h g v ≡ d
+    unfolding settingWritten
+    written-messages v m = simp m
+
+    pub written-direct : (v : ℕ) → byMessages d ≡ false
+        → settingWritten d h g v ≡ withStructure d h (writtenAt (structureAt d h) g v)
+    unfolding settingWritten
+    written-direct v m = simp m

@@ -1,0 +1,2 @@
+-- The delivery structures at work. 01, "Direct delivery and signals". Assumes nothing.
+pub mod Direct

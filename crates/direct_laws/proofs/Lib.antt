@@ -1,0 +1,4 @@
+-- What holds of direct delivery, in the words of the paper, for the crates above. Assumes nothing.
+pub mod SlotEffects
+pub mod TopEffects
+pub mod ClaimEffects

@@ -1,0 +1,2 @@
+-- What the laws of direct delivery ask of a domain. Assumes nothing.
+pub mod Shape

@@ -1,0 +1,97 @@
+-- A domain of the wired controller. 01, "The wired controller"; the standard 4.5. Assumes nothing.
+--   Domain                 source: domaincfg, then sourcecfg[1] to [63]; target: genmsi, then target[1] to
+--                          [63]; pending, enable: sets of sources; delivery: three numbers of each hart
+--   domainOf l             the domain whose 144 words are l
+--   configOf d             the stored domaincfg: IE at bit 8, DM at bit 2
+--   isEnabled d            IE
+--   byMessages d           DM: true by messages, false direct
+--   generatedAt d          the stored genmsi
+-- The region has domaincfg in the place of a sourcecfg[0] and genmsi in that of a target[0]; so has this.
+use Prim.Native.Nat.{ℕ}
+use mathlib.Core.Bool.{Bool}
+use mathlib.Core.List.{List}
+use lib.ListN.{getD, take, drop, set}
+use Rattle.words.specs.Bits.{hasBit}
+
+pub record Domain : Type 0 where
+  pub source : List ℕ
+  pub target : List ℕ
+  pub pending : List ℕ
+  pub enable : List ℕ
+  pub delivery : List ℕ
+
+unfoldable pub domainOf : List ℕ → Domain
+domainOf l =
+    record {
+      source = take 64 l;
+      target = take 64 (drop 64 l);
+      pending = take 2 (drop 128 l);
+      enable = take 2 (drop 130 l);
+      delivery = take 12 (drop 132 l);
+    }
+
+unfoldable pub configOf : Domain → ℕ
+configOf d = getD (d .source) 0 0
+
+unfoldable pub isEnabled : Domain → Bool
+isEnabled d = hasBit (configOf d) 8
+
+unfoldable pub byMessages : Domain → Bool
+byMessages d = hasBit (configOf d) 2
+
+unfoldable pub generatedAt : Domain → ℕ
+generatedAt d = getD (d .target) 0 0
+
+abbrev pub withSources : Domain → List ℕ → Domain
+withSources d ws =
+    record {
+      source = ws;
+      target = d .target;
+      pending = d .pending;
+      enable = d .enable;
+      delivery =
+          d .delivery;
+    }
+
+abbrev pub withTargets : Domain → List ℕ → Domain
+withTargets d ws =
+    record {
+      source = d .source;
+      target = ws;
+      pending = d .pending;
+      enable = d .enable;
+      delivery =
+          d .delivery;
+    }
+
+abbrev pub withPendings : Domain → List ℕ → Domain
+withPendings d ws =
+    record {
+      source = d .source;
+      target = d .target;
+      pending = ws;
+      enable = d .enable;
+      delivery =
+          d .delivery;
+    }
+
+abbrev pub withEnables : Domain → List ℕ → Domain
+withEnables d ws =
+    record {
+      source = d .source;
+      target = d .target;
+      pending = d .pending;
+      enable = ws;
+      delivery =
+          d .delivery;
+    }
+
+abbrev pub withDeliveries : Domain → List ℕ → Domain
+withDeliveries d ws =
+    record { source = d .source; target = d .target; pending = d .pending; enable = d .enable; delivery = ws }
+
+unfoldable pub withConfig : Domain → ℕ → Domain
+withConfig d v = withSources d (set (d .source) 0 v)
+
+unfoldable pub withGenerated : Domain → ℕ → Domain
+withGenerated d v = withTargets d (set (d .target) 0 v)

@@ -1,0 +1,2 @@
+-- The laws of what in_clrip reads. Assumes nothing.
+pub mod InputsLaws

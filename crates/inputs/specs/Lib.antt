@@ -1,0 +1,2 @@
+-- What in_clrip reads. Assumes nothing.
+pub mod Inputs

@@ -1,0 +1,33 @@
+// What in_clrip reads: the inputs of a domain's sources, a word of them at a time.
+ghost use mathlib.Core.Path.{_≡_};
+ghost use Prim.Native.Nat.{_<_};
+ghost use lib.ListN.{length};
+ghost use Rattle.domain.specs.Domain.{domainOf};
+ghost use Rattle.inputs.specs.Inputs.{inputBit, inputWord};
+
+fn input(part: &[u32], wires: [u32; 2], i: usize) -> bool
+    requires { ⌜ (length (now part) ≡ 144) × (i < 64) ⌝ }
+    ensures { λ r. ⌜ r ≡ inputBit (domainOf (now (part .entry))) wires i ⌝ }
+{
+    if i < 1 {
+        return false;
+    }
+    let s = domain::load(part, i);
+    if mode::active(s.mode) {
+        return writes::wire_at(wires, i);
+    }
+    false
+}
+
+pub fn input_word(part: &[u32], wires: [u32; 2], k: usize) -> u32
+    requires { ⌜ (length (now part) ≡ 144) × (k < 2) ⌝ }
+    ensures { λ r. ⌜ r ≡ inputWord (domainOf (now (part .entry))) wires k ⌝ }
+{
+    let mut word: u32 = 0;
+    let mut b: u32 = 0;
+    while b < 32 {
+        word = words::put_bit(word, b, input(part, wires, 32 * k + (b as usize)));
+        b += 1;
+    }
+    word
+}

@@ -1,0 +1,2 @@
+-- The sourcecfg word of a source. Assumes nothing.
+pub mod Mode

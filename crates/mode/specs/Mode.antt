@@ -1,0 +1,29 @@
+-- The sourcecfg word of a source. 01, "The wired controller"; the standard 4.5.2. Assumes nothing.
+--   isActive m            the domain has the source, with a mode other than 0; 1024 says that it is delegated
+--   isLevel m             Level1 or Level0
+--   isRectified m wire    the wire for Edge1 and Level1, its opposite for Edge0 and Level0, low for the rest
+--   keptMode v            the mode that a written v has: bits 2:0, of which 2 and 3 become 0
+--   sourceWord c has v    what a write of v stores in the child domain (c) or in the machine domain; has says
+--                         that the child has the source
+-- Bit 10 delegates in the machine domain, and stores 0 in the child.
+use Prim.Native.Nat.{ℕ}
+use mathlib.Core.Bool.{Bool, cond, not, _&&_, _||_}
+use lib.Dec.{eqb, ltb}
+use Rattle.words.specs.Bits.{hasBit}
+use Rattle.words.specs.Parts.{fieldOf}
+
+unfoldable pub isActive : ℕ → Bool
+isActive m = not (eqb m 0) && ltb m 1024
+
+unfoldable pub isLevel : ℕ → Bool
+isLevel m = eqb m 6 || eqb m 7
+
+unfoldable pub isRectified : ℕ → Bool → Bool
+isRectified m wire = ((eqb m 4 || eqb m 6) && wire) || ((eqb m 5 || eqb m 7) && not wire)
+
+unfoldable pub keptMode : ℕ → ℕ
+keptMode v = cond (eqb (fieldOf v 0 3) 2 || eqb (fieldOf v 0 3) 3) 0 (fieldOf v 0 3)
+
+unfoldable pub sourceWord : Bool → Bool → ℕ → ℕ
+sourceWord c has v =
+    cond c (cond (has && not (hasBit v 10)) (keptMode v) 0) (cond (hasBit v 10) 1024 (keptMode v))

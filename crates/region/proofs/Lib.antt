@@ -1,0 +1,2 @@
+-- The laws of a region's definitions. Assumes nothing.
+pub mod RegionLaws

@@ -1,0 +1,2 @@
+-- What an address of a domain's region means. 01, "The wired controller". Assumes nothing.
+pub mod Region

@@ -1,0 +1,2 @@
+-- The laws of a domain's registers. Assumes nothing.
+pub mod ReadLaws

@@ -1,0 +1,25 @@
+-- `registers::values::generated_word` meets its contract: 0 in direct mode. Assumes nothing.
+use mathlib.Core.Path.{sym, _∙_}
+use Rattle.registers.specs.Read.{generatedRead}
+use borrow.Author.Needs.{needs}
+use Rattle.registers.proofs.values.generated_word.Statement.{statement}
+use Rattle.registers.proofs.values.generated_word.Tie as tie
+
+by-messages-requires : tie.Need-by-messages-requires
+by-messages-requires c κs = search needs
+
+generated-requires : tie.Need-generated-requires
+generated-requires c κs = search needs
+
+returns : tie.Need-returns
+unfolding generatedRead
+returns c = c .generated .ensures
+    ∙ sym (simp (sym (c .before .before .by-messages .ensures) ∙ c .before .if1 .taken))
+
+returns-2 : tie.Need-returns-2
+unfolding generatedRead
+returns-2 c = sym (simp (sym (c .before .by-messages .ensures) ∙ c .if1 .left))
+
+pub generated-word-spec : {M : Type 1} → statement M
+generated-word-spec =
+    tie.close (tie.spec by-messages-requires generated-requires returns returns-2)

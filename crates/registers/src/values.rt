@@ -1,0 +1,71 @@
+// What a read of a register gives.
+ghost use mathlib.Core.Path.{_≡_};
+ghost use Prim.Native.Nat.{_+_, _<_};
+ghost use lib.ListN.{length};
+ghost use Rattle.region.specs.Region.{Within};
+ghost use Rattle.domain.specs.Domain.{domainOf, configOf};
+ghost use Rattle.domain.specs.Slot.{sourceAt};
+ghost use Rattle.registers.specs.Read.{generatedRead, valueOf};
+use direct::Setting;
+use region::Word;
+
+fn source_word(part: &[u32], i: usize) -> u32
+    requires { ⌜ (length (now part) ≡ 144) × (i < 64) ⌝ }
+    ensures { λ r. ⌜ r ≡ sourceAt (domainOf (now (part .entry))) i .mode ⌝ }
+{
+    let s = domain::load(part, i);
+    s.mode
+}
+
+fn target_word(part: &[u32], i: usize) -> u32
+    requires { ⌜ (length (now part) ≡ 144) × (i < 64) ⌝ }
+    ensures { λ r. ⌜ r ≡ sourceAt (domainOf (now (part .entry))) i .target ⌝ }
+{
+    let s = domain::load(part, i);
+    s.target
+}
+
+fn generated_word(part: &[u32]) -> u32
+    requires { ⌜ length (now part) ≡ 144 ⌝ }
+    ensures { λ r. ⌜ r ≡ generatedRead (domainOf (now (part .entry))) ⌝ }
+{
+    if domain::by_messages(part) {
+        return domain::generated(part);
+    }
+    0
+}
+
+fn config_word(part: &[u32]) -> u32
+    requires { ⌜ (length (now part) ≡ 144) × (configOf (domainOf (now part)) < 0x80000000) ⌝ }
+    ensures { λ r. ⌜ r ≡ 0x80000000 + configOf (domainOf (now (part .entry))) ⌝ }
+{
+    0x80000000 + domain::config(part)
+}
+
+pub fn value_of(part: &[u32], wires: [u32; 2], word: Word) -> u32
+    requires { ⌜ (length (now part) ≡ 144) × (configOf (domainOf (now part)) < 0x80000000) × Within word ⌝ }
+    ensures { λ r. ⌜ r ≡ valueOf (domainOf (now (part .entry))) wires word ⌝ }
+{
+    match word {
+        Word::Domaincfg => config_word(part),
+        Word::Sourcecfg(i) => source_word(part, i as usize),
+        Word::Setip(k) => domain::pending_word(part, k as usize),
+        Word::Setipnum => 0,
+        Word::InClrip(k) => inputs::input_word(part, wires, k as usize),
+        Word::Clripnum => 0,
+        Word::Setie(k) => domain::enable_word(part, k as usize),
+        Word::Setienum => 0,
+        Word::Clrie(_) => 0,
+        Word::Clrienum => 0,
+        Word::SetipnumLe => 0,
+        Word::SetipnumBe => 0,
+        Word::Genmsi => generated_word(part),
+        Word::Target(i) => target_word(part, i as usize),
+        Word::Idelivery(h) => direct::setting_of(part, h as usize, Setting::Idelivery),
+        Word::Iforce(h) => direct::setting_of(part, h as usize, Setting::Iforce),
+        Word::Ithreshold(h) => direct::setting_of(part, h as usize, Setting::Ithreshold),
+        Word::Topi(h) => direct::topi(part, h as usize),
+        Word::Claimi(h) => direct::topi(part, h as usize),
+        Word::Unused => 0,
+    }
+}

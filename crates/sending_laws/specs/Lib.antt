@@ -1,0 +1,2 @@
+-- What the laws of sending speak of. Assumes nothing.
+pub mod Candidates

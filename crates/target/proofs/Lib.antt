@@ -1,0 +1,2 @@
+-- Targets and messages: its laws. Assumes nothing.
+pub mod TargetLaws

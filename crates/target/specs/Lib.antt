@@ -1,0 +1,2 @@
+-- Targets and messages. Assumes nothing.
+pub mod Target

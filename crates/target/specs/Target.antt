@@ -1,0 +1,48 @@
+-- A target, and the message that goes to it. 01, "The wired controller"; the standard 4.5.15, 4.5.16, 4.9.1.
+-- Assumes nothing.
+--   hartOf t, guestOf t, numberOf t    bits 19:18, bits 13:12, and bits 7:0, a priority or an identity
+--   startTarget messages               the target of a source that becomes active
+--   keptTarget child messages v        what a write of v stores
+--   logWord hart file identity         a message in the log
+--   messageOf child t                  the message of a source with target t
+--   keptGenerated v, generatedOf c v   what a genmsi write keeps, and the message that it sends
+-- The machine domain sends to file 0, the child to file 1 + guest index.
+use Prim.Native.Nat.{ℕ, _+_, _*_}
+use mathlib.Core.Bool.{Bool, cond}
+use lib.Dec.{eqb}
+use Rattle.words.specs.Parts.{fieldOf, packed}
+
+unfoldable pub hartOf : ℕ → ℕ
+hartOf t = fieldOf t 18 2
+
+unfoldable pub guestOf : ℕ → ℕ
+guestOf t = fieldOf t 12 2
+
+unfoldable pub numberOf : ℕ → ℕ
+numberOf t = fieldOf t 0 8
+
+unfoldable pub startTarget : Bool → ℕ
+startTarget messages = cond messages 0 1
+
+-- a written priority of 0 becomes 1
+unfoldable pub priorityOf : ℕ → ℕ
+priorityOf v = cond (eqb (numberOf v) 0) 1 (numberOf v)
+
+-- an identity, in the child below a guest index
+unfoldable pub receiverOf : Bool → ℕ → ℕ
+receiverOf child v = cond child (packed (guestOf v) 12 (numberOf v)) (numberOf v)
+
+unfoldable pub keptTarget : Bool → Bool → ℕ → ℕ
+keptTarget child messages v = packed (hartOf v) 18 (cond messages (receiverOf child v) (priorityOf v))
+
+unfoldable pub logWord : ℕ → ℕ → ℕ → ℕ
+logWord hart file identity = hart * 2048 + file * 256 + identity
+
+unfoldable pub messageOf : Bool → ℕ → ℕ
+messageOf child t = logWord (hartOf t) (cond child (guestOf t + 1) 0) (numberOf t)
+
+unfoldable pub keptGenerated : ℕ → ℕ
+keptGenerated v = packed (hartOf v) 18 (numberOf v)
+
+unfoldable pub generatedOf : Bool → ℕ → ℕ
+generatedOf child v = logWord (hartOf v) (cond child 1 0) (numberOf v)

@@ -1,0 +1,88 @@
+// Targets and messages: fields by shifts and masks.
+ghost use mathlib.Core.Path.{_≡_};
+ghost use Prim.Native.Nat.{_<_, _^_};
+ghost use Rattle.words.specs.Parts.{packed};
+ghost use Rattle.target.specs.Target.{hartOf, guestOf, numberOf, startTarget, keptTarget, logWord};
+ghost use Rattle.target.specs.Target.{messageOf, keptGenerated, generatedOf};
+
+pub fn hart_of(target: u32) -> u32
+    ensures { λ r. ⌜ (r ≡ hartOf target) × (r < 4) ⌝ }
+{
+    words::field32(target, 18, 2)
+}
+
+fn guest_of(target: u32) -> u32
+    ensures { λ r. ⌜ (r ≡ guestOf target) × (r < 4) ⌝ }
+{
+    words::field32(target, 12, 2)
+}
+
+// A priority or an identity.
+pub fn number_of(target: u32) -> u32
+    ensures { λ r. ⌜ (r ≡ numberOf target) × (r < 256) ⌝ }
+{
+    words::field32(target, 0, 8)
+}
+
+fn under_hart(hart: u32, below: u32) -> u32
+    requires { ⌜ (hart < 4) × (below < 2 ^ 18) ⌝ }
+    ensures { λ r. ⌜ r ≡ packed hart 18 below ⌝ }
+{
+    words::packed32(hart, 18, below)
+}
+
+fn log_word(hart: u32, file: u32, identity: u32) -> u32
+    requires { ⌜ (hart < 4) × (file < 8) × (identity < 256) ⌝ }
+    ensures { λ r. ⌜ r ≡ logWord hart file identity ⌝ }
+{
+    words::packed32(hart, 11, words::packed32(file, 8, identity))
+}
+
+pub fn start_target(messages: bool) -> u32
+    ensures { λ r. ⌜ r ≡ startTarget messages ⌝ }
+{
+    if messages { 0 } else { 1 }
+}
+
+pub fn kept_target(child: bool, messages: bool, value: u32) -> u32
+    ensures { λ r. ⌜ r ≡ keptTarget child messages value ⌝ }
+{
+    let hart = hart_of(value);
+    let number = number_of(value);
+    if !messages {
+        if number == 0 {
+            return under_hart(hart, 1);
+        }
+        return under_hart(hart, number);
+    }
+    if child {
+        return under_hart(hart, words::packed32(guest_of(value), 12, number));
+    }
+    under_hart(hart, number)
+}
+
+// The log word of the message that a source with this target sends.
+pub fn message(child: bool, target: u32) -> u32
+    ensures { λ r. ⌜ r ≡ messageOf child target ⌝ }
+{
+    if child {
+        return log_word(hart_of(target), guest_of(target) + 1, number_of(target));
+    }
+    log_word(hart_of(target), 0, number_of(target))
+}
+
+// What a genmsi write keeps, and the log word of the message that it sends at once.
+pub fn kept_generated(value: u32) -> u32
+    ensures { λ r. ⌜ r ≡ keptGenerated value ⌝ }
+{
+    under_hart(hart_of(value), number_of(value))
+}
+
+pub fn generated(child: bool, value: u32) -> u32
+    ensures { λ r. ⌜ r ≡ generatedOf child value ⌝ }
+{
+    if child {
+        return log_word(hart_of(value), 1, number_of(value));
+    }
+    log_word(hart_of(value), 0, number_of(value))
+}

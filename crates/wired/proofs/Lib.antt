@@ -1,0 +1,2 @@
+-- The laws of the wired controller's words. Assumes nothing.
+pub mod WiredLaws

@@ -1,0 +1,2 @@
+-- The wired controller: the wires and two domains. Assumes nothing.
+pub mod Wired

@@ -1,0 +1,51 @@
+// Reads, writes and signals of one of the two domains.
+ghost use mathlib.Core.Path.{_≡_};
+ghost use Prim.Native.Nat.{_<_};
+ghost use lib.ListN.{length};
+ghost use Rattle.region.specs.Region.{Within};
+ghost use Rattle.domain.specs.Domain.{configOf};
+ghost use Rattle.direct.specs.Direct.{signalOf};
+ghost use Rattle.wired.specs.Wired.{wiredOf, domainIn, readIn, claimedIn, writtenIn};
+use region::Word;
+
+pub fn wires(w: &[u32]) -> [u32; 2]
+    requires { ⌜ length (now w) ≡ 290 ⌝ }
+    ensures { λ r. ⌜ r ≡ wiredOf (now (w .entry)) .wires ⌝ }
+{
+    [w[0], w[1]]
+}
+
+pub fn read(w: &mut [u32], child: bool, word: Word) -> u32
+    requires { ⌜ (length (now w) ≡ 290) × (configOf (domainIn (wiredOf (now w)) child) < 0x80000000)
+        × Within word ⌝ }
+    ensures { λ r. ⌜ (r ≡ readIn (wiredOf (now (w .entry))) child word)
+        × (wiredOf (now (w .exit)) ≡ claimedIn (wiredOf (now (w .entry))) child word) ⌝ }
+{
+    let levels = wires(w);
+    if child {
+        return registers::read(&mut w[146..290], levels, word);
+    }
+    registers::read(&mut w[2..146], levels, word)
+}
+
+pub fn write(w: &mut [u32], child: bool, word: Word, value: u32)
+    requires { ⌜ (length (now w) ≡ 290) × Within word ⌝ }
+    ensures { λ r. ⌜ wiredOf (now (w .exit)) ≡ writtenIn (wiredOf (now (w .entry))) child word value ⌝ }
+{
+    let levels = wires(w);
+    if child {
+        registers::write(&mut w[146..290], true, levels, word, value);
+        return;
+    }
+    registers::write(&mut w[2..146], false, levels, word, value);
+}
+
+pub fn signal(w: &[u32], child: bool, h: usize) -> bool
+    requires { ⌜ (length (now w) ≡ 290) × (h < 4) ⌝ }
+    ensures { λ r. ⌜ r ≡ signalOf (domainIn (wiredOf (now (w .entry))) child) h ⌝ }
+{
+    if child {
+        return direct::signal(&w[146..290], h);
+    }
+    direct::signal(&w[2..146], h)
+}

@@ -1,0 +1,3 @@
+-- The laws of writes. Assumes nothing.
+pub mod WritesLaws
+pub mod ConfigLaws

@@ -1,0 +1,38 @@
+-- Writes to domaincfg and genmsi. 01, "The wired controller"; the standard 4.5.1, 4.5.15. Assumes nothing.
+--   keptConfig v                what of a written v is stored: IE, bit 8, and DM, bit 2
+--   redeliveredAt d ws i        d after its delivery mode changed, for source i; ws are the wires
+--   redeliveredFrom d ws i n    the same for the n sources from i on
+--   modeSettled d e ws          what d becomes with the new word, e, once every source is settled
+--   configWritten d ws v        d after v was written to domaincfg
+--   generatedWritten d v        d after v was written to genmsi, which only counts by messages
+-- A change of DM sets genmsi to 0 and each active source's target to its start value in the new mode.
+use Prim.Native.Nat.{ℕ, zero, suc}
+use mathlib.Core.Bool.{Bool, Bool·beq, cond}
+use mathlib.Core.List.{List}
+use Rattle.words.specs.Parts.{fieldOf, packed}
+use Rattle.words.specs.Sets.{member}
+use Rattle.source.specs.Pending.{redelivered}
+use Rattle.target.specs.Target.{keptGenerated}
+use Rattle.domain.specs.Domain.{Domain, byMessages, withConfig, withGenerated}
+use Rattle.domain.specs.Slot.{sourceAt, withSource}
+
+unfoldable pub keptConfig : ℕ → ℕ
+keptConfig v = packed (fieldOf v 8 1) 8 (packed (fieldOf v 2 1) 2 0)
+
+unfoldable pub redeliveredAt : Domain → List ℕ → ℕ → Domain
+redeliveredAt d ws i = withSource d i (redelivered (sourceAt d i) (byMessages d) (member ws i))
+
+unfoldable pub redeliveredFrom : Domain → List ℕ → ℕ → ℕ → Domain
+redeliveredFrom d ws i zero = d
+redeliveredFrom d ws i (suc n) = redeliveredFrom (redeliveredAt d ws i) ws (suc i) n
+
+-- e is d with the new domaincfg word
+unfoldable pub modeSettled : Domain → Domain → List ℕ → Domain
+modeSettled d e ws =
+    cond (Bool·beq (byMessages d) (byMessages e)) e (redeliveredFrom (withGenerated e 0) ws 1 63)
+
+unfoldable pub configWritten : Domain → List ℕ → ℕ → Domain
+configWritten d ws v = modeSettled d (withConfig d (keptConfig v)) ws
+
+unfoldable pub generatedWritten : Domain → ℕ → Domain
+generatedWritten d v = cond (byMessages d) (withGenerated d (keptGenerated v)) d

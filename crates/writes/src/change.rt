@@ -1,0 +1,92 @@
+// Writes that name sources: by the bits of a word, by number, or by the place of a target.
+ghost use mathlib.Core.Path.{_≡_};
+ghost use Prim.Native.Nat.{_-_, _≤_, _<_};
+ghost use lib.ListN.{length};
+ghost use Rattle.words.specs.Sets.{member};
+ghost use Rattle.domain.specs.Domain.{domainOf};
+ghost use Rattle.writes.specs.Writes.{changedAt, changedBit, changedFrom, wordChanged};
+ghost use Rattle.writes.specs.Writes.{numberChanged, targetWritten};
+use source::Change;
+
+pub fn wire_at(wires: [u32; 2], i: usize) -> bool
+    requires { ⌜ i < 64 ⌝ }
+    ensures { λ r. ⌜ r ≡ member wires i ⌝ }
+{
+    words::has_bit(wires[i / 32], (i % 32) as u32)
+}
+
+fn change_source(part: &mut [u32], wires: [u32; 2], change: Change, i: usize)
+    requires { ⌜ (length (now part) ≡ 144) × (i < 64) ⌝ }
+    ensures { λ r. ⌜ domainOf (now (part .exit)) ≡ changedAt (domainOf (now (part .entry))) wires change i ⌝ }
+{
+    let messages = domain::by_messages(part);
+    let s = domain::load(part, i);
+    domain::store(part, i, s.changed(change, messages, wire_at(wires, i)));
+}
+
+// The same if the source's bit is set in `value`.
+fn change_bit(part: &mut [u32], wires: [u32; 2], change: Change, value: u32, i: usize)
+    requires { ⌜ (length (now part) ≡ 144) × (i < 64) ⌝ }
+    ensures { λ r. ⌜ domainOf (now (part .exit))
+        ≡ changedBit (domainOf (now (part .entry))) wires change value i ⌝ }
+{
+    if words::has_bit(value, (i % 32) as u32) {
+        change_source(part, wires, change, i);
+    }
+}
+
+// The sources from `from` up to `end`.
+fn change_bits(
+    part: &mut [u32],
+    wires: [u32; 2],
+    change: Change,
+    value: u32,
+    from: usize,
+    end: usize,
+)
+    requires { ⌜ (length (now part) ≡ 144) × (from ≤ end) × (end ≤ 64) ⌝ }
+    ensures { λ r. ⌜ domainOf (now (part .exit))
+        ≡ changedFrom (domainOf (now (part .entry))) wires change value from (end - from) ⌝ }
+{
+    let mut i = from;
+    while i < end {
+        change_bit(part, wires, change, value, i);
+        i += 1;
+    }
+}
+
+pub fn change_word(part: &mut [u32], wires: [u32; 2], change: Change, k: usize, value: u32)
+    requires { ⌜ length (now part) ≡ 144 ⌝ }
+    ensures { λ r. ⌜ domainOf (now (part .exit))
+        ≡ wordChanged (domainOf (now (part .entry))) wires change k value ⌝ }
+{
+    if k == 0 {
+        change_bits(part, wires, change, value, 1, 32);
+    } else {
+        change_bits(part, wires, change, value, 32, 64);
+    }
+}
+
+pub fn change_number(part: &mut [u32], wires: [u32; 2], change: Change, value: u32)
+    requires { ⌜ length (now part) ≡ 144 ⌝ }
+    ensures { λ r. ⌜ domainOf (now (part .exit))
+        ≡ numberChanged (domainOf (now (part .entry))) wires change value ⌝ }
+{
+    if value < 1 {
+        return;
+    }
+    if 63 < value {
+        return;
+    }
+    change_source(part, wires, change, value as usize);
+}
+
+pub fn write_target(part: &mut [u32], child: bool, i: usize, value: u32)
+    requires { ⌜ (length (now part) ≡ 144) × (i < 64) ⌝ }
+    ensures { λ r. ⌜ domainOf (now (part .exit))
+        ≡ targetWritten child (domainOf (now (part .entry))) i value ⌝ }
+{
+    let messages = domain::by_messages(part);
+    let s = domain::load(part, i);
+    domain::store(part, i, s.retargeted(child, messages, value));
+}
