@@ -1,10 +1,12 @@
--- Claims 50 to 53, from the laws of sending. Assumes nothing.
+-- Claims 50 to 54, from the laws of sending. Assumes nothing.
 use mathlib.Core.Path.{ap}
+use Rattle.target.specs.Target.{generatedOf, logWord}
 use Rattle.sending.specs.Sending.{Sent}
 use Rattle.sending.proofs.SendingLaws.{sent-off}
+use Rattle.genmsi.proofs.GenmsiLaws.{generated-on, generated-off}
 use Rattle.sending_laws.proofs.SendingEffects.{sent-count, sent-rest, sent-quiet, sent-pending, sent-messages}
 use Rattle.sending_laws.proofs.MessageEffects.{sent-named}
-use Rattle.claims.specs.Sending.{Claim-50, Claim-51, Claim-52, Claim-53}
+use Rattle.claims.specs.Sending.{Claim-50, Claim-51, Claim-52, Claim-53, Claim-54}
 
 pub claim-50 : Claim-50
 unfolding Claim-50
@@ -25,3 +27,7 @@ claim-52 c d = (sent-count c d, sent-named c d)
 pub claim-53 : Claim-53
 unfolding Claim-53
 claim-53 c d = (sent-rest c d, λ on i l h. sent-pending c d on i l h)
+
+pub claim-54 : Claim-54
+unfolding Claim-54 generatedOf logWord
+claim-54 c d v = (generated-on c d v, generated-off c d v)

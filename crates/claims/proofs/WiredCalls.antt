@@ -1,4 +1,4 @@
--- Claims 60 to 70: what the contract says is the claim itself; and a block is known from its parts.
+-- Claims 60 to 71: what the contract says is the claim itself; and a block is known from its parts.
 -- Assumes nothing.
 use Prim.Native.Nat.{ℕ, _+_, _≤_}
 use mathlib.Core.Path.{_≡_, sym, ap, ap₂, _∙_}
@@ -9,7 +9,7 @@ use lib.Seq.{drop-drop, take-all}
 use Rattle.domain.specs.Domain.{Domain, domainOf}
 use Rattle.wired.specs.Wired.{Wired, wiredOf}
 use Rattle.claims.specs.WiredCalls.{Claim-60, Claim-61, Claim-62, Claim-63, Claim-64, Claim-65}
-use Rattle.claims.specs.WiredCalls.{Claim-66, Claim-67, Claim-68, Claim-69, Claim-70}
+use Rattle.claims.specs.WiredCalls.{Claim-66, Claim-67, Claim-68, Claim-69, Claim-70, Claim-71}
 
 pub claim-60 : Claim-60
 unfolding Claim-60
@@ -87,3 +87,7 @@ claim-69 l b b′ c i v learnt = learnt
 pub claim-70 : Claim-70
 unfolding Claim-70
 claim-70 l b b′ c w v r = ((λ learnt. learnt), (λ learnt. learnt))
+
+pub claim-71 : Claim-71
+unfolding Claim-71
+claim-71 l b g g′ c v r learnt = learnt

@@ -1,15 +1,17 @@
--- Claims 50 to 53, on what a domain sends: which messages, in which order, and what is left. 01, "The wired
+-- Claims 50 to 54, on what a domain sends: which messages, in which order, and what is left. 01, "The wired
 -- controller": each domain with DM = 1 and IE = 1 sends for each source that is active, pending and enabled,
 -- lowest source first, and clears its pending bit. c says that the domain is the child. Assumes nothing.
-use Prim.Native.Nat.{ℕ, _≤_, _<_}
+use Prim.Native.Nat.{ℕ, _+_, _*_, _≤_, _<_}
 use mathlib.Core.Path.{_≡_}
-use mathlib.Core.Bool.{Bool, true, false, not, _&&_}
-use mathlib.Core.List.{List, [], map}
+use mathlib.Core.Bool.{Bool, true, false, cond, not, _&&_}
+use mathlib.Core.List.{List, [], _∷_, map}
 use lib.ListN.{length, getD}
 use Rattle.words.specs.Sets.{member}
+use Rattle.target.specs.Target.{hartOf, numberOf}
 use Rattle.domain.specs.Domain.{Domain, isEnabled, byMessages}
 use Rattle.domain.specs.Slot.{sourceAt}
 use Rattle.sending.specs.Sending.{candidate, sent}
+use Rattle.genmsi.specs.Genmsi.{generatedSent}
 use Rattle.sending_laws.specs.Candidates.{candidates, messageAt, PendingOnly, Names}
 
 -- the messages are those of the candidates, ascending, and none if IE and DM are not both 1
@@ -39,3 +41,11 @@ Claim-53 =
     → PendingOnly d (sent c d .domain)
     × ((isEnabled d && byMessages d) ≡ true → (i : ℕ) → 1 ≤ i → i < 64
     → member (sent c d .domain .pending) i ≡ (member (d .pending) i && not (candidate (sourceAt d i))))
+
+-- a write to genmsi sends one message by messages, whatever IE is, to the machine or the supervisor file of a
+-- hart, and none in direct mode
+unfoldable pub Claim-54 : Type 0
+Claim-54 =
+    (c : Bool) (d : Domain) (v : ℕ)
+    → (byMessages d ≡ true → generatedSent c d v ≡ (hartOf v * 2048 + cond c 1 0 * 256 + numberOf v) ∷ [])
+    × (byMessages d ≡ false → generatedSent c d v ≡ [])

@@ -1,4 +1,4 @@
--- Claims 60 to 70, on the calls of one domain: whatever a contract lets a function answer and leave behind is
+-- Claims 60 to 71, on the calls of one domain: whatever a contract lets a function answer and leave behind is
 -- what the definitions say and nothing else. `Learnt l a r a′` is what a caller learns of a call with the
 -- arguments a that answered r and left a′. 01, "The wired controller", "Direct delivery and signals".
 -- Assumes nothing.
@@ -17,6 +17,7 @@ use Rattle.registers.specs.Read.{valueOf, claimedBy}
 use Rattle.registers.specs.Write.{registerWritten}
 use Rattle.sending.specs.Sending.{sent, logged}
 use Rattle.sending.specs.Delivered.{delivered}
+use Rattle.genmsi.specs.Genmsi.{generatedSent}
 use Rattle.wired.specs.Wired.{wiredOf, readIn, claimedIn, writtenIn, wireSet, sourceWritten}
 use Rattle.region.proofs.word_at.Reads as word-at
 use Rattle.registers.proofs.read.Reads as read
@@ -24,6 +25,7 @@ use Rattle.registers.proofs.write.Reads as write
 use Rattle.direct.proofs.signal.Reads as signal
 use Rattle.sending.proofs.send.Reads as send
 use Rattle.sending.proofs.deliver.Reads as deliver
+use Rattle.genmsi.proofs.send_generated.Reads as send-generated
 use Rattle.wired.proofs.set_wire.Reads as set-wire
 use Rattle.wired.proofs.write_source.Reads as write-source
 use Rattle.wired.proofs.read.Reads as wired-read
@@ -98,3 +100,11 @@ Claim-70 =
     → (r ≡ readIn (wiredOf (now b)) c w) × (wiredOf (now b′) ≡ claimedIn (wiredOf (now b)) c w))
     × (wired-write.Learnt l (b, (c, (w, (v, tt)))) tt (b′, (c, (w, (v, tt))))
     → wiredOf (now b′) ≡ writtenIn (wiredOf (now b)) c w v)
+
+-- the message of a write to genmsi: the log after it, and how many
+unfoldable pub Claim-71 : Type 0
+Claim-71 =
+    (l : Lfts 2) (b g g′ : RefT (List ℕ)) (c : Bool) (v r : ℕ)
+    → send-generated.Learnt l (b, (c, (v, (g, tt)))) r (b, (c, (v, (g′, tt))))
+    → (now g′ ≡ logged (now g) (generatedSent c (domainOf (now b)) v))
+    × (r ≡ length (generatedSent c (domainOf (now b)) v))

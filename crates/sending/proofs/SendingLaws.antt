@@ -5,7 +5,7 @@ use mathlib.Core.Path.{_≡_, refl, sym, ap, ap₂, _∙_}
 use mathlib.Core.Bool.{Bool, true, false, _&&_}
 use mathlib.Core.List.{List, [], _∷_, _++_}
 use native.Mathlib.Omega.{arith}
-use lib.ListN.{length, take, drop, take-append-drop}
+use lib.ListN.{length, take, drop, set, take-append-drop}
 use lib.Seq.{length-take-le}
 use Rattle.words.proofs.TestsLaws.{tested}
 use Rattle.target.specs.Target.{messageOf}
@@ -84,6 +84,11 @@ module _ (c : Bool) (d : Domain) where
 pub logged-none : (l : List ℕ) → logged l [] ≡ l
 unfolding logged
 logged-none l = refl
+
+pub logged-one : (l : List ℕ) → length l ≡ 63 → (x : ℕ) → set l 0 x ≡ logged l (x ∷ [])
+unfolding logged
+logged-one [] h x = absurd (omega (arith, h))
+logged-one (y ∷ l) h x = refl
 
 -- a log whose first n words are the messages, and which is as before behind them
 module _ (l₀ l ms : List ℕ) (n : ℕ) (h : n ≤ length l) (front : take n l ≡ ms) where

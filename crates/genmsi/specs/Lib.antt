@@ -1,0 +1,2 @@
+-- What a write to genmsi sends. Assumes nothing.
+pub mod Genmsi
