@@ -1,6 +1,6 @@
 // Changes that concern both domains: a wire, and a sourcecfg with its delegation.
 ghost use mathlib.Core.Path.{_≡_};
-ghost use Prim.Native.Nat.{_<_};
+ghost use Prim.Native.Nat.{_≤_, _<_};
 ghost use mathlib.Core.Bool.{true, false};
 ghost use lib.ListN.{length};
 ghost use Rattle.words.specs.Sets.{put};
@@ -53,7 +53,7 @@ fn put_wire(w: &mut [u32], i: usize, level: bool)
 }
 
 pub fn set_wire(w: &mut [u32], i: usize, level: bool)
-    requires { ⌜ (length (now w) ≡ 290) × (i < 64) ⌝ }
+    requires { ⌜ (length (now w) ≡ 290) × (1 ≤ i) × (i < 64) ⌝ }
     ensures { λ r. ⌜ wiredOf (now (w .exit)) ≡ wireSet (wiredOf (now (w .entry))) i level ⌝ }
 {
     let was = writes::wire_at(wires(w), i);
@@ -100,7 +100,7 @@ fn write_root(w: &mut [u32], i: usize, value: u32)
 }
 
 pub fn write_source(w: &mut [u32], child: bool, i: usize, value: u32)
-    requires { ⌜ (length (now w) ≡ 290) × (i < 64) ⌝ }
+    requires { ⌜ (length (now w) ≡ 290) × (1 ≤ i) × (i < 64) ⌝ }
     ensures { λ r. ⌜ wiredOf (now (w .exit)) ≡ sourceWritten (wiredOf (now (w .entry))) child i value ⌝ }
 {
     if child {
