@@ -1,10 +1,8 @@
 -- What a write to a register does to its domain, before anything is sent. 01, "The wired controller", "Direct
 -- delivery and signals"; the standard 4.5, 4.8.1. Assumes nothing.
---   registerWritten c d ws w v d after v was written to register w; c says that d is the child, ws are the
---     wires
+--   registerWritten c d ws w v   d after v was written to register w; c: d is the child; ws: the wires
 -- setipnum_le takes the value as it is, setipnum_be its four bytes reversed. topi, claimi and what is not
--- named
--- ignore writes. A sourcecfg concerns both domains: it is written elsewhere, and not here.
+-- named ignore writes. A sourcecfg concerns both domains: it is written elsewhere, and not here.
 use Prim.Native.Nat.{ℕ}
 use mathlib.Core.Bool.{Bool}
 use mathlib.Core.List.{List}
