@@ -7,7 +7,10 @@ use native.Mathlib.Omega.{arith}
 use lib.ListN.{length, take, drop, take-append-drop, length-take, length-drop}
 use lib.Seq.{drop-drop, take-all}
 use Rattle.domain.specs.Domain.{Domain, domainOf}
-use Rattle.wired.specs.Wired.{Wired, wiredOf}
+use denote.Ref.{now}
+use Rattle.region.specs.declared.Word.the-variants.{Sourcecfg}
+use Rattle.wired.specs.Wired.{Wired, wiredOf, sourceOf}
+use Rattle.wired.proofs.WiredLaws.{written-part, written-source}
 use Rattle.claims.specs.WiredCalls.{Claim-60, Claim-61, Claim-62, Claim-63, Claim-64, Claim-65}
 use Rattle.claims.specs.WiredCalls.{Claim-66, Claim-67, Claim-68, Claim-69, Claim-70, Claim-71}
 
@@ -81,12 +84,14 @@ unfolding Claim-68
 claim-68 l b b′ i level learnt = learnt
 
 pub claim-69 : Claim-69
-unfolding Claim-69
-claim-69 l b b′ c i v learnt = learnt
+unfolding Claim-69 sourceOf
+claim-69 l b b′ c i v h learnt =
+    learnt ∙ written-source (wiredOf (now b)) c (Sourcecfg i) v (λ z. omega arith)
 
 pub claim-70 : Claim-70
 unfolding Claim-70
-claim-70 l b b′ c w v r = ((λ learnt. learnt), (λ learnt. learnt))
+claim-70 l b b′ c w v r =
+    ((λ learnt. learnt), (λ e learnt. learnt ∙ written-part (wiredOf (now b)) c w v e))
 
 pub claim-71 : Claim-71
 unfolding Claim-71

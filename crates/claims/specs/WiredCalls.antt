@@ -2,7 +2,7 @@
 -- what the definitions say and nothing else. `Learnt l a r a′` is what a caller learns of a call with the
 -- arguments a that answered r and left a′. 01, "The wired controller", "Direct delivery and signals".
 -- Assumes nothing.
-use Prim.Native.Nat.{ℕ}
+use Prim.Native.Nat.{ℕ, _≤_}
 use mathlib.Core.Path.{_≡_}
 use mathlib.Core.Bool.{Bool}
 use mathlib.Core.List.{List}
@@ -10,6 +10,7 @@ use lib.ListN.{length, take}
 use contract.Lifetimes.{Lfts}
 use denote.Ref.{RefT, now}
 use Rattle.region.specs.declared.Word.{Word}
+use Rattle.region.specs.declared.Word.the-variants.{Sourcecfg}
 use Rattle.region.specs.Region.{wordAt}
 use Rattle.domain.specs.Domain.{domainOf}
 use Rattle.direct.specs.Direct.{signalOf}
@@ -18,7 +19,7 @@ use Rattle.registers.specs.Write.{registerWritten}
 use Rattle.sending.specs.Sending.{sent, logged}
 use Rattle.sending.specs.Delivered.{delivered}
 use Rattle.genmsi.specs.Genmsi.{generatedSent}
-use Rattle.wired.specs.Wired.{wiredOf, readIn, claimedIn, writtenIn, wireSet, sourceWritten}
+use Rattle.wired.specs.Wired.{wiredOf, readIn, claimedIn, partWritten, wireSet, sourceWritten, sourceOf}
 use Rattle.region.proofs.word_at.Reads as word-at
 use Rattle.registers.proofs.read.Reads as read
 use Rattle.registers.proofs.write.Reads as write
@@ -27,7 +28,6 @@ use Rattle.sending.proofs.send.Reads as send
 use Rattle.sending.proofs.deliver.Reads as deliver
 use Rattle.genmsi.proofs.send_generated.Reads as send-generated
 use Rattle.wired.proofs.set_wire.Reads as set-wire
-use Rattle.wired.proofs.write_source.Reads as write-source
 use Rattle.wired.proofs.read.Reads as wired-read
 use Rattle.wired.proofs.write.Reads as wired-write
 
@@ -42,7 +42,8 @@ Claim-61 =
     → read.Learnt l (b, (ws, (w, tt))) r (b′, (ws, (w, tt)))
     → (r ≡ valueOf (domainOf (now b)) ws w) × (domainOf (now b′) ≡ claimedBy (domainOf (now b)) w)
 
--- a write, before anything is sent
+-- a write to a register that concerns its domain alone, before anything is sent; a sourcecfg is left as it is
+-- here, for it is written by the call of Claim-69
 unfoldable pub Claim-62 : Type 0
 Claim-62 =
     (l : Lfts 1) (b b′ : RefT (List ℕ)) (c : Bool) (ws : List ℕ) (w : Word) (v : ℕ)
@@ -88,18 +89,18 @@ Claim-68 =
 -- a sourcecfg is written; nothing is sent yet
 unfoldable pub Claim-69 : Type 0
 Claim-69 =
-    (l : Lfts 1) (b b′ : RefT (List ℕ)) (c : Bool) (i v : ℕ)
-    → write-source.Learnt l (b, (c, (i, (v, tt)))) tt (b′, (c, (i, (v, tt))))
+    (l : Lfts 1) (b b′ : RefT (List ℕ)) (c : Bool) (i v : ℕ) → 1 ≤ i
+    → wired-write.Learnt l (b, (c, (Sourcecfg i, (v, tt)))) tt (b′, (c, (Sourcecfg i, (v, tt))))
     → wiredOf (now b′) ≡ sourceWritten (wiredOf (now b)) c i v
 
--- any other register of a domain is read or written; nothing is sent yet
+-- a register of a domain is read, or one that is no sourcecfg is written; nothing is sent yet
 unfoldable pub Claim-70 : Type 0
 Claim-70 =
     (l : Lfts 1) (b b′ : RefT (List ℕ)) (c : Bool) (w : Word) (v r : ℕ)
     → (wired-read.Learnt l (b, (c, (w, tt))) r (b′, (c, (w, tt)))
     → (r ≡ readIn (wiredOf (now b)) c w) × (wiredOf (now b′) ≡ claimedIn (wiredOf (now b)) c w))
-    × (wired-write.Learnt l (b, (c, (w, (v, tt)))) tt (b′, (c, (w, (v, tt))))
-    → wiredOf (now b′) ≡ writtenIn (wiredOf (now b)) c w v)
+    × (sourceOf w ≡ 0 → wired-write.Learnt l (b, (c, (w, (v, tt)))) tt (b′, (c, (w, (v, tt))))
+    → wiredOf (now b′) ≡ partWritten (wiredOf (now b)) c w v)
 
 -- the message of a write to genmsi: the log after it, and how many
 unfoldable pub Claim-71 : Type 0

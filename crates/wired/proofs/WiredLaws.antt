@@ -1,23 +1,32 @@
 -- Laws of specs/Wired.antt: a domain's part lent and put back is that domain replaced. No contract cites this
 -- file.
 -- Assumes nothing.
-use Prim.Native.Nat.{ℕ, _/_, _%_, _<_}
+use Prim.Native.Nat.{ℕ, _/_, _%_, _≤_, _<_}
 use mathlib.Core.Path.{_≡_, refl, sym, ap, _∙_}
 use mathlib.Core.Bool.{Bool, true, false, Bool·beq}
 use mathlib.Core.List.{List, [], _∷_, _++_, append-assoc}
+use mathlib.Core.Logic.{_≢_}
 use native.Mathlib.Omega.{arith}
 use lib.Dec.{leb}
 use lib.ListN.{length, getD, take, drop, set, length-take, length-drop, length-append}
 use lib.Seq.{take-at, drop-at, drop-drop, take-add, drop-cons, take-set-lt, drop-set-lt, getD-take}
+use borrow.Author.Tests.{eq-eqb, ne-eqb}
 use Rattle.words.specs.Bits.{putBit}
 use Rattle.words.specs.Sets.{member, put}
 use Rattle.words.proofs.SetsLaws.{put-word}
 use Rattle.mode.specs.Mode.{sourceWord}
+use Rattle.region.specs.Region.{Within}
+use Rattle.region.specs.declared.Word.{Word}
+use Rattle.region.specs.declared.Word.the-variants.{Domaincfg, Sourcecfg, Setip, Setipnum, InClrip, Clripnum}
+use Rattle.region.specs.declared.Word.the-variants.{Setie, Setienum, Clrie, Clrienum, SetipnumLe, SetipnumBe}
+use Rattle.region.specs.declared.Word.the-variants.{Genmsi, Target, Idelivery, Iforce, Ithreshold, Topi}
+use Rattle.region.specs.declared.Word.the-variants.{Claimi, Unused}
 use Rattle.source.specs.Pending.{inactive}
 use Rattle.domain.specs.Domain.{Domain, domainOf}
 use Rattle.domain.specs.Slot.{withSource}
 use Rattle.wired.specs.Wired.{Wired, wiredOf, domainIn, withDomain, withWires, sourceModed, isDelegated}
-use Rattle.wired.specs.Wired.{childWritten, rootWritten, sourceWritten}
+use Rattle.wired.specs.Wired.{childWritten, rootWritten, sourceWritten, partWritten, sourceOf}
+use Rattle.wired.specs.Wired.{writtenIn}
 
 -- two controllers are equal if their parts are
 pub wired-path : {w v : Wired} → w .wires ≡ v .wires → w .root ≡ v .root → w .child ≡ v .child → w ≡ v
@@ -164,3 +173,37 @@ module _ (w : Wired) (i v : ℕ) where
   pub written-root : (c : Bool) → c ≡ false → sourceWritten w c i v ≡ rootWritten w i v
   unfolding sourceWritten
   written-root c e = simp e
+
+-- ---- a write to any register
+
+pub source-below : (r : Word) → Within r → sourceOf r < 64
+unfolding sourceOf
+source-below Domaincfg q = omega arith
+source-below (Sourcecfg i) q = omega arith
+source-below (Setip k) q = omega arith
+source-below Setipnum q = omega arith
+source-below (InClrip k) q = omega arith
+source-below Clripnum q = omega arith
+source-below (Setie k) q = omega arith
+source-below Setienum q = omega arith
+source-below (Clrie k) q = omega arith
+source-below Clrienum q = omega arith
+source-below SetipnumLe q = omega arith
+source-below SetipnumBe q = omega arith
+source-below Genmsi q = omega arith
+source-below (Target i) q = omega arith
+source-below (Idelivery h) q = omega arith
+source-below (Iforce h) q = omega arith
+source-below (Ithreshold h) q = omega arith
+source-below (Topi h) q = omega arith
+source-below (Claimi h) q = omega arith
+source-below Unused q = omega arith
+
+module _ (w : Wired) (c : Bool) (r : Word) (v : ℕ) where
+  pub written-part : sourceOf r ≡ 0 → writtenIn w c r v ≡ partWritten w c r v
+  unfolding writtenIn
+  written-part e = simp (eq-eqb (sourceOf r) 0 e)
+
+  pub written-source : sourceOf r ≢ 0 → writtenIn w c r v ≡ sourceWritten w c (sourceOf r) v
+  unfolding writtenIn
+  written-source n = simp (ne-eqb (sourceOf r) 0 n)

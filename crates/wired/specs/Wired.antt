@@ -6,23 +6,29 @@
 --   withDomain w c d         w with that domain as d
 --   readIn w c r             what register r of a domain reads
 --   claimedIn w c r          w after that read
---   writtenIn w c r v        w after v was written to it
+--   partWritten w c r v      w after v was written to it, where it is no sourcecfg
 --   sourceWired d i was is   d after the wire of source i went from was to is
 --   wireSet w i level        w after wire i was set: both domains see the change
 --   isDelegated w i          source i is delegated: the machine domain's sourcecfg says so
 --   sourceModed d i m wire   d after the sourcecfg word of source i became m
 --   childWritten, rootWritten, sourceWritten w c i v
 --                            w after v was written to sourcecfg[i] of a domain
+--   sourceOf r               the source whose sourcecfg r is, or 0
+--   writtenIn w c r v        w after v was written to register r of a domain
 -- Where the delegation of a source changes, the child's source starts anew. Nothing is sent here: that comes
 -- after.
 use Prim.Native.Nat.{ℕ}
 use mathlib.Core.Bool.{Bool, true, false, Bool·beq, cond}
 use mathlib.Core.List.{List}
-use lib.Dec.{leb}
+use lib.Dec.{eqb, leb}
 use lib.ListN.{take, drop}
 use Rattle.words.specs.Sets.{member, put}
 use Rattle.mode.specs.Mode.{sourceWord}
 use Rattle.region.specs.declared.Word.{Word}
+use Rattle.region.specs.declared.Word.the-variants.{Domaincfg, Sourcecfg, Setip, Setipnum, InClrip, Clripnum}
+use Rattle.region.specs.declared.Word.the-variants.{Setie, Setienum, Clrie, Clrienum, SetipnumLe, SetipnumBe}
+use Rattle.region.specs.declared.Word.the-variants.{Genmsi, Target, Idelivery, Iforce, Ithreshold, Topi}
+use Rattle.region.specs.declared.Word.the-variants.{Claimi, Unused}
 use Rattle.source.specs.Pending.{inactive, wireChanged, moded}
 use Rattle.domain.specs.Domain.{Domain, domainOf, byMessages}
 use Rattle.domain.specs.Slot.{sourceAt, withSource}
@@ -59,8 +65,8 @@ readIn w c r = valueOf (domainIn w c) (w .wires) r
 abbrev pub claimedIn : Wired → Bool → Word → Wired
 claimedIn w c r = withDomain w c (claimedBy (domainIn w c) r)
 
-abbrev pub writtenIn : Wired → Bool → Word → ℕ → Wired
-writtenIn w c r v = withDomain w c (registerWritten c (domainIn w c) (w .wires) r v)
+abbrev pub partWritten : Wired → Bool → Word → ℕ → Wired
+partWritten w c r v = withDomain w c (registerWritten c (domainIn w c) (w .wires) r v)
 
 -- ---- one wire, one sourcecfg
 
@@ -105,3 +111,30 @@ rootWritten w i v =
 
 unfoldable pub sourceWritten : Wired → Bool → ℕ → ℕ → Wired
 sourceWritten w c i v = cond c (childWritten w i v) (rootWritten w i v)
+
+-- ---- a write to any register
+
+unfoldable pub sourceOf : Word → ℕ
+sourceOf Domaincfg = 0
+sourceOf (Sourcecfg i) = i
+sourceOf (Setip k) = 0
+sourceOf Setipnum = 0
+sourceOf (InClrip k) = 0
+sourceOf Clripnum = 0
+sourceOf (Setie k) = 0
+sourceOf Setienum = 0
+sourceOf (Clrie k) = 0
+sourceOf Clrienum = 0
+sourceOf SetipnumLe = 0
+sourceOf SetipnumBe = 0
+sourceOf Genmsi = 0
+sourceOf (Target i) = 0
+sourceOf (Idelivery h) = 0
+sourceOf (Iforce h) = 0
+sourceOf (Ithreshold h) = 0
+sourceOf (Topi h) = 0
+sourceOf (Claimi h) = 0
+sourceOf Unused = 0
+
+unfoldable pub writtenIn : Wired → Bool → Word → ℕ → Wired
+writtenIn w c r v = cond (eqb (sourceOf r) 0) (partWritten w c r v) (sourceWritten w c (sourceOf r) v)

@@ -5,7 +5,7 @@ ghost use lib.ListN.{length};
 ghost use Rattle.region.specs.Region.{Within};
 ghost use Rattle.domain.specs.Domain.{configOf};
 ghost use Rattle.direct.specs.Direct.{signalOf};
-ghost use Rattle.wired.specs.Wired.{wiredOf, domainIn, readIn, claimedIn, writtenIn};
+ghost use Rattle.wired.specs.Wired.{wiredOf, domainIn, readIn, claimedIn, partWritten};
 use region::Word;
 
 pub fn wires(w: &[u32]) -> [u32; 2]
@@ -28,9 +28,10 @@ pub fn read(w: &mut [u32], child: bool, word: Word) -> u32
     registers::read(&mut w[2..146], levels, word)
 }
 
-pub fn write(w: &mut [u32], child: bool, word: Word, value: u32)
+// A write that concerns the domain written alone.
+pub fn write_part(w: &mut [u32], child: bool, word: Word, value: u32)
     requires { ⌜ (length (now w) ≡ 290) × Within word ⌝ }
-    ensures { λ r. ⌜ wiredOf (now (w .exit)) ≡ writtenIn (wiredOf (now (w .entry))) child word value ⌝ }
+    ensures { λ r. ⌜ wiredOf (now (w .exit)) ≡ partWritten (wiredOf (now (w .entry))) child word value ⌝ }
 {
     let levels = wires(w);
     if child {

@@ -2,10 +2,10 @@
 // sends.
 mod access;
 mod change;
+mod word;
 
 pub use access::read;
 pub use access::signal;
 pub use access::wires;
-pub use access::write;
 pub use change::set_wire;
-pub use change::write_source;
+pub use word::write;

@@ -1,4 +1,4 @@
--- `wired::access::write` meets its contract: one part is lent and comes back. Assumes nothing.
+-- `wired::access::write_part` meets its contract: one part is lent and comes back. Assumes nothing.
 use Prim.Native.Nat.{ℕ}
 use mathlib.Core.Path.{ap, ap₂, sym, _∙_}
 use mathlib.Core.Bool.{Bool, true, false}
@@ -9,8 +9,8 @@ use Rattle.wired.specs.Wired.{wiredOf, domainIn}
 use Rattle.wired.proofs.WiredLaws.{child-long, root-long, child-part, root-part, domain-child}
 use Rattle.wired.proofs.WiredLaws.{domain-root, with-child, with-root, put-child, put-root}
 use borrow.Author.Needs.{needs}
-use Rattle.wired.proofs.access.write.Statement.{statement}
-use Rattle.wired.proofs.access.write.Tie as tie
+use Rattle.wired.proofs.access.write_part.Statement.{statement}
+use Rattle.wired.proofs.access.write_part.Tie as tie
 
 wires-requires : tie.Need-wires-requires
 wires-requires c κs = search needs
@@ -92,8 +92,8 @@ returns-2 c =
     (args .word) (args .value)) (sym (at-test .if1 .left)))
     ∙ sym (with-root (wiredOf l) (args .child) _ (at-test .if1 .left))
 
-pub write-spec : {M : Type 1} → statement M
-write-spec =
+pub write-part-spec : {M : Type 1} → statement M
+write-part-spec =
     tie.close
     (tie.spec
     wires-requires
