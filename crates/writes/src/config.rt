@@ -7,7 +7,8 @@ ghost use Rattle.writes.specs.Config.{keptConfig, redeliveredAt, redeliv
 ghost use Rattle.writes.specs.Config.{generatedWritten};
 use super::change::wire_at;
 
-fn kept_config(value: u32) -> u32
+// What of a written domaincfg is stored.
+pub fn kept_config(value: u32) -> u32
     ensures { λ r. ⌜ r ≡ keptConfig value ⌝ }
 {
     let ie = words::field32(value, 8, 1);

@@ -6,5 +6,6 @@ pub use change::change_number;
 pub use change::change_word;
 pub use change::wire_at;
 pub use change::write_target;
+pub use config::kept_config;
 pub use config::write_config;
 pub use config::write_generated;

@@ -1,0 +1,1 @@
+-- The proofs of the state rules of one source. Assumes nothing.

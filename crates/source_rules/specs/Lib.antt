@@ -1,0 +1,2 @@
+-- The state rules of one source. Assumes nothing.
+pub mod SourceRules
