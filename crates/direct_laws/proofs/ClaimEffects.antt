@@ -15,14 +15,14 @@ use Rattle.delivery.proofs.DeliveryLaws.{signals-iff, force-cleared}
 use Rattle.domain.specs.Domain.{Domain, isEnabled, byMessages}
 use Rattle.domain.specs.Slot.{sourceAt}
 use Rattle.domain.specs.Structure.{structureAt, withStructure}
+use Rattle.domain_laws.specs.Shape.{Shaped}
+use Rattle.domain_laws.proofs.SlotEffects.{sourceAt-withSource-same, sourceAt-withSource-other}
+use Rattle.domain_laws.proofs.SlotEffects.{structureAt-withSource}
+use Rattle.domain_laws.proofs.StructureEffects.{structureAt-withStructure-same}
+use Rattle.domain_laws.proofs.StructureEffects.{structureAt-withStructure-other, sourceAt-withStructure}
 use Rattle.direct.specs.Direct.{topSource, topiOf, unforced, released, claimed, signalOf}
 use Rattle.direct.proofs.TopLaws.{topSource-lt}
 use Rattle.direct.proofs.DirectLaws.{claimed-none, claimed-some, signal-messages, signal-direct}
-use Rattle.direct_laws.specs.Shape.{Shaped}
-use Rattle.direct_laws.proofs.SlotEffects.{sourceAt-withSource-same, sourceAt-withSource-other}
-use Rattle.direct_laws.proofs.SlotEffects.{structureAt-withSource, sourceAt-withStructure}
-use Rattle.direct_laws.proofs.SlotEffects.{structureAt-withStructure-same}
-use Rattle.direct_laws.proofs.SlotEffects.{structureAt-withStructure-other}
 use Rattle.direct_laws.proofs.TopEffects.{topi-zero}
 
 -- ---- a claim of 0

@@ -1,4 +1,3 @@
 -- What holds of direct delivery, in the words of the paper, for the crates above. Assumes nothing.
-pub mod SlotEffects
 pub mod TopEffects
 pub mod ClaimEffects

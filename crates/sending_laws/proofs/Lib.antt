@@ -1,6 +1,5 @@
 -- What holds of the messages that a domain sends, in the words of the paper, for the crates above. Assumes
 -- nothing.
-pub mod SlotEffects
 pub mod SendingEffects
 pub mod MessageEffects
 pub mod SendingCases

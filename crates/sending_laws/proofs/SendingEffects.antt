@@ -19,12 +19,13 @@ use Rattle.source.specs.Pending.{withPending}
 use Rattle.domain.specs.Domain.{Domain, isEnabled, byMessages, withPendings}
 use Rattle.domain.specs.Slot.{sourceAt}
 use Rattle.domain.proofs.SlotLaws.{source-path}
+use Rattle.domain_laws.proofs.SetsBack.{member-within}
+use Rattle.domain_laws.proofs.SlotEffects.{withSource-unpended}
 use Rattle.sending.specs.Sending.{candidate, Sent, sentNothing, servedAt, messagesAt, sentFrom, sent}
 use Rattle.sending.proofs.SendingLaws.{served-hit, served-miss, messages-hit, messages-miss, messages-le}
 use Rattle.sending.proofs.SendingLaws.{from-none, sent-on, sent-off}
 use Rattle.sending_laws.specs.Candidates.{numbersFrom, thoseWith, candidates, messageAt, spent}
 use Rattle.sending_laws.specs.Candidates.{PendingOnly}
-use Rattle.sending_laws.proofs.SlotEffects.{member-within, withSource-unpended}
 
 -- ---- a source after its turn
 

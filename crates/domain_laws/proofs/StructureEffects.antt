@@ -1,57 +1,17 @@
--- A source or a delivery structure stored is read again, and the others stay. No contract cites this file.
--- Assumes nothing.
+-- A delivery structure put into a domain is read again, and the others and the sources stay. No contract
+-- cites this file. Assumes nothing.
 use Prim.Native.Nat.{ℕ, _+_, _*_, _<_}
 use mathlib.Core.Path.{_≡_, refl, _∙_}
 use mathlib.Core.List.{List}
 use mathlib.Core.Logic.{_≢_}
 use native.Mathlib.Omega.{arith}
-use lib.ListN.{length, getD, set, length-set, length-take}
+use lib.ListN.{length, getD, set, length-set}
 use lib.Seq.{getD-set-same, getD-set-other}
-use Rattle.words.proofs.SetsLaws.{member-put-same, member-put-other}
-use Rattle.source.specs.declared.Source.{Source}
 use Rattle.delivery.specs.declared.Delivery.{Delivery}
-use Rattle.domain.specs.Domain.{Domain, domainOf}
-use Rattle.domain.specs.Slot.{sourceAt, withSource}
+use Rattle.domain.specs.Domain.{Domain}
+use Rattle.domain.specs.Slot.{sourceAt}
 use Rattle.domain.specs.Structure.{structureAt, withStructure}
-use Rattle.domain.proofs.SegmentLaws.{segment-long}
-use Rattle.domain.proofs.SlotLaws.{source-path}
-use Rattle.direct_laws.specs.Shape.{Shaped}
-
--- a domain of 144 words has the lengths
-pub domainOf-shaped : (l : List ℕ) → length l ≡ 144 → Shaped (domainOf l)
-unfolding domainOf
-domainOf-shaped l h =
-    record {
-      sources = simp length-take (omega arith);
-      targets = segment-long l 64 64 (omega arith);
-      pendings = segment-long l 128 2 (omega arith);
-      enables = segment-long l 130 2 (omega arith);
-      deliveries = segment-long l 132 12 (omega arith);
-    }
-
--- ---- sources
-
-module _ (d : Domain) (i : ℕ) (s : Source) where
-  pub sourceAt-withSource-same : Shaped d → i < 64 → sourceAt (withSource d i s) i ≡ s
-  unfolding sourceAt withSource
-  sourceAt-withSource-same shaped h =
-      source-path (getD-set-same (d .source) i (s .mode) 0 (omega arith))
-      (getD-set-same (d .target) i (s .target) 0 (omega arith))
-      (member-put-same (d .pending) i (s .pending) (omega arith))
-      (member-put-same (d .enable) i (s .enabled) (omega arith))
-
-  pub sourceAt-withSource-other : (j : ℕ) → j ≢ i → sourceAt (withSource d i s) j ≡ sourceAt d j
-  unfolding sourceAt withSource
-  sourceAt-withSource-other j n =
-      source-path (getD-set-other (d .source) i j (s .mode) 0 n)
-      (getD-set-other (d .target) i j (s .target) 0 n)
-      (member-put-other (d .pending) i (s .pending) j n) (member-put-other (d .enable) i (s .enabled) j n)
-
-  pub structureAt-withSource : (h : ℕ) → structureAt (withSource d i s) h ≡ structureAt d h
-  unfolding structureAt withSource
-  structureAt-withSource h = refl
-
--- ---- delivery structures
+use Rattle.domain_laws.specs.Shape.{Shaped}
 
 -- three elements stored in a row
 module _ (l : List ℕ) (p a b c : ℕ) where
@@ -101,3 +61,14 @@ module _ (d : Domain) (h : ℕ) (x : Delivery) where
   pub sourceAt-withStructure : (i : ℕ) → sourceAt (withStructure d h x) i ≡ sourceAt d i
   unfolding sourceAt withStructure
   sourceAt-withStructure i = refl
+
+  pub shaped-withStructure : Shaped d → Shaped (withStructure d h x)
+  unfolding withStructure
+  shaped-withStructure shaped =
+      record {
+        sources = shaped .sources;
+        targets = shaped .targets;
+        pendings = shaped .pendings;
+        enables = shaped .enables;
+        deliveries = simp length-set (shaped .deliveries);
+      }

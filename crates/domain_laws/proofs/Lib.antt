@@ -1,0 +1,5 @@
+-- What a domain is after one of its parts was replaced, for the crates above. Assumes nothing.
+pub mod SetsBack
+pub mod SlotEffects
+pub mod StructureEffects
+pub mod OwnEffects

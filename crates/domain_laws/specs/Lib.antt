@@ -1,0 +1,2 @@
+-- What the laws of a domain speak of. Assumes nothing.
+pub mod Shape
