@@ -3,3 +3,5 @@ pub mod SetsBack
 pub mod SlotEffects
 pub mod StructureEffects
 pub mod OwnEffects
+pub mod BecameEffects
+pub mod EachEffects

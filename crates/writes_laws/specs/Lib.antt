@@ -1,0 +1,2 @@
+-- What the laws of writes speak of. Assumes nothing.
+pub mod Named
