@@ -23,7 +23,7 @@ use Rattle.region.specs.declared.Word.the-variants.{Genmsi, Target, Idelivery, 
 use Rattle.region.specs.declared.Word.the-variants.{Claimi, Unused}
 use Rattle.source.specs.Pending.{inactive}
 use Rattle.domain.specs.Domain.{Domain, domainOf}
-use Rattle.domain.specs.Slot.{withSource}
+use Rattle.domain.specs.Slot.{sourceAt, withSource}
 use Rattle.wired.specs.Wired.{Wired, wiredOf, domainIn, withDomain, withWires, sourceModed, isDelegated}
 use Rattle.wired.specs.Wired.{childWritten, rootWritten, sourceWritten, partWritten, sourceOf}
 use Rattle.wired.specs.Wired.{writtenIn}
@@ -141,6 +141,10 @@ wire-put l i v b h e =
     (ap (λ (x : List ℕ). domainOf (take 144 x)) (drop-set-lt 146 l (i / 32) v (omega arith)))
 
 -- ---- a sourcecfg
+
+pub delegated-mode : (w : Wired) (i : ℕ) → isDelegated w i ≡ leb 1024 (sourceAt (w .root) i .mode)
+unfolding isDelegated
+delegated-mode w i = refl
 
 module _ (w : Wired) (i v : ℕ) where
   abbrev moves : Bool

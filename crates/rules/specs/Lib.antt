@@ -1,0 +1,3 @@
+-- The state rules of the wired controller. Assumes nothing.
+pub mod Every
+pub mod Rules

@@ -1,0 +1,83 @@
+// The rules of a domain, those that concern both, and all of them.
+ghost use mathlib.Core.Path.{_≡_};
+ghost use mathlib.Core.Bool.{_&&_};
+ghost use Prim.Native.Nat.{_<_};
+ghost use lib.ListN.{length};
+ghost use Rattle.domain.specs.Domain.{domainOf};
+ghost use Rattle.wired.specs.Wired.{wiredOf};
+ghost use Rattle.rules.specs.Every.{every};
+ghost use Rattle.rules.specs.Rules.{configRange, generatedRange, generatedRule, zeroRule, domainSound};
+ghost use Rattle.rules.specs.Rules.{delegatedRule, wiredSound};
+use super::sources::source_pass;
+use super::sources::structure_pass;
+
+fn config_rule(part: &[u32]) -> bool
+    requires { ⌜ length (now part) ≡ 144 ⌝ }
+    ensures { λ r. ⌜ r ≡ configRange (domainOf (now (part .entry))) ⌝ }
+{
+    let word = domain::config(part);
+    word == writes::kept_config(word)
+}
+
+fn generated_rules(part: &[u32]) -> bool
+    requires { ⌜ length (now part) ≡ 144 ⌝ }
+    ensures { λ r. ⌜ r ≡ (generatedRange (domainOf (now (part .entry)))
+        && generatedRule (domainOf (now (part .entry)))) ⌝ }
+{
+    let word = domain::generated(part);
+    (word == target::kept_generated(word)) & (domain::by_messages(part) | (word == 0))
+}
+
+fn no_zero(part: &[u32]) -> bool
+    requires { ⌜ length (now part) ≡ 144 ⌝ }
+    ensures { λ r. ⌜ r ≡ (zeroRule (domainOf (now (part .entry)) .pending)
+        && zeroRule (domainOf (now (part .entry)) .enable)) ⌝ }
+{
+    let s = domain::load(part, 0);
+    !s.pending & !s.enabled
+}
+
+fn domain_rules(part: &[u32], child: bool, wires: [u32; 2]) -> bool
+    requires { ⌜ length (now part) ≡ 144 ⌝ }
+    ensures { λ r. ⌜ r ≡ domainSound child wires (domainOf (now (part .entry))) ⌝ }
+{
+    config_rule(part)
+        & generated_rules(part)
+        & no_zero(part)
+        & structure_pass(part)
+        & source_pass(part, child, wires)
+}
+
+fn delegated_rule(w: &[u32], i: usize) -> bool
+    requires { ⌜ (length (now w) ≡ 290) × (i < 64) ⌝ }
+    ensures { λ r. ⌜ r ≡ delegatedRule (wiredOf (now (w .entry))) i ⌝ }
+{
+    let root = domain::load(&w[2..146], i);
+    let child = domain::load(&w[146..290], i);
+    (1024 <= root.mode) | (child.mode == 0)
+}
+
+fn delegated_pass(w: &[u32]) -> bool
+    requires { ⌜ length (now w) ≡ 290 ⌝ }
+    ensures { λ r. ⌜ r ≡ every (delegatedRule (wiredOf (now (w .entry)))) 1 63 ⌝ }
+{
+    let mut sound = true;
+    let mut i: usize = 1;
+    while i < 64 {
+        sound = sound & delegated_rule(w, i);
+        i += 1;
+    }
+    sound
+}
+
+// Whether the 290 words of the wired controller keep every rule.
+pub fn sound(w: &[u32]) -> bool
+    requires { ⌜ length (now w) ≡ 290 ⌝ }
+    ensures { λ r. ⌜ r ≡ wiredSound (wiredOf (now (w .entry))) ⌝ }
+{
+    let wires = wired::wires(w);
+    !words::has_bit(wires[0], 0)
+        & domain_rules(&w[2..146], false, wires)
+        & domain_rules(&w[146..290], true, wires)
+        & delegated_pass(w)
+}

@@ -1,0 +1,52 @@
+// The rules of the sources and of the delivery structures of one domain.
+ghost use mathlib.Core.Path.{_≡_};
+ghost use mathlib.Core.Bool.{_&&_};
+ghost use Prim.Native.Nat.{_<_};
+ghost use lib.ListN.{length};
+ghost use Rattle.domain.specs.Domain.{domainOf};
+ghost use Rattle.rules.specs.Every.{every};
+ghost use Rattle.rules.specs.Rules.{structureRange, sourceRule};
+
+fn source_rule(part: &[u32], child: bool, wires: [u32; 2], i: usize) -> bool
+    requires { ⌜ (length (now part) ≡ 144) × (i < 64) ⌝ }
+    ensures { λ r. ⌜ r ≡ sourceRule child wires (domainOf (now (part .entry))) i ⌝ }
+{
+    let messages = domain::by_messages(part);
+    let sends = domain::enabled(part) & messages;
+    let s = domain::load(part, i);
+    source_rules::source_sound(child, messages, sends, writes::wire_at(wires, i), s)
+}
+
+pub fn source_pass(part: &[u32], child: bool, wires: [u32; 2]) -> bool
+    requires { ⌜ length (now part) ≡ 144 ⌝ }
+    ensures { λ r. ⌜ r ≡ every (sourceRule child wires (domainOf (now (part .entry)))) 1 63 ⌝ }
+{
+    let mut sound = true;
+    let mut i: usize = 1;
+    while i < 64 {
+        sound = sound & source_rule(part, child, wires, i);
+        i += 1;
+    }
+    sound
+}
+
+fn structure_rule(part: &[u32], h: usize) -> bool
+    requires { ⌜ (length (now part) ≡ 144) × (h < 4) ⌝ }
+    ensures { λ r. ⌜ r ≡ structureRange (domainOf (now (part .entry))) h ⌝ }
+{
+    let x = domain::load_structure(part, h);
+    x.sound()
+}
+
+pub fn structure_pass(part: &[u32]) -> bool
+    requires { ⌜ length (now part) ≡ 144 ⌝ }
+    ensures { λ r. ⌜ r ≡ every (structureRange (domainOf (now (part .entry)))) 0 4 ⌝ }
+{
+    let mut sound = true;
+    let mut h: usize = 0;
+    while h < 4 {
+        sound = sound & structure_rule(part, h);
+        h += 1;
+    }
+    sound
+}
