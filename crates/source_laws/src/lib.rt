@@ -1,0 +1,1 @@
+// No code: what happens to one source keeps its state rules, for the crates above.
