@@ -1,3 +1,2 @@
 -- The laws of the state rules. Assumes nothing.
-pub mod EveryLaws
 pub mod RulesLaws

@@ -15,7 +15,7 @@ use Rattle.domain.proofs.SlotLaws.{pending-word, enable-word}
 use Rattle.wired.specs.Wired.{Wired}
 use Rattle.wired.proofs.WiredLaws.{delegated-mode}
 use Rattle.source_rules.specs.SourceRules.{sourceSound}
-use Rattle.rules.specs.Every.{every}
+use Rattle.words.specs.Every.{every}
 use Rattle.rules.specs.Rules.{configRange, generatedRange, structureRange, zeroRule, generatedRule}
 use Rattle.rules.specs.Rules.{sourceRule, domainSound, delegatedRule, wiredSound}
 

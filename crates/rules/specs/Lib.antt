@@ -1,3 +1,2 @@
 -- The state rules of the wired controller. Assumes nothing.
-pub mod Every
 pub mod Rules

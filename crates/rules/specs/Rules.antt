@@ -23,7 +23,7 @@ use Rattle.domain.specs.Structure.{structureAt}
 use Rattle.writes.specs.Config.{keptConfig}
 use Rattle.wired.specs.Wired.{Wired, isDelegated}
 use Rattle.source_rules.specs.SourceRules.{sourceSound}
-use Rattle.rules.specs.Every.{every}
+use Rattle.words.specs.Every.{every}
 
 unfoldable pub configRange : Domain → Bool
 configRange d = eqb (configOf d) (keptConfig (configOf d))

@@ -5,7 +5,7 @@ ghost use Prim.Native.Nat.{_<_};
 ghost use lib.ListN.{length};
 ghost use Rattle.domain.specs.Domain.{domainOf};
 ghost use Rattle.wired.specs.Wired.{wiredOf};
-ghost use Rattle.rules.specs.Every.{every};
+ghost use Rattle.words.specs.Every.{every};
 ghost use Rattle.rules.specs.Rules.{configRange, generatedRange, generatedRule, zeroRule, domainSound};
 ghost use Rattle.rules.specs.Rules.{delegatedRule, wiredSound};
 use super::sources::source_pass;

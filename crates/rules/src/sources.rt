@@ -4,7 +4,7 @@ ghost use mathlib.Core.Bool.{_&&_};
 ghost use Prim.Native.Nat.{_<_};
 ghost use lib.ListN.{length};
 ghost use Rattle.domain.specs.Domain.{domainOf};
-ghost use Rattle.rules.specs.Every.{every};
+ghost use Rattle.words.specs.Every.{every};
 ghost use Rattle.rules.specs.Rules.{structureRange, sourceRule};
 
 fn source_rule(part: &[u32], child: bool, wires: [u32; 2], i: usize) -> bool

@@ -1,5 +1,6 @@
 -- The laws of the words' definitions, for callers and for the proofs here. Assumes nothing.
 pub mod BitsLaws
+pub mod EveryLaws
 pub mod PartsLaws
 pub mod SetsLaws
 pub mod TestsLaws

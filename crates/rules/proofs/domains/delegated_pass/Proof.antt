@@ -6,8 +6,8 @@ use mathlib.Core.Bool.{Bool, _&&_}
 use native.Mathlib.Omega.{arith}
 use Rattle.wired.specs.Wired.{wiredOf}
 use Rattle.rules.specs.Rules.{delegatedRule}
-use Rattle.rules.specs.Every.{every}
-use Rattle.rules.proofs.EveryLaws.{every-step, every-done}
+use Rattle.words.specs.Every.{every}
+use Rattle.words.proofs.EveryLaws.{every-step, every-done}
 use borrow.Author.Needs.{needs}
 use Rattle.rules.proofs.domains.delegated_pass.Statement.{statement}
 use Rattle.rules.proofs.domains.delegated_pass.Tie as tie
