@@ -1,0 +1,10 @@
+-- Every operation of the wired controller keeps its state rules, for the crates above. Assumes nothing.
+pub mod SoundParts
+pub mod ModeEffects
+pub mod SteadyEffects
+pub mod QuietEffects
+pub mod ConfigEffects
+pub mod RegisterEffects
+pub mod ReadEffects
+pub mod PassEffects
+pub mod SourceEffects

@@ -1,0 +1,98 @@
+-- Every read of a register of a domain keeps the rules of the domain, and leaves nothing new to send. No
+-- contract cites this file. Assumes nothing.
+use Prim.Native.Nat.{ℕ, _≤_, _<_}
+use mathlib.Core.Path.{_≡_, _∙_}
+use mathlib.Core.Bool.{Bool, false}
+use mathlib.Core.List.{List}
+use native.Mathlib.Decide.{ℕ-discrete}
+use native.Mathlib.Omega.{arith}
+use lib.Dec.{ltb}
+use borrow.Author.Tests.{ltb-true, ltb-false}
+use Rattle.words.specs.Sets.{member}
+use Rattle.words.proofs.TestsLaws.{tested}
+use Rattle.region.specs.declared.Word.{Word}
+use Rattle.source.specs.Pending.{cleared}
+use Rattle.delivery.specs.Delivery.{withoutForce}
+use Rattle.delivery.proofs.DeliveryLaws.{force-keeps}
+use Rattle.domain.specs.Domain.{Domain, byMessages}
+use Rattle.domain.specs.Slot.{sourceAt}
+use Rattle.domain.specs.Structure.{structureAt}
+use Rattle.domain_laws.proofs.OwnEffects.{byMessages-withSource, byMessages-withStructure}
+use Rattle.direct.specs.Direct.{topSource, unforced, released, claimed}
+use Rattle.direct.proofs.TopLaws.{topSource-lt}
+use Rattle.direct.proofs.DirectLaws as direct
+use Rattle.registers.specs.Read.{claimHart, claimedBy}
+use Rattle.registers.proofs.ReadLaws.{claimed-by, claimed-none}
+use Rattle.source_laws.proofs.SteadyEffects.{steady-cleared}
+use Rattle.rules.specs.Rules.{structureRange}
+use Rattle.rules_laws.specs.Steady.{Steady, Kept, Quiet}
+use Rattle.rules_laws.proofs.ModeEffects.{cleared-mode}
+use Rattle.rules_laws.proofs.SteadyEffects.{kept-none, kept-withSource, kept-withStructure}
+use Rattle.rules_laws.proofs.QuietEffects.{quiet-direct}
+
+module _ (c : Bool) (ws : List ℕ) (d : Domain) (s : Steady c ws d) where
+  -- a claim in direct mode: iforce cleared, or a source released
+  module _ (h : ℕ) (l : h < 4) (m : byMessages d ≡ false) where
+    kept-unforced : Kept c ws d (unforced d h)
+    unfolding unforced structureRange
+    kept-unforced =
+        kept-withStructure c ws d s h (withoutForce (structureAt d h)) l
+        (force-keeps (structureAt d h) (s .structures h l))
+
+    kept-released : (i : ℕ) → 1 ≤ i → i < 64 → Kept c ws d (released d i)
+    unfolding released
+    kept-released i a b =
+        let x = sourceAt d i in
+        let steady = steady-cleared c (byMessages d) (member ws i) x (s .source i a b) in
+        kept-withSource c ws d s i (cleared x false) a b
+        (rw m (rw m at steady)) (cleared-mode x false)
+
+    kept-direct : Kept c ws d (claimed d h)
+    kept-direct = at (ℕ-discrete (topSource d h) 0)
+      where
+        at : Dec (topSource d h ≡ 0) → Kept c ws d (claimed d h)
+        at (yes z) = rw (direct.claimed-none d h m z) kept-unforced
+        at (no n) =
+            rw (direct.claimed-some d h m n)
+            (kept-released (topSource d h) (omega (arith, n)) (topSource-lt d h))
+
+  pub kept-claimed : (h : ℕ) → h < 4 → Kept c ws d (claimed d h)
+  kept-claimed h l =
+      tested (byMessages d) (λ t. rw (direct.claimed-messages d h t) (kept-none c ws d s)) (kept-direct h l)
+
+  pub kept-claimedBy : (r : Word) → Kept c ws d (claimedBy d r)
+  kept-claimedBy r =
+      tested (ltb (claimHart r) 4)
+      (λ t. let l = ltb-true (claimHart r) 4 t in rw (claimed-by d r l) (kept-claimed (claimHart r) l))
+      (λ f. rw (claimed-none d r (ltb-false (claimHart r) 4 f)) (kept-none c ws d s))
+
+-- ---- nothing new to send: only a claim in direct mode changes anything, and such a domain sends nothing
+
+module _ (d : Domain) (h : ℕ) (m : byMessages d ≡ false) where
+  unforced-direct : byMessages (unforced d h) ≡ false
+  unfolding unforced
+  unforced-direct = byMessages-withStructure d h (withoutForce (structureAt d h)) ∙ m
+
+  released-direct : (i : ℕ) → 1 ≤ i → byMessages (released d i) ≡ false
+  unfolding released
+  released-direct i l = byMessages-withSource d i (cleared (sourceAt d i) false) l ∙ m
+
+  claimed-direct : byMessages (claimed d h) ≡ false
+  claimed-direct = at (ℕ-discrete (topSource d h) 0)
+    where
+      at : Dec (topSource d h ≡ 0) → byMessages (claimed d h) ≡ false
+      at (yes z) = rw (direct.claimed-none d h m z) unforced-direct
+      at (no n) =
+          rw (direct.claimed-some d h m n) (released-direct (topSource d h) (omega (arith, n)))
+
+module _ (d : Domain) (q : Quiet d) where
+  quiet-claimed : (h : ℕ) → Quiet (claimed d h)
+  quiet-claimed h =
+      tested (byMessages d) (λ t. rw (direct.claimed-messages d h t) q)
+      (λ f. quiet-direct (claimed d h) (claimed-direct d h f))
+
+  pub quiet-claimedBy : (r : Word) → Quiet (claimedBy d r)
+  quiet-claimedBy r =
+      tested (ltb (claimHart r) 4)
+      (λ t. rw (claimed-by d r (ltb-true (claimHart r) 4 t)) (quiet-claimed (claimHart r)))
+      (λ f. rw (claimed-none d r (ltb-false (claimHart r) 4 f)) q)

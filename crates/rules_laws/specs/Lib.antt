@@ -1,0 +1,2 @@
+-- What the laws of the state rules speak of. Assumes nothing.
+pub mod Steady
