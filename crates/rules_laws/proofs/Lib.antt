@@ -8,3 +8,7 @@ pub mod RegisterEffects
 pub mod ReadEffects
 pub mod PassEffects
 pub mod SourceEffects
+pub mod WiredEffects
+pub mod DelegationEffects
+pub mod WiredQuietEffects
+pub mod WiredSameEffects

@@ -1,0 +1,110 @@
+-- What can be sent after a change to a controller that has sent all: a wire changes one domain at most, a
+-- write leaves the other domain with all sent, and a read or a write to genmsi leaves both so. No contract
+-- cites this file. Assumes nothing.
+use Prim.Native.Nat.{ℕ, _≤_, _<_}
+use mathlib.Core.Path.{_≡_, refl}
+use mathlib.Core.Bool.{Bool, true, false, Bool·beq, not}
+use mathlib.Core.Logic.{_⊎_, inl, inr, ⊎-elim}
+use native.Mathlib.Decide.{ℕ-discrete}
+use native.Mathlib.Omega.{arith}
+use lib.Dec.{eqb, leb}
+use borrow.Author.Tests.{eqb-true, leb-true}
+use Rattle.words.specs.Sets.{member}
+use Rattle.words.proofs.TestsLaws.{tested, or-cases}
+use Rattle.mode.specs.Mode.{sourceWord}
+use Rattle.mode.proofs.ModeLaws.{active-zero}
+use Rattle.region.specs.Region.{Within}
+use Rattle.region.specs.declared.Word.{Word}
+use Rattle.region.specs.declared.Word.the-variants.{Genmsi}
+use Rattle.domain.specs.Domain.{Domain}
+use Rattle.domain.specs.Slot.{sourceAt}
+use Rattle.registers.specs.Read.{claimedBy}
+use Rattle.registers.specs.Write.{registerWritten}
+use Rattle.wired.specs.Wired.{Wired, domainIn, withDomain, claimedIn, partWritten, wireSet, isDelegated}
+use Rattle.wired.specs.Wired.{childWritten, rootWritten, sourceWritten, sourceOf, writtenIn}
+use Rattle.wired.proofs.WiredLaws.{root-stays, root-moves, source-below, written-part, written-source}
+use Rattle.rules.specs.Rules.{delegatedRule}
+use Rattle.rules_laws.specs.Steady.{Quiet, WiredSteady, WiredQuiet}
+use Rattle.rules_laws.proofs.QuietEffects.{quiet-started}
+use Rattle.rules_laws.proofs.ConfigEffects.{quiet-generatedWritten}
+use Rattle.rules_laws.proofs.ReadEffects.{quiet-claimedBy}
+use Rattle.rules_laws.proofs.SourceEffects.{active-high, sourceWired-inactive}
+use Rattle.rules_laws.proofs.WiredEffects.{steady-domainIn}
+
+-- ---- a wire: a source is active in one domain at most
+
+module _ (w : Wired) (i : ℕ) (level : Bool) where
+  wire-delegated : isDelegated w i ≡ true → wireSet w i level .root ≡ w .root
+  unfolding wireSet isDelegated
+  wire-delegated t =
+      sourceWired-inactive (w .root) i (member (w .wires) i) level
+      (active-high (sourceAt (w .root) i .mode) (leb-true 1024 (sourceAt (w .root) i .mode) t))
+
+  wire-own : eqb (sourceAt (w .child) i .mode) 0 ≡ true → wireSet w i level .child ≡ w .child
+  unfolding wireSet
+  wire-own t =
+      sourceWired-inactive (w .child) i (member (w .wires) i) level
+      (active-zero (sourceAt (w .child) i .mode) (eqb-true (sourceAt (w .child) i .mode) 0 t))
+
+  pub wireSet-one : WiredSteady w → 1 ≤ i → i < 64
+      → (wireSet w i level .root ≡ w .root) ⊎ (wireSet w i level .child ≡ w .child)
+  unfolding delegatedRule
+  wireSet-one s l h =
+      ⊎-elim (λ t. inl (wire-delegated t)) (λ t. inr (wire-own t))
+      (or-cases (isDelegated w i) (eqb (sourceAt (w .child) i .mode) 0) (s .delegated i l h))
+
+-- ---- one domain replaced
+
+pub other-withDomain : (w : Wired) (c : Bool) (d : Domain)
+    → domainIn (withDomain w c d) (not c) ≡ domainIn w (not c)
+unfolding domainIn withDomain
+other-withDomain w true d = refl
+other-withDomain w false d = refl
+
+module _ (w : Wired) (q : WiredQuiet w) where
+  pub quiet-domainIn : (c : Bool) → Quiet (domainIn w c)
+  unfolding domainIn
+  quiet-domainIn true = q .child
+  quiet-domainIn false = q .root
+
+  quiet-withDomain : (c : Bool) (d : Domain) → Quiet d → WiredQuiet (withDomain w c d)
+  unfolding withDomain
+  quiet-withDomain true d e = record { root = q .root; child = e }
+  quiet-withDomain false d e = record { root = e; child = q .child }
+
+  pub quiet-claimedIn : (c : Bool) (r : Word) → WiredQuiet (claimedIn w c r)
+  quiet-claimedIn c r =
+      quiet-withDomain c (claimedBy (domainIn w c) r) (quiet-claimedBy (domainIn w c) (quiet-domainIn c) r)
+
+  module _ (s : WiredSteady w) where
+    pub quiet-genmsi : (c : Bool) (v : ℕ) → WiredQuiet (partWritten w c Genmsi v)
+    unfolding registerWritten
+    quiet-genmsi c v =
+        quiet-withDomain c (registerWritten c (domainIn w c) (w .wires) Genmsi v)
+        (quiet-generatedWritten c (w .wires) (domainIn w c) (steady-domainIn w s c) v (quiet-domainIn c))
+
+    -- ---- a write: the other domain
+
+    module _ (i : ℕ) (l : 1 ≤ i) (h : i < 64) (v : ℕ) where
+      other-rootWritten : Quiet (rootWritten w i v .child)
+      other-rootWritten =
+          tested (Bool·beq (isDelegated w i) (leb 1024 (sourceWord false false v)))
+          (λ t. rw (root-stays w i v t) (q .child))
+          (λ f. rw (root-moves w i v f) (quiet-started (w .child) (q .child) i (s .child .shaped) l h))
+
+      other-sourceWritten : (c : Bool) → Quiet (domainIn (sourceWritten w c i v) (not c))
+      unfolding domainIn sourceWritten childWritten
+      other-sourceWritten true = q .root
+      other-sourceWritten false = other-rootWritten
+
+    pub quiet-other : (c : Bool) (r : Word) → Within r → (v : ℕ)
+        → Quiet (domainIn (writtenIn w c r v) (not c))
+    quiet-other c r b v = at (ℕ-discrete (sourceOf r) 0)
+      where
+        at : Dec (sourceOf r ≡ 0) → Quiet (domainIn (writtenIn w c r v) (not c))
+        at (yes z) =
+            let d = registerWritten c (domainIn w c) (w .wires) r v in
+            rw (written-part w c r v z, other-withDomain w c d) (quiet-domainIn (not c))
+        at (no n) =
+            rw (written-source w c r v n)
+            (other-sourceWritten (sourceOf r) (omega (arith, n)) (source-below r b) v c)
