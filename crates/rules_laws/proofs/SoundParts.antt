@@ -13,10 +13,10 @@ use Rattle.domain.specs.Slot.{sourceAt}
 use Rattle.domain_laws.specs.Shape.{Shaped}
 use Rattle.wired.specs.Wired.{Wired}
 use Rattle.source_rules.specs.SourceRules.{sourceSteady, sentRule, sourceSound}
-use Rattle.rules.specs.Every.{every}
+use Rattle.words.specs.Every.{every}
 use Rattle.rules.specs.Rules.{configRange, generatedRange, structureRange, zeroRule, generatedRule}
 use Rattle.rules.specs.Rules.{sourceRule, domainSound, delegatedRule, wiredSound}
-use Rattle.rules.proofs.EveryLaws.{every-each, every-of}
+use Rattle.words.proofs.EveryLaws.{every-each, every-of}
 use Rattle.rules_laws.specs.Steady.{Steady, sends, Quiet, WiredSteady, WiredQuiet}
 
 -- ---- a joined test
