@@ -43,6 +43,14 @@ pub keptConfig-back : (v : ℕ) → keptConfig (keptConfig v) ≡ keptConfig v
 unfolding keptConfig packed fieldOf
 keptConfig-back v = omega arith
 
+keptConfig-lt : (v : ℕ) → keptConfig v < 0x80000000
+unfolding keptConfig packed fieldOf
+keptConfig-lt v = omega arith
+
+-- a stored domaincfg leaves bits 31:24 free, which read 0x80
+pub config-low : {c : Bool} {ws : List ℕ} {d : Domain} → Steady c ws d → configOf d < 0x80000000
+config-low {d = d} s = omega (arith, steady-config s, keptConfig-lt (configOf d))
+
 keptGenerated-zero : keptGenerated 0 ≡ 0
 unfolding keptGenerated hartOf numberOf packed fieldOf
 keptGenerated-zero = refl

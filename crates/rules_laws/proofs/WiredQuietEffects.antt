@@ -2,7 +2,7 @@
 -- write leaves the other domain with all sent, and a read or a write to genmsi leaves both so. No contract
 -- cites this file. Assumes nothing.
 use Prim.Native.Nat.{ℕ, _≤_, _<_}
-use mathlib.Core.Path.{_≡_, refl}
+use mathlib.Core.Path.{_≡_, refl, sym, subst}
 use mathlib.Core.Bool.{Bool, true, false, Bool·beq, not}
 use mathlib.Core.Logic.{_⊎_, inl, inr, ⊎-elim}
 use native.Mathlib.Decide.{ℕ-discrete}
@@ -82,6 +82,10 @@ module _ (w : Wired) (q : WiredQuiet w) where
     quiet-genmsi c v =
         quiet-withDomain c (registerWritten c (domainIn w c) (w .wires) Genmsi v)
         (quiet-generatedWritten c (w .wires) (domainIn w c) (steady-domainIn w s c) v (quiet-domainIn c))
+
+    pub quiet-writtenIn-genmsi : (c : Bool) (v : ℕ) → WiredQuiet (writtenIn w c Genmsi v)
+    unfolding sourceOf
+    quiet-writtenIn-genmsi c v = subst WiredQuiet (sym (written-part w c Genmsi v refl)) (quiet-genmsi c v)
 
     -- ---- a write: the other domain
 

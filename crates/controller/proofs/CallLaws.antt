@@ -1,0 +1,112 @@
+-- What is to be sent after each change of a controller that keeps the rules: nothing by one domain at least.
+-- No contract cites this file. Assumes nothing.
+use Prim.Native.Nat.{ℕ, _≤_, _<_}
+use mathlib.Core.Path.{_≡_, refl, sym, ap, subst, _∙_}
+use mathlib.Core.Bool.{Bool, true, false, not, false≢true}
+use mathlib.Core.List.{List, [], _++_}
+use mathlib.Core.Logic.{_⊎_, inl, inr}
+use lib.ListN.{length, take, drop}
+use Rattle.region.specs.Region.{Within}
+use Rattle.region.specs.declared.Word.{Word}
+use Rattle.region.specs.declared.Word.the-variants.{Domaincfg, Sourcecfg, Setip, Setipnum, InClrip, Clripnum}
+use Rattle.region.specs.declared.Word.the-variants.{Setie, Setienum, Clrie, Clrienum, SetipnumLe, SetipnumBe}
+use Rattle.region.specs.declared.Word.the-variants.{Genmsi, Target, Idelivery, Iforce, Ithreshold, Topi}
+use Rattle.region.specs.declared.Word.the-variants.{Claimi, Unused}
+use Rattle.domain.specs.Domain.{Domain}
+use Rattle.domain_laws.specs.Shape.{Shaped}
+use Rattle.domain_laws.proofs.SlotEffects.{domainOf-shaped}
+use Rattle.wired.specs.Wired.{Wired, wiredOf, wireSet, writtenIn, claimedIn}
+use Rattle.wired.proofs.WiredLaws.{domain-root, domain-child, root-part, child-part, root-long, child-long}
+use Rattle.wired.proofs.WiredLaws.{wires-read}
+use Rattle.rules.specs.Rules.{wiredSound}
+use Rattle.sending.specs.Sending.{Sent, sent, sentNothing}
+use Rattle.rules_laws.specs.Steady.{Quiet, WiredSteady, WiredQuiet}
+use Rattle.rules_laws.proofs.SoundParts.{wired-sound-steady, wired-sound-quiet}
+use Rattle.rules_laws.proofs.PassEffects.{sent-again}
+use Rattle.rules_laws.proofs.WiredQuietEffects.{wireSet-one, quiet-claimedIn, quiet-writtenIn-genmsi}
+use Rattle.rules_laws.proofs.WiredQuietEffects.{quiet-other}
+use Rattle.controller.specs.Controller.{Out, flushed, isGenmsi, readCall, OneSends}
+
+-- 290 words that keep the rules
+module _ (l : List ℕ) (long : length l ≡ 290) (sound : wiredSound (wiredOf l) ≡ true) where
+  pub words-steady : WiredSteady (wiredOf l)
+  words-steady =
+      wired-sound-steady (wiredOf l) sound (ap length (sym (wires-read l long)))
+      (subst Shaped (root-part l long) (domainOf-shaped (take 144 (drop 2 l)) (root-long l long)))
+      (subst Shaped (child-part l long) (domainOf-shaped (take 144 (drop 146 l)) (child-long l long)))
+
+  pub words-quiet : WiredQuiet (wiredOf l)
+  words-quiet = wired-sound-quiet (wiredOf l) sound
+
+-- a controller of which both domains have sent all
+pub flushed-quiet : (w : Wired) → WiredQuiet w → flushed w ≡ record { wired = w; messages = [] }
+unfolding flushed
+flushed-quiet w q =
+    let a = sent-again false (w .root) (q .root) in
+    let b = sent-again true (w .child) (q .child) in
+    λ k. record {
+      wired = record { wires = w .wires; root = a k .domain; child = b k .domain };
+      messages = a k .messages ++ b k .messages;
+    }
+
+-- ---- one domain at most sends
+
+silent-root : (w : Wired) → Quiet (w .root) → OneSends w
+silent-root w q = inl (ap (λ (x : Sent). x .messages) (sent-again false (w .root) q))
+
+silent-child : (w : Wired) → Quiet (w .child) → OneSends w
+silent-child w q = inr (sent-again true (w .child) q)
+
+module _ (w : Wired) (s : WiredSteady w) (q : WiredQuiet w) where
+  pub one-wireSet : (i : ℕ) → 1 ≤ i → i < 64 → (level : Bool) → OneSends (wireSet w i level)
+  one-wireSet i l h level = at (wireSet-one w i level s l h)
+    where
+      at : (wireSet w i level .root ≡ w .root) ⊎ (wireSet w i level .child ≡ w .child)
+          → OneSends (wireSet w i level)
+      at (inl e) = silent-root (wireSet w i level) (subst Quiet (sym e) (q .root))
+      at (inr e) = silent-child (wireSet w i level) (subst Quiet (sym e) (q .child))
+
+  pub one-writtenIn : (c : Bool) (r : Word) → Within r → (v : ℕ) → OneSends (writtenIn w c r v)
+  one-writtenIn true r b v =
+      let after = writtenIn w true r v in
+      silent-root after (subst Quiet (domain-root after false refl) (quiet-other w q s true r b v))
+  one-writtenIn false r b v =
+      let after = writtenIn w false r v in
+      silent-child after (subst Quiet (domain-child after true refl) (quiet-other w q s false r b v))
+
+-- ---- a read, and a write to genmsi
+
+genmsi-only : (r : Word) → isGenmsi r ≡ true → r ≡ Genmsi
+unfolding isGenmsi
+genmsi-only Domaincfg e = absurd (false≢true e)
+genmsi-only (Sourcecfg i) e = absurd (false≢true e)
+genmsi-only (Setip k) e = absurd (false≢true e)
+genmsi-only Setipnum e = absurd (false≢true e)
+genmsi-only (InClrip k) e = absurd (false≢true e)
+genmsi-only Clripnum e = absurd (false≢true e)
+genmsi-only (Setie k) e = absurd (false≢true e)
+genmsi-only Setienum e = absurd (false≢true e)
+genmsi-only (Clrie k) e = absurd (false≢true e)
+genmsi-only Clrienum e = absurd (false≢true e)
+genmsi-only SetipnumLe e = absurd (false≢true e)
+genmsi-only SetipnumBe e = absurd (false≢true e)
+genmsi-only Genmsi e = refl
+genmsi-only (Target i) e = absurd (false≢true e)
+genmsi-only (Idelivery h) e = absurd (false≢true e)
+genmsi-only (Iforce h) e = absurd (false≢true e)
+genmsi-only (Ithreshold h) e = absurd (false≢true e)
+genmsi-only (Topi h) e = absurd (false≢true e)
+genmsi-only (Claimi h) e = absurd (false≢true e)
+genmsi-only Unused e = absurd (false≢true e)
+
+module _ (w : Wired) (s : WiredSteady w) (q : WiredQuiet w) where
+  pub read-silent : (c : Bool) (r : Word) → readCall w c r ≡ record { wired = claimedIn w c r; messages = [] }
+  unfolding readCall
+  read-silent c r = flushed-quiet (claimedIn w c r) (quiet-claimedIn w q c r)
+
+  pub genmsi-silent : (c : Bool) (r : Word) → isGenmsi r ≡ true → (v : ℕ)
+      → flushed (writtenIn w c r v) ≡ record { wired = writtenIn w c r v; messages = [] }
+  genmsi-silent c r e v =
+      flushed-quiet (writtenIn w c r v)
+      (subst (λ (x : Word). WiredQuiet (writtenIn w c x v)) (sym (genmsi-only r e))
+      (quiet-writtenIn-genmsi w q s c v))

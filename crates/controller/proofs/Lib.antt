@@ -1,0 +1,3 @@
+-- The laws of the wired controller's calls. Assumes nothing.
+pub mod CallLaws
+pub mod ControllerLaws

@@ -1,0 +1,92 @@
+-- `controller::calls::generate` meets its contract: no genmsi, one of the child, one of the machine domain.
+-- Assumes nothing.
+use mathlib.Core.Path.{sym, _∙_}
+use mathlib.Core.Bool.{true, false}
+use borrow.Author.Tests.{not-true, not-false}
+use Rattle.wired.specs.Wired.{wiredOf}
+use Rattle.wired.proofs.WiredLaws.{root-part, child-part, domain-root, domain-child}
+use Rattle.controller.proofs.ControllerLaws.{answered-else, answered-genmsi}
+use borrow.Author.Needs.{needs}
+use Rattle.controller.proofs.calls.generate.Statement.{statement}
+use Rattle.controller.proofs.calls.generate.Tie as tie
+
+is-genmsi-requires : tie.Need-is-genmsi-requires
+is-genmsi-requires c κs = search needs
+
+returns : tie.Need-returns
+returns c =
+    let args = c .before .before .before .before .args in
+    answered-else _ _ _ _ (sym (c .before .is-genmsi .ensures) ∙ not-true _ (c .if1 .taken)) (args .log .now)
+
+sub-send-generated : tie.Need-sub-send-generated
+sub-send-generated c = search needs
+
+part-send-generated-start : tie.Need-part-send-generated-start
+part-send-generated-start c = search needs
+
+part-send-generated-end : tie.Need-part-send-generated-end
+part-send-generated-end c = search needs
+
+send-generated-requires : tie.Need-send-generated-requires
+send-generated-requires c κs = search needs
+
+same-length : tie.Need-same-length
+same-length c = search needs
+
+returns-2 : tie.Need-returns-2
+returns-2 c =
+    let at-call = c .before .before in
+    let at-side = at-call .before .before .before in
+    let at-test = at-side .before in
+    let start = at-test .before .before .before .before in
+    let l = start .args .w .now in
+    answered-genmsi _ _ _ _ (sym (at-test .before .is-genmsi .ensures) ∙ not-false _ (at-test .if1 .left))
+    true (at-side .if2 .taken) _
+    (child-part l (start .pre .0) ∙ sym (domain-child (wiredOf l) (start .args .child) (at-side .if2 .taken)))
+    (start .args .log .now) _ _ (at-call .send-generated .ensures)
+
+sub-send-generated-2 : tie.Need-sub-send-generated-2
+sub-send-generated-2 c = search needs
+
+part-send-generated-start-2 : tie.Need-part-send-generated-start-2
+part-send-generated-start-2 c = search needs
+
+part-send-generated-end-2 : tie.Need-part-send-generated-end-2
+part-send-generated-end-2 c = search needs
+
+send-generated-requires-2 : tie.Need-send-generated-requires-2
+send-generated-requires-2 c κs = search needs
+
+same-length-2 : tie.Need-same-length-2
+same-length-2 c = search needs
+
+returns-3 : tie.Need-returns-3
+returns-3 c =
+    let at-call = c .before .before in
+    let at-side = at-call .before .before .before in
+    let at-test = at-side .before in
+    let start = at-test .before .before .before .before in
+    let l = start .args .w .now in
+    answered-genmsi _ _ _ _ (sym (at-test .before .is-genmsi .ensures) ∙ not-false _ (at-test .if1 .left))
+    false (at-side .if2 .left) _
+    (root-part l (start .pre .0) ∙ sym (domain-root (wiredOf l) (start .args .child) (at-side .if2 .left)))
+    (start .args .log .now) _ _ (at-call .send-generated2 .ensures)
+
+pub generate-spec : {M : Type 1} → statement M
+generate-spec =
+    tie.close
+    (tie.spec
+    is-genmsi-requires
+    returns
+    sub-send-generated
+    part-send-generated-start
+    part-send-generated-end
+    send-generated-requires
+    same-length
+    returns-2
+    sub-send-generated-2
+    part-send-generated-start-2
+    part-send-generated-end-2
+    send-generated-requires-2
+    same-length-2
+    returns-3)

@@ -1,0 +1,93 @@
+// A wire set, a register read or written, with what is then sent. Messages come first in `log`.
+ghost use mathlib.Core.Path.{_≡_};
+ghost use mathlib.Core.Bool.{true};
+ghost use Prim.Native.Nat.{_≤_, _<_};
+ghost use lib.ListN.{length};
+ghost use Rattle.region.specs.Region.{Within};
+ghost use Rattle.wired.specs.Wired.{wiredOf, domainIn, readIn};
+ghost use Rattle.rules.specs.Rules.{wiredSound};
+ghost use Rattle.sending.specs.Sending.{logged};
+ghost use Rattle.controller.specs.Controller.{isGenmsi, generatedBy, wireCall, readCall, writeCall};
+ghost use Rattle.controller.specs.Controller.{Leaves};
+use super::pass::flush;
+use genmsi::send_generated;
+use region::Word;
+
+// Answers the number of messages.
+pub fn set_wire(w: &mut [u32], log: &mut [u32], i: usize, level: bool) -> usize
+    requires { ⌜ (length (now w) ≡ 290) × (length (now log) ≡ 63) × (1 ≤ i) × (i < 64)
+        × (wiredSound (wiredOf (now w)) ≡ true) ⌝ }
+    ensures { λ r. ⌜ Leaves (wireCall (wiredOf (now (w .entry))) i level) (wiredOf (now (w .exit)))
+        (now (log .entry)) (now (log .exit)) r ⌝ }
+{
+    wired::set_wire(w, i, level);
+    flush(w, log)
+}
+
+// Nothing is sent: a claim can only clear a pending bit.
+pub fn read(w: &mut [u32], child: bool, word: Word) -> u32
+    requires { ⌜ (length (now w) ≡ 290) × Within word × (wiredSound (wiredOf (now w)) ≡ true) ⌝ }
+    ensures { λ r. ⌜ (r ≡ readIn (wiredOf (now (w .entry))) child word)
+        × (wiredOf (now (w .exit)) ≡ readCall (wiredOf (now (w .entry))) child word .wired) ⌝ }
+{
+    wired::read(w, child, word)
+}
+
+fn is_genmsi(word: Word) -> bool
+    ensures { λ r. ⌜ r ≡ isGenmsi word ⌝ }
+{
+    match word {
+        Word::Domaincfg => false,
+        Word::Sourcecfg(_) => false,
+        Word::Setip(_) => false,
+        Word::Setipnum => false,
+        Word::InClrip(_) => false,
+        Word::Clripnum => false,
+        Word::Setie(_) => false,
+        Word::Setienum => false,
+        Word::Clrie(_) => false,
+        Word::Clrienum => false,
+        Word::SetipnumLe => false,
+        Word::SetipnumBe => false,
+        Word::Genmsi => true,
+        Word::Target(_) => false,
+        Word::Idelivery(_) => false,
+        Word::Iforce(_) => false,
+        Word::Ithreshold(_) => false,
+        Word::Topi(_) => false,
+        Word::Claimi(_) => false,
+        Word::Unused => false,
+    }
+}
+
+// The message of a write to genmsi, which is sent at once.
+fn generate(w: &[u32], log: &mut [u32], child: bool, word: Word, value: u32) -> usize
+    requires { ⌜ (length (now w) ≡ 290) × (length (now log) ≡ 63) ⌝ }
+    ensures { λ r.
+        ⌜ (now (log .exit) ≡ logged (now (log .entry))
+        (generatedBy child (domainIn (wiredOf (now (w .entry))) child) word value))
+        × (r ≡ length (generatedBy child (domainIn (wiredOf (now (w .entry))) child) word value)) ⌝ }
+{
+    if !is_genmsi(word) {
+        return 0;
+    }
+    if child {
+        return send_generated(&w[146..290], true, value, log);
+    }
+    send_generated(&w[2..146], false, value, log)
+}
+
+// Answers the number of messages. That of a genmsi is the only one of its call.
+pub fn write(w: &mut [u32], log: &mut [u32], child: bool, word: Word, value: u32) -> usize
+    requires { ⌜ (length (now w) ≡ 290) × (length (now log) ≡ 63) × Within word
+        × (wiredSound (wiredOf (now w)) ≡ true) ⌝ }
+    ensures { λ r. ⌜ Leaves (writeCall (wiredOf (now (w .entry))) child word value) (wiredOf (now (w .exit)))
+        (now (log .entry)) (now (log .exit)) r ⌝ }
+{
+    let n = generate(w, log, child, word, value);
+    wired::write(w, child, word, value);
+    if n != 0 {
+        return n;
+    }
+    flush(w, log)
+}
