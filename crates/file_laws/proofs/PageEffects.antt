@@ -10,7 +10,7 @@ use lib.Dec.{eqb, leb}
 use lib.ListN.{length}
 use borrow.Author.Tests.{eq-eqb, ne-eqb, leb-true}
 use Rattle.words.specs.Sets.{member, insert}
-use Rattle.words.proofs.SetsLaws.{member-insert-same, member-insert-other}
+use Rattle.words.proofs.SetsLaws.{member-insert-same, member-insert-other, length-insert}
 use Rattle.words.proofs.TestsLaws.{tested, and-second}
 use Rattle.file.specs.declared.File.{File}
 use Rattle.file.specs.Parts.{withDelivery, withPending}
@@ -25,7 +25,7 @@ module _ (n : ℕ) (f : File) (i : ℕ) where
   unfolding arrived
   arrived-named e = simp e
 
-  arrived-ignored : names ≡ false → arrived n f i ≡ f
+  pub arrived-ignored : names ≡ false → arrived n f i ≡ f
   unfolding arrived
   arrived-ignored e = simp e
 
@@ -61,6 +61,12 @@ module _ (n : ℕ) (f : File) (i : ℕ) where
         ap (λ (g : File). g .threshold) (arrived-ignored u),
         ap (λ (g : File). g .enable) (arrived-ignored u),
       ))
+
+  pub arrived-length : length (arrived n f i .pending) ≡ length (f .pending)
+  arrived-length =
+      tested names
+      (λ t. ap (λ (g : File). length (g .pending)) (arrived-named t) ∙ length-insert (f .pending) i)
+      (λ u. ap (λ (g : File). length (g .pending)) (arrived-ignored u))
 
 -- arrival does not look at delivery
 pub arrived-delivery : (n : ℕ) (f : File) (i d : ℕ)

@@ -1,6 +1,6 @@
 -- A file stored is loaded again, a block keeps what stands elsewhere, and a file loaded has the shape. No
--- contract cites this file.
--- Assumes nothing.
+-- contract cites this file. Assumes nothing.
+--   Long f    f has eight words in each of its sets
 use Prim.Native.Nat.{ℕ, zero, suc, _+_, _-_, _^_, _≤_, _<_}
 use mathlib.Core.Path.{_≡_, refl, sym, ap, ap₂, _∙_, subst}
 use mathlib.Core.List.{List, [], _∷_, _++_, append-assoc}
@@ -40,12 +40,12 @@ sets-inside (v ∷ vs) l at (suc k) h m =
     ap (λ (i : ℕ). getD (sets (set l at v) (suc at) vs) i 0) (omega arith)
     ∙ sets-inside vs (set l at v) (suc at) k (rw length-set (omega arith)) (omega arith)
 
--- ---- a file in a block
+-- ---- a stretch of a block
 
 part-at : (l : List ℕ) (at n i : ℕ) → i < n → getD (take n (drop at l)) i 0 ≡ getD l (at + i) 0
 part-at l at n i h = getD-take n (drop at l) i 0 h ∙ getD-drop at l i 0
 
-part-length : (l : List ℕ) (at n : ℕ) → at + n ≤ length l → length (take n (drop at l)) ≡ n
+pub part-length : (l : List ℕ) (at n : ℕ) → at + n ≤ length l → length (take n (drop at l)) ≡ n
 part-length l at n h = simp (length-take, length-drop) (omega arith)
 
 -- two stretches of n words are equal if their words are
@@ -64,23 +64,33 @@ part-is l ws at n hl hw h =
     ext-getD 0 (take n (drop at l)) ws (part-length l at n hl ∙ sym hw)
     (λ i q. let b : i < n = omega (arith, part-length l at n hl) in part-at l at n i b ∙ h i b)
 
+-- ---- a file in a block
+
 -- two files are equal if their parts are
-file-path : {f h : File} → f .delivery ≡ h .delivery → f .threshold ≡ h .threshold → f .pending ≡ h .pending
-    → f .enable ≡ h .enable → f ≡ h
+pub file-path : {f h : File} → f .delivery ≡ h .delivery → f .threshold ≡ h .threshold
+    → f .pending ≡ h .pending → f .enable ≡ h .enable → f ≡ h
 file-path d t p e = λ k. record { delivery = d k; threshold = t k; pending = p k; enable = e k }
 
-words-long : (f : File) → Shaped f → length (fileWords f) ≡ 18
+-- nothing else of its shape is asked of a file that is stored
+pub record Long (f : File) : Type 0 where
+  pub pendingLong : length (f .pending) ≡ 8
+  pub enableLong : length (f .enable) ≡ 8
+
+pub shaped-long : (f : File) → Shaped f → Long f
+shaped-long f s = record { pendingLong = s .pendingLong; enableLong = s .enableLong }
+
+pub words-long : (f : File) → Long f → length (fileWords f) ≡ 18
 unfolding fileWords
 words-long f s = omega (arith, length-append (f .pending) (f .enable), s .pendingLong, s .enableLong)
 
-words-pending : (f : File) → Shaped f → (i : ℕ) → i < 8 → getD (fileWords f) (2 + i) 0 ≡ getD (f .pending) i 0
+words-pending : (f : File) → Long f → (i : ℕ) → i < 8 → getD (fileWords f) (2 + i) 0 ≡ getD (f .pending) i 0
 unfolding fileWords
 words-pending f s i h =
     let place : 2 + i ≡ suc (suc i) = omega arith in
     ap (λ (k : ℕ). getD (fileWords f) k 0) place
     ∙ List·getD-append (f .pending) (f .enable) 0 i (omega (arith, s .pendingLong))
 
-words-enable : (f : File) → Shaped f → (i : ℕ) → i < 8 → getD (fileWords f) (10 + i) 0 ≡ getD (f .enable) i 0
+words-enable : (f : File) → Long f → (i : ℕ) → i < 8 → getD (fileWords f) (10 + i) 0 ≡ getD (f .enable) i 0
 unfolding fileWords
 words-enable f s i h =
     let place : 10 + i ≡ suc (suc (length (f .pending) + i)) = omega (arith, s .pendingLong) in
@@ -92,16 +102,16 @@ module _ (l : List ℕ) (at : ℕ) (f : File) where
   length-put = length-sets l at (fileWords f)
 
   -- word k of the file, where it stands in the block
-  put-word : Shaped f → at + 18 ≤ length l → (k : ℕ) → k < 18
+  put-word : Long f → at + 18 ≤ length l → (k : ℕ) → k < 18
       → getD (putFile l at f) (at + k) 0 ≡ getD (fileWords f) k 0
   unfolding putFile
   put-word s h k m =
       sets-inside (fileWords f) l at k (omega (arith, words-long f s)) (omega (arith, words-long f s))
 
   -- what was stored is loaded
-  pub file-back : Shaped f → at + 18 ≤ length l → fileAt (putFile l at f) at ≡ f
+  pub long-back : Long f → at + 18 ≤ length l → fileAt (putFile l at f) at ≡ f
   unfolding fileAt fileWords
-  file-back s h =
+  long-back s h =
       let m = putFile l at f in
       let place : (j i : ℕ) → j + i < 18 → getD m (at + j + i) 0 ≡ getD (fileWords f) (j + i) 0 =
       λ j i r. ap (λ (k : ℕ). getD m k 0) (add-assoc at j i) ∙ put-word s h (j + i) r in
@@ -114,11 +124,11 @@ module _ (l : List ℕ) (at : ℕ) (f : File) where
       (λ i q. place 10 i (omega arith) ∙ words-enable f s i q))
 
   -- a file that stands apart is as it was
-  pub file-apart : Shaped f → (at′ : ℕ) → at + 18 ≤ length l → at′ + 18 ≤ length l
+  pub long-apart : Long f → (at′ : ℕ) → at + 18 ≤ length l → at′ + 18 ≤ length l
       → (at′ + 18 ≤ at) ⊎ (at + 18 ≤ at′)
       → fileAt (putFile l at f) at′ ≡ fileAt l at′
   unfolding fileAt
-  file-apart s at′ h h′ apart =
+  long-apart s at′ h h′ apart =
       let m = putFile l at f in
       let same : (k : ℕ) → k < 18 → getD m (at′ + k) 0 ≡ getD l (at′ + k) 0 = λ k q. elsewhere k q apart in
       let stretch : (j : ℕ) → j + 8 ≤ 18 → take 8 (drop (at′ + j) m) ≡ take 8 (drop (at′ + j) l) = λ j q.
@@ -136,6 +146,15 @@ module _ (l : List ℕ) (at : ℕ) (f : File) where
           ⊎-elim (λ b. unfold putFile in sets-before (fileWords f) l at (at′ + k) (omega arith))
           (λ a. unfold putFile in sets-after (fileWords f) l at (at′ + k) (omega (arith, words-long f s)))
 
+  -- so of one with the whole shape
+  pub file-back : Shaped f → at + 18 ≤ length l → fileAt (putFile l at f) at ≡ f
+  file-back s = long-back (shaped-long f s)
+
+  pub file-apart : Shaped f → (at′ : ℕ) → at + 18 ≤ length l → at′ + 18 ≤ length l
+      → (at′ + 18 ≤ at) ⊎ (at + 18 ≤ at′)
+      → fileAt (putFile l at f) at′ ≡ fileAt l at′
+  file-apart s = long-apart (shaped-long f s)
+
 -- a stretch of a block has words of 32 bits if the block has
 part-fit : (l : List ℕ) (at n : ℕ) → WordsFit l → WordsFit (take n (drop at l))
 unfolding WordsFit
@@ -149,6 +168,14 @@ part-fit l at n fit k = place (decLt k n)
     place (no q) =
         subst (λ (x : ℕ). x < 2 ^ 32) (sym (List·getD-eq-default (take n (drop at l)) 0 (past q)))
         (omega arith)
+
+pub loaded-long : (l : List ℕ) (at : ℕ) → at + 18 ≤ length l → Long (fileAt l at)
+unfolding fileAt
+loaded-long l at h =
+    record {
+      pendingLong = part-length l (at + 2) 8 (omega arith);
+      enableLong = part-length l (at + 10) 8 (omega arith);
+    }
 
 -- a file loaded has the shape, where the block's words have 32 bits
 pub loaded-shaped : (l : List ℕ) (at : ℕ) → WordsFit l → at + 18 ≤ length l → Shaped (fileAt l at)
@@ -164,7 +191,7 @@ loaded-shaped l at fit h =
     }
 
 -- the words of a file loaded are the block's own
-words-loaded : (l : List ℕ) (at : ℕ) → at + 18 ≤ length l → take 18 (drop at l) ≡ fileWords (fileAt l at)
+pub words-loaded : (l : List ℕ) (at : ℕ) → at + 18 ≤ length l → take 18 (drop at l) ≡ fileWords (fileAt l at)
 unfolding fileWords fileAt
 words-loaded l at h =
     let next : at + 2 + 8 ≡ at + 10 = omega arith in

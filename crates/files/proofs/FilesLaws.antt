@@ -1,0 +1,147 @@
+-- Laws of specs/Files.antt: a file of the block, a file stored, and messages that reach their files. No
+-- contract cites this file. Assumes nothing.
+use Prim.Native.Nat.{ℕ, zero, suc, _+_, _*_, _%_, _≤_, _<_}
+use mathlib.Core.Path.{_≡_, refl, sym, ap, _∙_}
+use mathlib.Core.Logic.{_≢_, _⊎_, inl, inr}
+use mathlib.Core.List.{List, [], _∷_}
+use native.Mathlib.Decide.{ℕ-discrete, decLt}
+use native.Mathlib.Omega.{arith}
+use lib.Dec.{leb}
+use lib.ListN.{length, getD, set, take, length-set}
+use lib.Seq.{getD-set-same, getD-set-other, ext-getD}
+use Rattle.file.specs.declared.File.{File}
+use Rattle.file.specs.Size.{identities}
+use Rattle.file.specs.Page.{arrived}
+use Rattle.file.specs.Rules.{fileSound}
+use Rattle.file_laws.proofs.PageEffects.{arrived-length, arrived-rest}
+use Rattle.file_laws.proofs.Stored.{Long, long-back, long-apart, length-put, loaded-long}
+use Rattle.stored.specs.Stored.{fileAt, putFile}
+use Rattle.sending.specs.Delivered.{hartIn, fileIn, identityIn, place, delivered1, delivered, Named}
+use Rattle.sending.proofs.DeliveredLaws.{hartIn-lt, place-at, delivered1-put, delivered-none, delivered-next}
+use Rattle.sending.proofs.DeliveredLaws.{named-first, named-rest}
+use Rattle.files.specs.Files.{fileNumber, isGuest, zeroFile, filesFrom, filesOf, theFile, withFile}
+use Rattle.files.specs.Files.{namedBy, reached, allReached, soundAt}
+
+-- ---- one file of the block
+
+pub length-filesFrom : (l : List ℕ) (k n : ℕ) → length (filesFrom l k n) ≡ n
+unfolding filesFrom
+length-filesFrom l k zero = refl
+length-filesFrom l k (suc n) = ap suc (length-filesFrom l (suc k) n)
+
+pub length-filesOf : (l : List ℕ) → length (filesOf l) ≡ 20
+unfolding filesOf
+length-filesOf l = length-filesFrom l 0 20
+
+theFile-filesFrom : (l : List ℕ) (k n i : ℕ) → i < n → theFile (filesFrom l k n) i ≡ fileAt l (18 * (k + i))
+unfolding filesFrom theFile
+theFile-filesFrom l k zero i h = absurd (omega arith)
+theFile-filesFrom l k (suc n) zero h = ap (λ (j : ℕ). fileAt l (18 * j)) (omega arith)
+theFile-filesFrom l k (suc n) (suc i) h =
+    theFile-filesFrom l (suc k) n i (omega arith) ∙ ap (λ (j : ℕ). fileAt l (18 * j)) (omega arith)
+
+pub theFile-filesOf : (l : List ℕ) (k : ℕ) → k < 20 → theFile (filesOf l) k ≡ fileAt l (18 * k)
+unfolding filesOf
+theFile-filesOf l k h =
+    theFile-filesFrom l 0 20 k h ∙ ap (λ (j : ℕ). fileAt l (18 * j)) (omega arith)
+
+-- ---- one file replaced
+
+module _ (fs : List File) (k : ℕ) (f : File) where
+  pub length-withFile : length (withFile fs k f) ≡ length fs
+  unfolding withFile
+  length-withFile = length-set fs k f
+
+  pub theFile-withFile-same : k < length fs → theFile (withFile fs k f) k ≡ f
+  unfolding theFile withFile
+  theFile-withFile-same h = getD-set-same fs k f zeroFile h
+
+  pub theFile-withFile-other : (j : ℕ) → j ≢ k → theFile (withFile fs k f) j ≡ theFile fs j
+  unfolding theFile withFile
+  theFile-withFile-other j n = getD-set-other fs k j f zeroFile n
+
+-- two lists of files are equal if they have as many and file by file the same
+pub files-same : (fs gs : List File) → length fs ≡ length gs
+    → ((k : ℕ) → k < length fs → theFile fs k ≡ theFile gs k) → fs ≡ gs
+unfolding theFile
+files-same fs gs e h = ext-getD zeroFile fs gs e h
+
+apart : (i k : ℕ) → i ≢ k → (18 * i + 18 ≤ 18 * k) ⊎ (18 * k + 18 ≤ 18 * i)
+apart i k n = at (decLt i k)
+  where
+    at : Dec (i < k) → (18 * i + 18 ≤ 18 * k) ⊎ (18 * k + 18 ≤ 18 * i)
+    at (yes h) = inl (omega arith)
+    at (no h) = inr (omega arith)
+
+module _ (l : List ℕ) (long : length l ≡ 360) (k : ℕ) (h : k < 20) (f : File) (s : Long f) where
+  abbrev put : List ℕ
+  put = putFile l (18 * k) f
+
+  put-file : (i : ℕ) → i < 20 → Dec (i ≡ k) → fileAt put (18 * i) ≡ theFile (withFile (filesOf l) k f) i
+  put-file i hi (yes e) =
+      rw e (long-back l (18 * k) f s (omega arith)
+      ∙ sym (theFile-withFile-same (filesOf l) k f (omega (arith, length-filesOf l))))
+  put-file i hi (no n) =
+      long-apart l (18 * k) f s (18 * i) (omega arith) (omega arith) (apart i k n)
+      ∙ sym (theFile-withFile-other (filesOf l) k f i n ∙ theFile-filesOf l i hi)
+
+  -- a file stored in its place is that file replaced
+  pub filesOf-put : filesOf (putFile l (18 * k) f) ≡ withFile (filesOf l) k f
+  filesOf-put =
+      files-same (filesOf put) (withFile (filesOf l) k f)
+      (length-filesOf put ∙ sym (length-withFile (filesOf l) k f ∙ length-filesOf l))
+      (λ i q. let hi : i < 20 = omega (arith, length-filesOf put) in
+      theFile-filesOf put i hi ∙ put-file i hi (ℕ-discrete i k))
+
+-- ---- messages
+
+pub named-lt : (m : ℕ) → fileIn m < 5 → namedBy m < 20
+unfolding namedBy fileNumber
+named-lt m h = omega (arith, hartIn-lt m)
+
+place-named : (m : ℕ) → place m ≡ 18 * namedBy m
+unfolding namedBy fileNumber
+place-named m = place-at m
+
+arrived-long : (f : File) (i : ℕ) → Long f → Long (arrived identities f i)
+arrived-long f i s =
+    record {
+      pendingLong = arrived-length identities f i ∙ s .pendingLong;
+      enableLong = ap length (arrived-rest identities f i .2) ∙ s .enableLong;
+    }
+
+module _ (b : List ℕ) (long : length b ≡ 360) (m : ℕ) (exists : fileIn m < 5) where
+  pub length-delivered1 : length (delivered1 b m) ≡ 360
+  length-delivered1 =
+      ap length (delivered1-put b m)
+      ∙ length-put b (place m) (arrived 255 (fileAt b (place m)) (identityIn m)) ∙ long
+
+  -- one message in the block is one that reached its file
+  pub filesOf-delivered1 : filesOf (delivered1 b m) ≡ reached (filesOf b) m
+  unfolding reached
+  filesOf-delivered1 =
+      let k = namedBy m in
+      let h = named-lt m exists in
+      let f = arrived 255 (fileAt b (18 * k)) (identityIn m) in
+      rw (delivered1-put b m, place-named m, theFile-filesOf b k h)
+      (filesOf-put b long k h f (arrived-long (fileAt b (18 * k)) (identityIn m)
+      (loaded-long b (18 * k) (omega arith))))
+
+pub filesOf-delivered : (n : ℕ) (b l : List ℕ) → length b ≡ 360 → n ≤ length l → Named l n
+    → filesOf (delivered b (take n l)) ≡ allReached (filesOf b) (take n l)
+unfolding allReached
+filesOf-delivered zero b l long h named = ap filesOf (delivered-none b)
+filesOf-delivered (suc n) b [] long h named = absurd (omega arith)
+filesOf-delivered (suc n) b (m ∷ l) long h named =
+    let exists = named-first m l n named in
+    ap filesOf (delivered-next b m (take n l))
+    ∙ filesOf-delivered n (delivered1 b m) l (length-delivered1 b long m exists) (omega arith)
+    (named-rest m l n named)
+    ∙ ap (λ (fs : List File). allReached fs (take n l)) (filesOf-delivered1 b long m exists)
+
+-- ---- the state rules
+
+pub sound-read : (fs : List File) (k : ℕ) (f : File) → f ≡ theFile fs k
+    → fileSound identities (leb 2 (k % 5)) f ≡ soundAt fs k
+unfolding soundAt isGuest
+sound-read fs k f e = ap (fileSound identities (leb 2 (k % 5))) e

@@ -1,0 +1,68 @@
+-- The 20 message files of the board in their 360 words. 01, "The board"; the standard 3.5. Assumes nothing.
+--   fileNumber h f      the number of file f of hart h: machine 0, supervisor 1, guests 2 to 4
+--   isGuest k           file number k is a guest's
+--   zeroFile            a file with no bit set
+--   filesFrom l k n     n files of the block l from number k on
+--   filesOf l           the 20 files of the block l: file k stands from word 18 k on
+--   wordsOf fs          the words of the files fs, one after the other
+--   theFile fs k        file number k of fs; past the last, zeroFile
+--   withFile fs k f     fs with f as number k; past the last, fs
+--   namedBy m           the number of the file that the log word m names
+--   reached fs m        fs after the message m arrived at its file; identity 0 changes nothing
+--   allReached fs ms    fs after the messages ms, in order
+--   soundAt fs k        file number k keeps its own state rules
+--   filesSound fs       each of the 20 does
+use Prim.Native.Nat.{ℕ, zero, suc, _+_, _*_, _%_}
+use mathlib.Core.Bool.{Bool}
+use mathlib.Core.List.{List, [], _∷_, _++_}
+use lib.Dec.{leb}
+use lib.ListN.{getD, set, replicate}
+use Rattle.words.specs.Every.{every}
+use Rattle.file.specs.declared.File.{File}
+use Rattle.file.specs.Size.{identities}
+use Rattle.file.specs.Page.{arrived}
+use Rattle.file.specs.Rules.{fileSound}
+use Rattle.stored.specs.Stored.{fileWords, fileAt}
+use Rattle.sending.specs.Delivered.{hartIn, fileIn, identityIn}
+
+unfoldable pub fileNumber : ℕ → ℕ → ℕ
+fileNumber h f = 5 * h + f
+
+unfoldable pub isGuest : ℕ → Bool
+isGuest k = leb 2 (k % 5)
+
+unfoldable pub zeroFile : File
+zeroFile = record { delivery = 0; threshold = 0; pending = replicate 8 0; enable = replicate 8 0 }
+
+unfoldable pub filesFrom : List ℕ → ℕ → ℕ → List File
+filesFrom l k zero = []
+filesFrom l k (suc n) = fileAt l (18 * k) ∷ filesFrom l (suc k) n
+
+unfoldable pub filesOf : List ℕ → List File
+filesOf l = filesFrom l 0 20
+
+unfoldable pub wordsOf : List File → List ℕ
+wordsOf [] = []
+wordsOf (f ∷ fs) = fileWords f ++ wordsOf fs
+
+unfoldable pub theFile : List File → ℕ → File
+theFile fs k = getD fs k zeroFile
+
+unfoldable pub withFile : List File → ℕ → File → List File
+withFile fs k f = set fs k f
+
+unfoldable pub namedBy : ℕ → ℕ
+namedBy m = fileNumber (hartIn m) (fileIn m)
+
+unfoldable pub reached : List File → ℕ → List File
+reached fs m = withFile fs (namedBy m) (arrived identities (theFile fs (namedBy m)) (identityIn m))
+
+unfoldable pub allReached : List File → List ℕ → List File
+allReached fs [] = fs
+allReached fs (m ∷ ms) = allReached (reached fs m) ms
+
+unfoldable pub soundAt : List File → ℕ → Bool
+soundAt fs k = fileSound identities (isGuest k) (theFile fs k)
+
+unfoldable pub filesSound : List File → Bool
+filesSound fs = every (soundAt fs) 0 20

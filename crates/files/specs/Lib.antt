@@ -1,0 +1,2 @@
+-- The message files of the board. Assumes nothing.
+pub mod Files

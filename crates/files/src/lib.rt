@@ -1,0 +1,52 @@
+// The 20 message files in their 360 lent words: one file, the messages of a log, the files' state rules.
+ghost use mathlib.Core.Path.{_≡_};
+ghost use Prim.Native.Nat.{_≤_, _<_};
+ghost use lib.ListN.{length, take};
+ghost use Rattle.sending.specs.Delivered.{Named};
+ghost use Rattle.files.specs.Files.{filesOf, theFile, withFile, allReached, soundAt, filesSound};
+use file::File;
+
+pub fn load(files: &[u32], k: usize) -> File
+    requires { ⌜ (length (now files) ≡ 360) × (k < 20) ⌝ }
+    ensures { λ r. ⌜ r ≡ theFile (filesOf (now (files .entry))) k ⌝ }
+{
+    stored::load(files, 18 * k)
+}
+
+pub fn store(files: &mut [u32], k: usize, f: File)
+    requires { ⌜ (length (now files) ≡ 360) × (k < 20) ⌝ }
+    ensures { λ r. ⌜ filesOf (now (files .exit)) ≡ withFile (filesOf (now (files .entry))) k f ⌝ }
+{
+    stored::store(files, 18 * k, f);
+}
+
+// The first `count` messages of `log` reach their files, in order.
+pub fn deliver(files: &mut [u32], log: &[u32], count: usize)
+    requires { ⌜ (length (now files) ≡ 360) × (length (now log) ≡ 63) × (count ≤ 63)
+        × Named (now log) count ⌝ }
+    ensures { λ r. ⌜ filesOf (now (files .exit))
+        ≡ allReached (filesOf (now (files .entry))) (take count (now (log .entry))) ⌝ }
+{
+    sending::deliver(files, log, count);
+}
+
+fn file_sound(files: &[u32], k: usize) -> bool
+    requires { ⌜ (length (now files) ≡ 360) × (k < 20) ⌝ }
+    ensures { λ r. ⌜ r ≡ soundAt (filesOf (now (files .entry))) k ⌝ }
+{
+    let f = load(files, k);
+    f.sound(2 <= k % 5)
+}
+
+pub fn sound(files: &[u32]) -> bool
+    requires { ⌜ length (now files) ≡ 360 ⌝ }
+    ensures { λ r. ⌜ r ≡ filesSound (filesOf (now (files .entry))) ⌝ }
+{
+    let mut sound = true;
+    let mut k: usize = 0;
+    while k < 20 {
+        sound = sound & file_sound(files, k);
+        k += 1;
+    }
+    sound
+}
