@@ -7,7 +7,7 @@ use mathlib.Core.List.{List, [], _∷_}
 use native.Mathlib.Decide.{ℕ-discrete, decLt}
 use native.Mathlib.Omega.{arith}
 use lib.Dec.{leb}
-use lib.ListN.{length, getD, set, take, length-set}
+use lib.ListN.{length, take, length-set}
 use lib.Seq.{getD-set-same, getD-set-other, ext-getD}
 use Rattle.file.specs.declared.File.{File}
 use Rattle.file.specs.Size.{identities}
@@ -16,7 +16,7 @@ use Rattle.file.specs.Rules.{fileSound}
 use Rattle.file_laws.proofs.PageEffects.{arrived-length, arrived-rest}
 use Rattle.file_laws.proofs.Stored.{Long, long-back, long-apart, length-put, loaded-long}
 use Rattle.stored.specs.Stored.{fileAt, putFile}
-use Rattle.sending.specs.Delivered.{hartIn, fileIn, identityIn, place, delivered1, delivered, Named}
+use Rattle.sending.specs.Delivered.{fileIn, identityIn, place, delivered1, delivered, Named}
 use Rattle.sending.proofs.DeliveredLaws.{hartIn-lt, place-at, delivered1-put, delivered-none, delivered-next}
 use Rattle.sending.proofs.DeliveredLaws.{named-first, named-rest}
 use Rattle.files.specs.Files.{fileNumber, isGuest, zeroFile, filesFrom, filesOf, theFile, withFile}
@@ -103,7 +103,7 @@ place-named : (m : ℕ) → place m ≡ 18 * namedBy m
 unfolding namedBy fileNumber
 place-named m = place-at m
 
-arrived-long : (f : File) (i : ℕ) → Long f → Long (arrived identities f i)
+pub arrived-long : (f : File) (i : ℕ) → Long f → Long (arrived identities f i)
 arrived-long f i s =
     record {
       pendingLong = arrived-length identities f i ∙ s .pendingLong;

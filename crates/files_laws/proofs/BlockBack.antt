@@ -1,0 +1,77 @@
+-- Both round trips between the 20 files and their 360 words, so the files settle the words. No contract cites
+-- this file. Assumes nothing.
+use Prim.Native.Nat.{ℕ, zero, suc, _+_, _*_, _≤_, _<_}
+use mathlib.Core.Path.{_≡_, refl, sym, ap, ap₂, _∙_}
+use mathlib.Core.List.{List, [], _∷_, _++_, append-assoc}
+use native.Mathlib.Nat.{add-assoc}
+use native.Mathlib.Omega.{arith}
+use lib.ListN.{length, getD, take, drop}
+use lib.Seq.{take-all, take-add, drop-drop, take-at, drop-at, getD-append-add, drop-append-add}
+use Rattle.file.specs.declared.File.{File}
+use Rattle.file_laws.proofs.Stored.{Long, file-path, words-long, words-loaded}
+use Rattle.stored.specs.Stored.{fileWords, fileAt}
+use Rattle.files.specs.Files.{filesFrom, filesOf, wordsOf, theFile}
+use Rattle.files.proofs.FilesLaws.{length-filesOf, theFile-filesOf, files-same}
+
+-- ---- from the words to the files and back
+
+wordsOf-filesFrom : (n k : ℕ) (l : List ℕ) → 18 * (k + n) ≤ length l
+    → wordsOf (filesFrom l k n) ≡ take (18 * n) (drop (18 * k) l)
+unfolding wordsOf filesFrom
+wordsOf-filesFrom zero k l h = refl
+wordsOf-filesFrom (suc n) k l h =
+    let next : 18 * suc k ≡ 18 * k + 18 = omega arith in
+    let more : 18 + 18 * n ≡ 18 * suc n = omega arith in
+    ap₂ (λ (us vs : List ℕ). us ++ vs) (sym (words-loaded l (18 * k) (omega arith)))
+    (wordsOf-filesFrom n (suc k) l (omega arith)
+    ∙ ap (take (18 * n)) (ap (λ (i : ℕ). drop i l) next ∙ sym (drop-drop 18 (18 * k) l)))
+    ∙ sym (take-add 18 (18 * n) (drop (18 * k) l)) ∙ ap (λ (i : ℕ). take i (drop (18 * k) l)) more
+
+pub words-back : (l : List ℕ) → length l ≡ 360 → wordsOf (filesOf l) ≡ l
+unfolding filesOf
+words-back l long = wordsOf-filesFrom 20 0 l (omega arith) ∙ take-all 360 l (omega arith)
+
+-- two blocks with the same files are the same
+pub blocks-same : (l m : List ℕ) → length l ≡ 360 → length m ≡ 360 → filesOf l ≡ filesOf m → l ≡ m
+blocks-same l m hl hm e = sym (words-back l hl) ∙ ap wordsOf e ∙ words-back m hm
+
+-- ---- from the files to the words and back
+
+-- a file's words are that file, whatever follows them
+fileAt-words : (f : File) (l : List ℕ) → Long f → fileAt (fileWords f ++ l) 0 ≡ f
+unfolding fileAt fileWords
+fileAt-words f l s =
+    let rest = append-assoc (f .pending) (f .enable) l in
+    file-path refl refl (ap (take 8) rest ∙ take-at (f .pending) (f .enable ++ l) 8 (s .pendingLong))
+    (ap (λ (r : List ℕ). take 8 (drop 8 r)) rest
+    ∙ ap (take 8) (drop-at (f .pending) (f .enable ++ l) 8 (s .pendingLong))
+    ∙ take-at (f .enable) l 8 (s .enableLong))
+
+-- what stands behind other words is read behind them
+fileAt-behind : (us l : List ℕ) (at : ℕ) → fileAt (us ++ l) (length us + at) ≡ fileAt l at
+unfolding fileAt
+fileAt-behind us l at =
+    let part : (j : ℕ) → drop (length us + at + j) (us ++ l) ≡ drop (at + j) l = λ j.
+    ap (λ (k : ℕ). drop k (us ++ l)) (add-assoc (length us) at j) ∙ drop-append-add us l (at + j) in
+    file-path (getD-append-add us l at 0)
+    (ap (λ (k : ℕ). getD (us ++ l) k 0) (add-assoc (length us) at 1) ∙ getD-append-add us l (at + 1) 0)
+    (ap (take 8) (part 2)) (ap (take 8) (part 10))
+
+fileAt-wordsOf : (fs : List File) (k : ℕ) → ((j : ℕ) → j < length fs → Long (theFile fs j)) → k < length fs
+    → fileAt (wordsOf fs) (18 * k) ≡ theFile fs k
+unfolding wordsOf theFile
+fileAt-wordsOf [] k long h = absurd (omega arith)
+fileAt-wordsOf (f ∷ fs) zero long h = fileAt-words f (wordsOf fs) (long 0 (omega arith))
+fileAt-wordsOf (f ∷ fs) (suc k) long h =
+    let place : 18 * suc k ≡ length (fileWords f) + 18 * k =
+    omega (arith, words-long f (long 0 (omega arith))) in
+    ap (fileAt (fileWords f ++ wordsOf fs)) place ∙ fileAt-behind (fileWords f) (wordsOf fs) (18 * k)
+    ∙ fileAt-wordsOf fs k (λ j q. long (suc j) (omega arith)) (omega arith)
+
+pub files-back : (fs : List File) → length fs ≡ 20 → ((k : ℕ) → k < 20 → Long (theFile fs k))
+    → filesOf (wordsOf fs) ≡ fs
+files-back fs many long =
+    files-same (filesOf (wordsOf fs)) fs (length-filesOf (wordsOf fs) ∙ sym many)
+    (λ k h. let hk : k < 20 = omega (arith, length-filesOf (wordsOf fs)) in
+    theFile-filesOf (wordsOf fs) k hk
+    ∙ fileAt-wordsOf fs k (λ j q. long j (omega arith)) (omega arith))

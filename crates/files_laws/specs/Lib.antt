@@ -1,0 +1,2 @@
+-- What the laws of the files speak of. Assumes nothing.
+pub mod Messages
