@@ -78,17 +78,17 @@ module _ (c : Bool) (t : ℕ) where
 
 -- ---- what holds of every word of a list
 
-abbrev Every : (ℕ → Type 0) → List ℕ → Type 0
+abbrev pub Every : (ℕ → Type 0) → List ℕ → Type 0
 Every P ms = (k : ℕ) → k < length ms → P (getD ms k 0)
 
-every-none : (P : ℕ → Type 0) → Every P []
+pub every-none : (P : ℕ → Type 0) → Every P []
 every-none P k h = absurd (omega arith)
 
-every-one : (P : ℕ → Type 0) (m : ℕ) → P m → Every P (m ∷ [])
+pub every-one : (P : ℕ → Type 0) (m : ℕ) → P m → Every P (m ∷ [])
 every-one P m p zero h = p
 every-one P m p (suc k) h = absurd (omega arith)
 
-every-append : (P : ℕ → Type 0) (us vs : List ℕ) → Every P us → Every P vs → Every P (us ++ vs)
+pub every-append : (P : ℕ → Type 0) (us vs : List ℕ) → Every P us → Every P vs → Every P (us ++ vs)
 every-append P us vs hu hv k h = at (decLt k (length us))
   where
     at : Dec (k < length us) → P (getD (us ++ vs) k 0)
@@ -121,10 +121,13 @@ module _ (c : Bool) (d : Domain) where
       tested (isEnabled d && byMessages d) (λ t. rw (sent-on c d t) (from-named c d 1 63))
       (λ f. rw (sent-off c d f) (every-none (Names c)))
 
-  -- so they can be delivered from the log
-  pub sent-deliverable : (l : List ℕ) → Named (logged l (sent c d .messages)) (length (sent c d .messages))
-  unfolding Named logged
-  sent-deliverable l k h =
-      let ms = sent c d .messages in
-      subst (λ (m : ℕ). fileIn m < 5) (sym (List·getD-append ms (drop (length ms) l) 0 k h))
-      (sent-named k h .exists)
+-- messages that name files that exist can be delivered from the log
+pub deliverable : (ms : List ℕ) → Every (λ m. fileIn m < 5) ms → (l : List ℕ)
+    → Named (logged l ms) (length ms)
+unfolding Named logged
+deliverable ms exist l k h =
+    subst (λ (m : ℕ). fileIn m < 5) (sym (List·getD-append ms (drop (length ms) l) 0 k h)) (exist k h)
+
+pub sent-deliverable : (c : Bool) (d : Domain) (l : List ℕ)
+    → Named (logged l (sent c d .messages)) (length (sent c d .messages))
+sent-deliverable c d = deliverable (sent c d .messages) (λ k h. sent-named c d k h .exists)

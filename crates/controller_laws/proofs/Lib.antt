@@ -1,0 +1,2 @@
+-- What holds of the wired controller's calls. Assumes nothing.
+pub mod OutEffects

@@ -1,0 +1,1 @@
+// No code: what holds of the wired controller's calls.
