@@ -1,16 +1,19 @@
--- Claims 43 to 47, on direct delivery: topi, claimi and the signal to a hart. 01, "Direct delivery and
+-- Claims 43 to 49, on direct delivery: topi, claimi and the signal to a hart. 01, "Direct delivery and
 -- signals"; the standard 4.8. `eligible d h i`: source i is pending and enabled, for hart h, and passes its
 -- ithreshold.
 -- Assumes nothing.
-use Prim.Native.Nat.{ℕ, _+_, _*_, _≤_}
+use Prim.Native.Nat.{ℕ, _+_, _*_, _≤_, _<_}
 use mathlib.Core.Path.{_≡_}
 use mathlib.Core.Bool.{true, false}
 use mathlib.Core.Logic.{_≢_, _↔_, _⊎_}
-use Rattle.target.specs.Target.{numberOf}
+use Rattle.mode.specs.Mode.{isLevel}
+use Rattle.target.specs.Target.{hartOf, numberOf}
+use Rattle.source.specs.Pending.{withPending}
 use Rattle.delivery.specs.Delivery.{withoutForce}
-use Rattle.domain.specs.Domain.{Domain, isEnabled, byMessages}
+use Rattle.domain.specs.Domain.{Domain, configOf, isEnabled, byMessages, generatedAt}
 use Rattle.domain.specs.Slot.{sourceAt}
 use Rattle.domain.specs.Structure.{structureAt, withStructure}
+use Rattle.domain_laws.specs.Shape.{Shaped}
 use Rattle.direct.specs.Direct.{eligible, topSource, topiOf, claimed, signalOf}
 
 -- the priority number of source i
@@ -51,3 +54,25 @@ Claim-47 =
     → (signalOf d h ≡ true)
     ↔ ((byMessages d ≡ false) × (isEnabled d ≡ true) × (structureAt d h .idelivery ≡ 1)
     × ((structureAt d h .iforce ≢ 0) ⊎ (topiOf d h ≢ 0)))
+
+-- a source counts for a hart exactly if it is pending and enabled, its target names the hart, and ithreshold
+-- is 0 or greater than its priority; so ithreshold P, not 0, shuts out P itself
+unfoldable pub Claim-48 : Type 0
+Claim-48 =
+    (d : Domain) (h i : ℕ)
+    → ((eligible d h i ≡ true)
+    ↔ ((sourceAt d i .pending ≡ true) × (sourceAt d i .enabled ≡ true) × (hartOf (sourceAt d i .target) ≡ h)
+    × ((structureAt d h .ithreshold ≡ 0) ⊎ (priority d i < structureAt d h .ithreshold))))
+    × (structureAt d h .ithreshold ≢ 0 → priority d i ≡ structureAt d h .ithreshold → eligible d h i ≡ false)
+
+-- a claimi that does not answer 0 takes the pending bit of the top source, if that is no level source, and
+-- changes nothing else
+unfoldable pub Claim-49 : Type 0
+Claim-49 =
+    (d : Domain) (h : ℕ) → Shaped d → byMessages d ≡ false → topiOf d h ≢ 0
+    → (configOf (claimed d h) ≡ configOf d) × (generatedAt (claimed d h) ≡ generatedAt d)
+    × ((g : ℕ) → structureAt (claimed d h) g ≡ structureAt d g)
+    × ((j : ℕ) → j ≢ topSource d h → sourceAt (claimed d h) j ≡ sourceAt d j)
+    × (let top = sourceAt d (topSource d h) in let after = sourceAt (claimed d h) (topSource d h) in
+    (isLevel (top .mode) ≡ false → after ≡ withPending top false)
+    × (isLevel (top .mode) ≡ true → after ≡ top))
