@@ -6,3 +6,5 @@ pub mod Causes
 pub mod Sending
 pub mod WiredCalls
 pub mod Direct
+pub mod SourceRules
+pub mod Rules

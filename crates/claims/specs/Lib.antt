@@ -6,3 +6,4 @@ pub mod Causes
 pub mod Sending
 pub mod WiredCalls
 pub mod Direct
+pub mod Rules

@@ -1,0 +1,109 @@
+-- Claims 72 to 75, on the state rules of the wired controller: the test, what it tests in the words of the
+-- paper, and that every operation keeps them. 01, "State rules". Assumes nothing.
+--   Long w                      the lists of w have their lengths, as those of 290 words have
+--   Sound w                     they have, and w passes the test
+--   ModeStored, TargetStored    a number that a write of a sourcecfg or a target stores
+--   SourceRules, DomainRules, WiredRules
+--                               the rules in plain statements
+-- c says that a domain is the child; m is its delivery mode, true by messages; sends: it has IE and DM.
+use Prim.Native.Nat.{ℕ, _+_, _*_, _^_, _≤_, _<_}
+use mathlib.Core.Path.{_≡_}
+use mathlib.Core.Bool.{Bool, true, false, cond, _&&_}
+use mathlib.Core.List.{List}
+use mathlib.Core.Logic.{_≢_, _↔_, _⊎_}
+use lib.ListN.{length}
+use contract.Lifetimes.{Lfts}
+use denote.Ref.{RefT, now}
+use Rattle.words.specs.Sets.{member}
+use Rattle.mode.specs.Mode.{isActive, isLevel, isRectified}
+use Rattle.target.specs.Target.{hartOf, guestOf, numberOf}
+use Rattle.region.specs.Region.{Within}
+use Rattle.region.specs.declared.Word.{Word}
+use Rattle.source.specs.declared.Source.{Source}
+use Rattle.domain.specs.Domain.{Domain, configOf, isEnabled, byMessages, generatedAt}
+use Rattle.domain.specs.Slot.{sourceAt}
+use Rattle.domain.specs.Structure.{structureAt}
+use Rattle.domain_laws.specs.Shape.{Shaped}
+use Rattle.wired.specs.Wired.{Wired, wiredOf, wireSet, writtenIn, claimedIn}
+use Rattle.rules.specs.Rules.{wiredSound}
+use Rattle.rules_laws.specs.Steady.{passed}
+use Rattle.rules.proofs.sound.Reads as sound
+
+abbrev pub Long : Wired → Type 0
+Long w = (length (w .wires) ≡ 2) × Shaped (w .root) × Shaped (w .child)
+
+abbrev pub Sound : Wired → Type 0
+Sound w = Long w × (wiredSound w ≡ true)
+
+-- ---- the test
+
+-- what the test answers, of words whose lists have their lengths
+unfoldable pub Claim-72 : Type 0
+Claim-72 =
+    ((l : Lfts 1) (b : RefT (List ℕ)) (r : Bool) → sound.Learnt l (b, tt) r (b, tt)
+    → r ≡ wiredSound (wiredOf (now b)))
+    × ((l : List ℕ) → length l ≡ 290 → Long (wiredOf l))
+
+-- ---- the rules in plain statements
+
+-- a sourcecfg: a mode, of which 2 and 3 are none, or in the machine domain a delegation
+abbrev pub ModeStored : Bool → ℕ → Type 0
+ModeStored c v = ((v ≤ 7) × (v ≢ 2) × (v ≢ 3)) ⊎ ((c ≡ false) × (v ≡ 1024))
+
+-- a target: a hart and a priority that is not 0, or by messages a hart, in the child a guest index, and an
+-- identity
+abbrev pub TargetStored : Bool → Bool → ℕ → Type 0
+TargetStored c m t =
+    (t ≡ hartOf t * 2 ^ 18 + cond (m && c) (guestOf t) 0 * 2 ^ 12 + numberOf t) × (m ≡ false → 1 ≤ numberOf t)
+
+pub record SourceRules (c m sends wire : Bool) (s : Source) : Type 0 where
+  pub mode : ModeStored c (s .mode)
+  pub target : isActive (s .mode) ≡ true → TargetStored c m (s .target)
+  -- inactive sources have zeros
+  pub inactive : isActive (s .mode) ≡ false → (s .target ≡ 0) × (s .pending ≡ false) × (s .enabled ≡ false)
+  -- a level source is pending only if its rectified value is high, and in direct mode exactly then
+  pub level : isLevel (s .mode) ≡ true → s .pending ≡ true → isRectified (s .mode) wire ≡ true
+  pub direct : isLevel (s .mode) ≡ true → m ≡ false → isRectified (s .mode) wire ≡ true → s .pending ≡ true
+  -- with DM and IE no active source is both pending and enabled
+  pub sent : sends ≡ true → isActive (s .mode) ≡ true → s .pending ≡ true → s .enabled ≡ false
+
+pub record DomainRules (c : Bool) (wires : List ℕ) (d : Domain) : Type 0 where
+  -- no bits but those of IE and DM, of a hart and an identity, and of the settable numbers
+  pub config : configOf d ≡ cond (isEnabled d) (2 ^ 8) 0 + cond (byMessages d) (2 ^ 2) 0
+  pub generated : generatedAt d ≡ hartOf (generatedAt d) * 2 ^ 18 + numberOf (generatedAt d)
+  -- genmsi is 0 in direct mode
+  pub direct : byMessages d ≡ false → generatedAt d ≡ 0
+  pub structures : (h : ℕ) → h < 4
+      → (structureAt d h .idelivery ≤ 1) × (structureAt d h .iforce ≤ 1) × (structureAt d h .ithreshold ≤ 255)
+  -- there is no source 0, and no wire 0
+  pub zero : (member (d .pending) 0 ≡ false) × (member (d .enable) 0 ≡ false)
+  pub sources : (i : ℕ) → 1 ≤ i → i ≤ 63
+      → SourceRules c (byMessages d) (isEnabled d && byMessages d) (member wires i) (sourceAt d i)
+
+pub record WiredRules (w : Wired) : Type 0 where
+  pub zero : member (w .wires) 0 ≡ false
+  pub root : DomainRules false (w .wires) (w .root)
+  pub child : DomainRules true (w .wires) (w .child)
+  -- the child's sourcecfg is 0 where the machine domain's does not delegate
+  pub undelegated : (i : ℕ) → 1 ≤ i → i ≤ 63 → sourceAt (w .root) i .mode ≢ 1024
+      → sourceAt (w .child) i .mode ≡ 0
+
+-- the test passes exactly if these hold
+unfoldable pub Claim-73 : Type 0
+Claim-73 = (w : Wired) → Long w → (wiredSound w ≡ true) ↔ WiredRules w
+
+-- ---- they are kept
+
+-- by each operation with the messages sent after it
+unfoldable pub Claim-74 : Type 0
+Claim-74 =
+    (w : Wired) → Sound w
+    → ((i : ℕ) → 1 ≤ i → i ≤ 63 → (level : Bool) → Sound (passed (wireSet w i level)))
+    × ((c : Bool) (r : Word) → Within r → (v : ℕ) → Sound (passed (writtenIn w c r v)))
+    × ((c : Bool) (r : Word) → Sound (passed (claimedIn w c r)))
+
+-- a source is active in one domain at most
+unfoldable pub Claim-75 : Type 0
+Claim-75 =
+    (w : Wired) → Sound w → (i : ℕ) → 1 ≤ i → i ≤ 63 → isActive (sourceAt (w .root) i .mode) ≡ true
+    → isActive (sourceAt (w .child) i .mode) ≡ false
