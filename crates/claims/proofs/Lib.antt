@@ -8,3 +8,4 @@ pub mod WiredCalls
 pub mod Direct
 pub mod SourceRules
 pub mod Rules
+pub mod Writes

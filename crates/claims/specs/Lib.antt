@@ -7,3 +7,4 @@ pub mod Sending
 pub mod WiredCalls
 pub mod Direct
 pub mod Rules
+pub mod Writes
