@@ -59,7 +59,7 @@ pub record Restarted (m x : Bool) (s s′ : Source) : Type 0 where
   pub direct : isLevel (s .mode) ≡ true → m ≡ false → s′ .pending ≡ isRectified (s .mode) x
   pub messages : isLevel (s .mode) ≡ true → m ≡ true → s′ .pending ≡ (isRectified (s .mode) x && s .pending)
 
--- a write to domaincfg: IE is bit 8 and DM bit 2; with the same DM nothing else changes, and with another
+-- a write to domaincfg: IE is bit 8 and DM bit 2; with the same DM nothing else changes, and with another,
 -- genmsi is 0 and each source is restarted
 unfoldable pub Claim-56 : Type 0
 Claim-56 =
