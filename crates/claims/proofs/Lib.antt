@@ -9,3 +9,4 @@ pub mod Direct
 pub mod SourceRules
 pub mod Rules
 pub mod Writes
+pub mod Operations

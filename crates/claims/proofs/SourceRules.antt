@@ -85,7 +85,7 @@ target-direct c t =
       λ p. omega (arith, p .0) ∙ sym kept,
     ))
 
-target-iff : (c m : Bool) (t : ℕ) → (t ≡ keptTarget c m t) ↔ TargetStored c m t
+pub target-iff : (c m : Bool) (t : ℕ) → (t ≡ keptTarget c m t) ↔ TargetStored c m t
 unfolding keptTarget receiverOf packed
 target-iff true true t = (λ e. (omega arith, λ f. absurd (true≢false f)), λ p. omega (arith, p .0))
 target-iff false true t = (λ e. (omega arith, λ f. absurd (true≢false f)), λ p. omega (arith, p .0))

@@ -1,32 +1,30 @@
--- Claims 55 to 59, from the laws of writes and of the wired controller. Assumes nothing.
-use Prim.Native.Nat.{ℕ, _/_, _%_, _≤_, _<_}
+-- Claims 55 to 58, from the laws of writes and of the wired controller. Assumes nothing.
+use Prim.Native.Nat.{ℕ, _≤_, _<_}
 use mathlib.Core.Path.{_≡_, refl, sym, ap, _∙_}
-use mathlib.Core.Bool.{Bool, true, false, Bool·beq, or-false}
+use mathlib.Core.Bool.{Bool, true, false, Bool·beq, true≢false, false≢true, or-false}
 use mathlib.Core.List.{List}
 use mathlib.Core.Logic.{_≢_}
 use native.Mathlib.Omega.{arith}
 use lib.Dec.{eqb}
-use borrow.Author.Tests.{eqb-true, eq-eqb}
+use borrow.Author.Tests.{eqb-true}
 use Rattle.words.specs.Bits.{hasBit}
-use Rattle.words.specs.Parts.{reversed}
+use Rattle.words.specs.Parts.{fieldOf, packed}
 use Rattle.words.specs.Sets.{member}
-use Rattle.words.proofs.PartsLaws.{reversed-back}
 use Rattle.words.proofs.TestsLaws.{tested, not-same}
 use Rattle.mode.specs.Mode.{isActive}
-use Rattle.target.specs.Target.{startTarget}
-use Rattle.region.specs.declared.Word.the-variants.{Sourcecfg, Claimi}
+use Rattle.target.specs.Target.{hartOf, guestOf, numberOf, startTarget, priorityOf, receiverOf, keptTarget}
+use Rattle.region.specs.declared.Word.the-variants.{Sourcecfg}
+use Rattle.target.proofs.TargetLaws.{hartOf-lt, guestOf-lt, numberOf-lt}
 use Rattle.source.specs.declared.Source.{Source}
-use Rattle.source.specs.declared.Change.{Change}
-use Rattle.source.specs.declared.Change.the-variants.{Pend, Clear}
-use Rattle.source.specs.Pending.{cleared, settled, changed, redelivered}
+use Rattle.source.specs.Pending.{settled, redelivered}
 use Rattle.source.proofs.PendingLaws.{retargeted-inactive, retargeted-active}
 use Rattle.domain.specs.Domain.{Domain, byMessages, withConfig}
 use Rattle.domain.specs.Slot.{sourceAt}
 use Rattle.domain_laws.specs.Shape.{Shaped}
 use Rattle.domain_laws.specs.Became.{Became}
-use Rattle.domain_laws.proofs.SlotEffects.{sourceAt-withSource-same, withSource-back}
+use Rattle.domain_laws.proofs.SlotEffects.{withSource-back}
 use Rattle.domain_laws.proofs.BecameEffects.{became-withConfig, became-messages, touched-as}
-use Rattle.writes.specs.Writes.{wordChanged, numberChanged, targetWritten}
+use Rattle.writes.specs.Writes.{targetWritten}
 use Rattle.writes.specs.Config.{keptConfig, configWritten}
 use Rattle.writes.proofs.ConfigLaws.{mode-same}
 use Rattle.writes_laws.specs.Named.{named}
@@ -34,21 +32,16 @@ use Rattle.writes_laws.proofs.WritesEffects.{touched-wordChanged, touched-numbe
 use Rattle.writes_laws.proofs.WritesEffects.{touched-targetWritten}
 use Rattle.writes_laws.proofs.ConfigEffects.{keptConfig-messages, became-configWritten}
 use Rattle.writes_laws.proofs.ConfigEffects.{byMessages-configWritten, isEnabled-configWritten}
-use Rattle.direct.specs.Direct.{topSource, released}
-use Rattle.direct.proofs.DirectLaws.{claimed-some}
-use Rattle.registers.specs.Write.{registerWritten}
-use Rattle.registers.specs.Read.{claimHart, claimedBy}
-use Rattle.registers.proofs.ReadLaws.{claimed-by}
-use Rattle.sending_laws.proofs.SendingEffects.{sent-source, spent-hit}
 use Rattle.source_laws.proofs.ModeEffects.{active-level}
-use Rattle.wired.specs.Wired.{Wired, wireSet, sourceWired, sourceModed, childWritten, rootWritten}
+use Rattle.source_laws.proofs.TargetEffects.{keptTarget-back}
+use Rattle.wired.specs.Wired.{Wired}
 use Rattle.wired.specs.Wired.{sourceWritten, sourceOf, writtenIn}
 use Rattle.wired.proofs.WiredLaws.{written-source}
 use Rattle.rules_laws.proofs.SoundParts.{wired-sound-steady}
 use Rattle.rules_laws.proofs.WiredSameEffects.{wireSet-same, delegated-again}
-use Rattle.claims.specs.Causes.{happens}
-use Rattle.claims.specs.Writes.{Restarted, Claim-55, Claim-56, Claim-57, Claim-58, Claim-59}
-use Rattle.claims.proofs.SourceRules.{config-is}
+use Rattle.claims.specs.Rules.{TargetStored}
+use Rattle.claims.specs.Writes.{Restarted, TargetKept, Claim-55, Claim-56, Claim-57, Claim-58}
+use Rattle.claims.proofs.SourceRules.{config-is, target-iff}
 
 pub claim-55 : Claim-55
 unfolding Claim-55 named
@@ -115,9 +108,9 @@ claim-56 = (
   restarted,
 )
 
--- ---- what changes nothing, and a target
+-- ---- what changes nothing
 
-word-written : (w : Wired) (c : Bool) (i v : ℕ) → 1 ≤ i
+pub word-written : (w : Wired) (c : Bool) (i v : ℕ) → 1 ≤ i
     → writtenIn w c (Sourcecfg i) v ≡ sourceWritten w c i v
 unfolding sourceOf
 word-written w c i v l = written-source w c (Sourcecfg i) v (λ z. omega arith)
@@ -130,67 +123,69 @@ claim-57 w p i l h =
       λ v t b. word-written w false i v l ∙ delegated-again w s i l (omega arith) v b t,
     )
 
+-- ---- a target
+
+-- a number below a hart, and one below a hart and a guest index
+module _ (h n : ℕ) (l : h < 4) (u : n < 256) where
+  number-packed : (hartOf (packed h 18 n) ≡ h) × (numberOf (packed h 18 n) ≡ n)
+  unfolding hartOf numberOf packed fieldOf
+  number-packed = (omega arith, omega arith)
+
+  guest-packed : (g : ℕ) → g < 4 → (hartOf (packed h 18 (packed g 12 n)) ≡ h)
+      × (numberOf (packed h 18 (packed g 12 n)) ≡ n) × (guestOf (packed h 18 (packed g 12 n)) ≡ g)
+  unfolding hartOf numberOf guestOf packed fieldOf
+  guest-packed g k = (omega arith, omega arith, omega arith)
+
+priority-lt : (v : ℕ) → priorityOf v < 256
+unfolding priorityOf
+priority-lt v = tested (eqb (numberOf v) 0) (λ t. rw t (omega arith)) (λ f. rw f (numberOf-lt v))
+
+module _ (v : ℕ) where
+  stored-target : (c m : Bool) → TargetStored c m (keptTarget c m v)
+  stored-target c m = target-iff c m (keptTarget c m v) .0 (sym (keptTarget-back c m v))
+
+  kept-target : (c m : Bool) → TargetKept c m v (keptTarget c m v)
+  unfolding keptTarget receiverOf priorityOf
+  kept-target true true =
+      let parts = guest-packed (hartOf v) (numberOf v) (hartOf-lt v) (numberOf-lt v) (guestOf v)
+      (guestOf-lt v) in
+      record {
+        stored = stored-target true true;
+        hart = parts .0;
+        priority = λ e. absurd (true≢false e);
+        identity = λ e. parts .1;
+        guest = λ e f. parts .2;
+      }
+  kept-target false true =
+      let parts = number-packed (hartOf v) (numberOf v) (hartOf-lt v) (numberOf-lt v) in
+      record {
+        stored = stored-target false true;
+        hart = parts .0;
+        priority = λ e. absurd (true≢false e);
+        identity = λ e. parts .1;
+        guest = λ e f. absurd (false≢true f);
+      }
+  kept-target c false =
+      let parts = number-packed (hartOf v) (priorityOf v) (hartOf-lt v) (priority-lt v) in
+      record {
+        stored = stored-target c false;
+        hart = parts .0;
+        priority = λ e. parts .1;
+        identity = λ e. absurd (false≢true e);
+        guest = λ e f. absurd (false≢true e);
+      }
+
 pub claim-58 : Claim-58
 unfolding Claim-58
-claim-58 c d i v shaped l h =
-    let s = sourceAt d i in (
-      λ f. unfold targetWritten in
-          rw (retargeted-inactive s (byMessages d) c v f) (withSource-back d i),
-      λ a. touched-as (touched-targetWritten c d i v shaped l (omega arith)) _
-          (λ j lj hj. tested (eqb i j)
-          (λ t. rw t (retargeted-active (sourceAt d j) (byMessages d) c v
-          (ap (λ (k : ℕ). isActive (sourceAt d k .mode)) (sym (eqb-true i j t)) ∙ a)))
-          (λ f. rw f)),
-    )
-
--- ---- the causes
-
-module _ (d : Domain) (wires : List ℕ) (family : Change) (shaped : Shaped d) (i : ℕ) (l : 1 ≤ i)
-    (h : i < 64) where
-  -- what the family makes of source i
-  abbrev made : Source
-  made = changed (sourceAt d i) family (byMessages d) (member wires i)
-
-  word-does : (v : ℕ) → hasBit v (i % 32) ≡ true → sourceAt (wordChanged d wires family (i / 32) v) i ≡ made
-  unfolding named
-  word-does v b =
-      touched-wordChanged d wires family v shaped (i / 32) (omega arith) .source i l h
-      ∙ rw (eq-eqb (i / 32) (i / 32) refl, b)
-
-  number-does : sourceAt (numberChanged d wires family i) i ≡ made
-  number-does =
-      touched-numberChanged d wires family i shaped .source i l h ∙ rw (eq-eqb i i refl)
-
-claim-does : (d : Domain) (h i : ℕ) → Shaped d → h < 4 → i < 64 → i ≢ 0 → byMessages d ≡ false
-    → topSource d h ≡ i → sourceAt (claimedBy d (Claimi h)) i ≡ cleared (sourceAt d i) (byMessages d)
-unfolding claimHart released
-claim-does d h i shaped q u n m e =
-    let some : topSource d h ≢ 0 = λ z. n (sym e ∙ z) in
-    rw (claimed-by d (Claimi h) q, claimed-some d h m some, e, m)
-    (sourceAt-withSource-same d i (cleared (sourceAt d i) false) shaped u)
-
-pub claim-59 : Claim-59
-unfolding Claim-59 happens registerWritten changed
-claim-59 = (
-  λ c d wires i shaped l h.
-      let u : i < 64 = omega arith in
-      let turned : reversed (reversed i) ≡ i = reversed-back i (omega arith) in (
-        λ v b. (word-does d wires Pend shaped i l u v b, word-does d wires Clear shaped i l u v b),
-        number-does d wires Pend shaped i l u,
-        number-does d wires Pend shaped i l u,
-        rw turned (number-does d wires Pend shaped i l u),
-        number-does d wires Clear shaped i l u,
-        λ g q m e. claim-does d g i shaped q u (λ z. omega arith) m e,
-        λ on to. sent-source c d on i l u ∙ spent-hit (sourceAt d i) to,
-      ),
-  λ w long i l h level. unfold wireSet sourceWired in (
-    sourceAt-withSource-same (w .root) i _ (long .1) (omega arith),
-    sourceAt-withSource-same (w .child) i _ (long .2) (omega arith),
+claim-58 = (
+  λ c d i v shaped l h. (
+    λ f. unfold targetWritten in
+        rw (retargeted-inactive (sourceAt d i) (byMessages d) c v f) (withSource-back d i),
+    λ a. touched-as (touched-targetWritten c d i v shaped l (omega arith)) _
+        (λ j lj hj. tested (eqb i j)
+        (λ t. rw t (retargeted-active (sourceAt d j) (byMessages d) c v
+        (ap (λ (k : ℕ). isActive (sourceAt d k .mode)) (sym (eqb-true i j t)) ∙ a)))
+        (λ f. rw f)),
   ),
-  λ w long i l h v. (
-    rw (word-written w false i v l) (unfold sourceWritten rootWritten sourceModed in
-        sourceAt-withSource-same (w .root) i _ (long .1) (omega arith)),
-    rw (word-written w true i v l) (unfold sourceWritten childWritten sourceModed in
-        sourceAt-withSource-same (w .child) i _ (long .2) (omega arith)),
-  ),
+  λ c m v. kept-target v c m,
 )

@@ -8,3 +8,4 @@ pub mod WiredCalls
 pub mod Direct
 pub mod Rules
 pub mod Writes
+pub mod Operations
