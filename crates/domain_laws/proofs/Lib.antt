@@ -5,3 +5,4 @@ pub mod StructureEffects
 pub mod OwnEffects
 pub mod BecameEffects
 pub mod EachEffects
+pub mod ZeroEffects

@@ -60,6 +60,14 @@ module _ (fs : List File) (k : ℕ) (f : File) where
   unfolding theFile withFile
   theFile-withFile-other j n = getD-set-other fs k j f zeroFile n
 
+pub theFile-first : (f : File) (fs : List File) → theFile (f ∷ fs) 0 ≡ f
+unfolding theFile
+theFile-first f fs = refl
+
+pub theFile-next : (f : File) (fs : List File) (k : ℕ) → theFile (f ∷ fs) (suc k) ≡ theFile fs k
+unfolding theFile
+theFile-next f fs k = refl
+
 -- two lists of files are equal if they have as many and file by file the same
 pub files-same : (fs gs : List File) → length fs ≡ length gs
     → ((k : ℕ) → k < length fs → theFile fs k ≡ theFile gs k) → fs ≡ gs
@@ -140,6 +148,10 @@ filesOf-delivered (suc n) b (m ∷ l) long h named =
     ∙ ap (λ (fs : List File). allReached fs (take n l)) (filesOf-delivered1 b long m exists)
 
 -- ---- the state rules
+
+pub guest-read : (k : ℕ) → leb 2 (k % 5) ≡ isGuest k
+unfolding isGuest
+guest-read k = refl
 
 pub sound-read : (fs : List File) (k : ℕ) (f : File) → f ≡ theFile fs k
     → fileSound identities (leb 2 (k % 5)) f ≡ soundAt fs k

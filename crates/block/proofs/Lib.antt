@@ -1,0 +1,3 @@
+-- The laws of the board's block. Assumes nothing.
+pub mod BlockLaws
+pub mod StartLaws
