@@ -40,7 +40,7 @@ unfolding startFilesFrom
 length-startFilesFrom k zero = refl
 length-startFilesFrom k (suc n) = ap suc (length-startFilesFrom (suc k) n)
 
-theFile-startFilesFrom : (k n i : ℕ) → i < n → theFile (startFilesFrom k n) i ≡ startFile (k + i)
+pub theFile-startFilesFrom : (k n i : ℕ) → i < n → theFile (startFilesFrom k n) i ≡ startFile (k + i)
 unfolding startFilesFrom
 theFile-startFilesFrom k zero i h = absurd (omega arith)
 theFile-startFilesFrom k (suc n) zero h =
