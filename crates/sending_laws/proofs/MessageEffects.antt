@@ -6,8 +6,8 @@ use mathlib.Core.Bool.{Bool, true, false, _&&_}
 use mathlib.Core.List.{List, [], _∷_, _++_}
 use native.Mathlib.Decide.{decLt}
 use native.Mathlib.Omega.{arith}
-use lib.ListN.{length, getD, drop, length-append, List·getD-append}
-use lib.Seq.{getD-append-add}
+use lib.ListN.{length, getD, take, drop, length-append, List·getD-append}
+use lib.Seq.{getD-append-add, take-at}
 use Rattle.words.proofs.TestsLaws.{tested, not-same}
 use Rattle.target.specs.Target.{hartOf, guestOf, numberOf, logWord, messageOf, generatedOf}
 use Rattle.target.proofs.TargetLaws.{hartOf-lt, guestOf-lt, numberOf-lt, message-child, message-machine}
@@ -131,3 +131,8 @@ deliverable ms exist l k h =
 pub sent-deliverable : (c : Bool) (d : Domain) (l : List ℕ)
     → Named (logged l (sent c d .messages)) (length (sent c d .messages))
 sent-deliverable c d = deliverable (sent c d .messages) (λ k h. sent-named c d k h .exists)
+
+-- what was logged first is read back
+pub logged-back : (ms l : List ℕ) (n : ℕ) → n ≡ length ms → take n (logged l ms) ≡ ms
+unfolding logged
+logged-back ms l n e = take-at ms (drop (length ms) l) n (sym e)

@@ -1,0 +1,2 @@
+-- The laws of the calls. Assumes nothing.
+pub mod RefusalLaws

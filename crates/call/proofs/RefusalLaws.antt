@@ -1,0 +1,120 @@
+-- Laws of specs/Refusal.antt: which number each failed test gives, and what holds where none fails. No
+-- contract cites this file. Assumes nothing.
+use Prim.Native.Nat.{ℕ, _≤_}
+use mathlib.Core.Path.{_≡_, refl, sym, ap, _∙_}
+use mathlib.Core.Bool.{Bool, true, false, not, _&&_}
+use mathlib.Core.List.{List}
+use mathlib.Core.Logic.{_≢_}
+use native.Mathlib.Decide.{ℕ-discrete}
+use native.Mathlib.Omega.{arith}
+use lib.Dec.{eqb}
+use lib.ListN.{length}
+use borrow.Author.Tests.{eq-eqb, ne-eqb}
+use Rattle.words.proofs.TestsLaws.{tested}
+use Rattle.block.specs.Block.{boardOf, boardSound}
+use Rattle.call.specs.declared.Call.{Call}
+use Rattle.call.specs.Refusal.{testsRules, named, addressed, selected, blockRefusal, nameRefusal}
+use Rattle.call.specs.Refusal.{refusalOf}
+
+and-nothing : (t : Bool) → (t && false) ≡ false
+and-nothing true = refl
+and-nothing false = refl
+
+-- ---- of the blocks
+
+module _ (t : Bool) (l g : List ℕ) where
+  pub refused-state : length l ≢ 650 → blockRefusal t l g ≡ 1
+  unfolding blockRefusal
+  refused-state h = simp (ne-eqb (length l) 650 h)
+
+  module _ (long : length l ≡ 650) where
+    pub refused-log : length g ≢ 63 → blockRefusal t l g ≡ 2
+    unfolding blockRefusal
+    refused-log h = simp (eq-eqb (length l) 650 long, ne-eqb (length g) 63 h)
+
+    module _ (full : length g ≡ 63) where
+      pub refused-rules : t ≡ true → boardSound (boardOf l) ≡ false → blockRefusal t l g ≡ 3
+      unfolding blockRefusal
+      refused-rules e f = simp (eq-eqb (length l) 650 long, eq-eqb (length g) 63 full, e, f)
+
+      pub blocks-sound : boardSound (boardOf l) ≡ true → blockRefusal t l g ≡ 0
+      unfolding blockRefusal
+      blocks-sound f = simp (eq-eqb (length l) 650 long, eq-eqb (length g) 63 full, f, and-nothing t)
+
+      pub blocks-untested : t ≡ false → blockRefusal t l g ≡ 0
+      unfolding blockRefusal
+      blocks-untested e = simp (eq-eqb (length l) 650 long, eq-eqb (length g) 63 full, e)
+
+-- the number is at most 3
+pub block-le : (t : Bool) (l g : List ℕ) → blockRefusal t l g ≤ 3
+unfolding blockRefusal
+block-le t l g =
+    tested (eqb (length l) 650)
+    (λ a. rw a (tested (eqb (length g) 63)
+    (λ b. rw b (tested (t && not (boardSound (boardOf l))) (λ r. rw r (omega arith))
+    (λ r. rw r (omega arith))))
+    (λ b. rw b (omega arith))))
+    (λ a. rw a (omega arith))
+
+-- a refusal by the lengths is one where the rules are tested too
+pub refused-lengths : (t : Bool) (l g : List ℕ) (k : ℕ) → k ≡ blockRefusal false l g → k ≢ 0
+    → k ≡ blockRefusal t l g
+unfolding blockRefusal
+refused-lengths t l g k e h =
+    tested (eqb (length l) 650)
+    (λ a. tested (eqb (length g) 63) (λ b. absurd (h (e ∙ simp (a, b)))) (λ b. e ∙ simp (a, b)))
+    (λ a. e ∙ simp a)
+
+-- where no test fails
+module _ (t : Bool) (l g : List ℕ) (z : blockRefusal t l g ≡ 0) where
+  pub passed-state : length l ≡ 650
+  passed-state = at (ℕ-discrete (length l) 650)
+    where
+      at : Dec (length l ≡ 650) → length l ≡ 650
+      at (yes e) = e
+      at (no n) = absurd (omega (arith, refused-state t l g n, z))
+
+  pub passed-log : length g ≡ 63
+  passed-log = at (ℕ-discrete (length g) 63)
+    where
+      at : Dec (length g ≡ 63) → length g ≡ 63
+      at (yes e) = e
+      at (no n) = absurd (omega (arith, refused-log t l g passed-state n, z))
+
+  pub passed-rules : t ≡ true → boardSound (boardOf l) ≡ true
+  passed-rules e =
+      tested (boardSound (boardOf l)) (λ y. y)
+      (λ n. absurd (omega (arith, refused-rules t l g passed-state passed-log e n, z)))
+
+-- ---- of the numbers
+
+module _ (c : Call) where
+  pub refused-name : named c ≡ false → nameRefusal c ≡ 4
+  unfolding nameRefusal
+  refused-name n = simp n
+
+  module _ (n : named c ≡ true) where
+    pub refused-address : addressed c ≡ false → nameRefusal c ≡ 5
+    unfolding nameRefusal
+    refused-address a = simp (n, a)
+
+    module _ (a : addressed c ≡ true) where
+      pub refused-select : selected c ≡ false → nameRefusal c ≡ 6
+      unfolding nameRefusal
+      refused-select s = simp (n, a, s)
+
+      pub numbers-name : selected c ≡ true → nameRefusal c ≡ 0
+      unfolding nameRefusal
+      numbers-name s = simp (n, a, s)
+
+-- ---- of both
+
+module _ (c : Call) (l g : List ℕ) where
+  pub refused-blocks : (k : ℕ) → k ≡ blockRefusal (testsRules c) l g → k ≢ 0 → refusalOf c l g ≡ k
+  unfolding refusalOf
+  refused-blocks k e h = simp (ne-eqb (blockRefusal (testsRules c) l g) 0 (λ z. h (e ∙ z))) (sym e)
+
+  pub refused-numbers : (k : ℕ) → k ≡ blockRefusal (testsRules c) l g → k ≡ 0
+      → refusalOf c l g ≡ nameRefusal c
+  unfolding refusalOf
+  refused-numbers k e z = simp (eq-eqb (blockRefusal (testsRules c) l g) 0 (sym e ∙ z))

@@ -1,0 +1,5 @@
+-- The calls of the board: their answers and refusals, and what each does. Assumes nothing.
+pub mod Answer
+pub mod Refusal
+pub mod Change
+pub mod Outcome

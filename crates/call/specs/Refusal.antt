@@ -1,0 +1,92 @@
+-- When a call is refused, and with which number. 01, "Calls and their refusals". Assumes nothing.
+--   isWire w level       there is such a wire, 1 to 63, and such a level, 0 or 1
+--   isFile h f           there is such a hart, 0 to 3, and such a file, 0 to 4
+--   isPageAddress a      a is a multiple of 4 in a page of 4,096 bytes
+--   testsRules c         the call tests the state rules: every one but reset
+--   named c              every hart, file, domain, wire, wire level and kind of access that c names is there
+--   addressed c          its address is a multiple of 4 in its region or page
+--   selected c           its select number is legal
+--   blockRefusal t l g   1: the block l has the wrong length; 2: so has the log g; 3: l breaks a state rule,
+--                        where t says that this is tested; the lowest that applies, or 0
+--   nameRefusal c        4: not named; 5: not addressed; 6: not selected; the lowest that applies, or 0
+--   refusalOf c l g      the lowest that applies of 1 to 6, or 0
+use Prim.Native.Nat.{ℕ, _%_}
+use mathlib.Core.Bool.{Bool, true, false, cond, not, _&&_}
+use mathlib.Core.List.{List}
+use lib.Dec.{eqb, leb, ltb}
+use lib.ListN.{length}
+use Rattle.file.specs.Select.{selectLegal}
+use Rattle.region.specs.Region.{addressLegal}
+use Rattle.block.specs.Block.{boardOf, boardSound}
+use Rattle.call.specs.declared.Call.{Call}
+use Rattle.call.specs.declared.Call.the-variants.{Reset, Wire, DomainRead, DomainWrite, PageRead}
+use Rattle.call.specs.declared.Call.the-variants.{PageWrite, Register, Top, Claim, Signals}
+
+unfoldable pub isWire : ℕ → ℕ → Bool
+isWire w level = leb 1 w && leb w 63 && leb level 1
+
+unfoldable pub isFile : ℕ → ℕ → Bool
+isFile h f = ltb h 4 && ltb f 5
+
+unfoldable pub isPageAddress : ℕ → Bool
+isPageAddress a = eqb (a % 4) 0 && ltb a 4096
+
+unfoldable pub testsRules : Call → Bool
+testsRules Reset = false
+testsRules (Wire w level) = true
+testsRules (DomainRead d a) = true
+testsRules (DomainWrite d a v) = true
+testsRules (PageRead h f a) = true
+testsRules (PageWrite h f a v) = true
+testsRules (Register h f k s v) = true
+testsRules (Top h f) = true
+testsRules (Claim h f) = true
+testsRules (Signals h) = true
+
+unfoldable pub named : Call → Bool
+named Reset = true
+named (Wire w level) = isWire w level
+named (DomainRead d a) = ltb d 2
+named (DomainWrite d a v) = ltb d 2
+named (PageRead h f a) = isFile h f
+named (PageWrite h f a v) = isFile h f
+named (Register h f k s v) = isFile h f && ltb k 4
+named (Top h f) = isFile h f
+named (Claim h f) = isFile h f
+named (Signals h) = ltb h 4
+
+unfoldable pub addressed : Call → Bool
+addressed Reset = true
+addressed (Wire w level) = true
+addressed (DomainRead d a) = addressLegal a
+addressed (DomainWrite d a v) = addressLegal a
+addressed (PageRead h f a) = isPageAddress a
+addressed (PageWrite h f a v) = isPageAddress a
+addressed (Register h f k s v) = true
+addressed (Top h f) = true
+addressed (Claim h f) = true
+addressed (Signals h) = true
+
+unfoldable pub selected : Call → Bool
+selected Reset = true
+selected (Wire w level) = true
+selected (DomainRead d a) = true
+selected (DomainWrite d a v) = true
+selected (PageRead h f a) = true
+selected (PageWrite h f a v) = true
+selected (Register h f k s v) = selectLegal s
+selected (Top h f) = true
+selected (Claim h f) = true
+selected (Signals h) = true
+
+unfoldable pub blockRefusal : Bool → List ℕ → List ℕ → ℕ
+blockRefusal t l g =
+    cond (not (eqb (length l) 650)) 1
+    (cond (not (eqb (length g) 63)) 2 (cond (t && not (boardSound (boardOf l))) 3 0))
+
+unfoldable pub nameRefusal : Call → ℕ
+nameRefusal c = cond (not (named c)) 4 (cond (not (addressed c)) 5 (cond (not (selected c)) 6 0))
+
+unfoldable pub refusalOf : Call → List ℕ → List ℕ → ℕ
+refusalOf c l g =
+    let n = blockRefusal (testsRules c) l g in cond (eqb n 0) (nameRefusal c) n

@@ -1,0 +1,64 @@
+// Which numbers name something, and the answer of a refusal by its number.
+ghost use mathlib.Core.Path.{_≡_};
+ghost use Rattle.call.specs.Refusal.{isWire, isFile, isPageAddress};
+ghost use Rattle.call.specs.Change.{kindOf};
+ghost use Rattle.call.specs.Answer.{refusalCase};
+use super::Answer;
+use file::Access;
+
+// The answer of a refusal by its number, of 1 to 6.
+pub fn refusal(number: u32) -> Answer
+    ensures { λ r. ⌜ r ≡ refusalCase number ⌝ }
+{
+    if number == 1 {
+        return Answer::StateLength;
+    }
+    if number == 2 {
+        return Answer::LogLength;
+    }
+    if number == 3 {
+        return Answer::BrokenRule;
+    }
+    if number == 4 {
+        return Answer::NoSuch;
+    }
+    if number == 5 {
+        return Answer::BadAddress;
+    }
+    Answer::IllegalSelect
+}
+
+pub fn is_wire(wire: u64, level: u64) -> bool
+    ensures { λ r. ⌜ r ≡ isWire wire level ⌝ }
+{
+    (1 <= wire) & (wire <= 63) & (level <= 1)
+}
+
+pub fn is_file(hart: u64, file: u64) -> bool
+    ensures { λ r. ⌜ r ≡ isFile hart file ⌝ }
+{
+    (hart < 4) & (file < 5)
+}
+
+// A file's page has 4,096 bytes.
+pub fn is_page_address(offset: u64) -> bool
+    ensures { λ r. ⌜ r ≡ isPageAddress offset ⌝ }
+{
+    (offset % 4 == 0) & (offset < 4096)
+}
+
+// 0 read, 1 write, 2 set bits, 3 clear bits.
+pub fn kind_of(kind: u64) -> Access
+    ensures { λ r. ⌜ r ≡ kindOf kind ⌝ }
+{
+    if kind == 0 {
+        return Access::Read;
+    }
+    if kind == 1 {
+        return Access::Write;
+    }
+    if kind == 2 {
+        return Access::Set;
+    }
+    Access::Clear
+}

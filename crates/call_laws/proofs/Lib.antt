@@ -1,0 +1,3 @@
+-- What a call gives, from what its code leaves. Assumes nothing.
+pub mod OutcomeEffects
+pub mod StepEffects

@@ -1,0 +1,1 @@
+// No code: what a call gives, from what its code leaves.
