@@ -2,8 +2,8 @@
 -- board; the standard, chapters 3 and 4. Assumes nothing.
 --   Changed               the board, the value answered, and the messages sent at once, which genmsi's are
 --   kindOf k              the kind of a register access: 0 read, 1 write, 2 set bits, 3 clear bits
---   signalAt b h f        file f of hart h signals: by itself with delivery 1; by its domain, machine for file
---                         0 and child for file 1, with delivery 0x40000000
+--   signalAt b h f        file f of hart h signals: by itself with delivery 1; by its domain, the machine
+--                         domain for file 0 and the child for file 1, with delivery 0x40000000
 --   signalsTo b h n       the lowest n bits of the signals of hart h: bit f for file f
 --   onWired, onFile       what a call does to the wired controller, or to one file, and answers
 --   change c b            what the call c changes in b

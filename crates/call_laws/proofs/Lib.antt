@@ -1,3 +1,4 @@
 -- What a call gives, from what its code leaves. Assumes nothing.
 pub mod OutcomeEffects
 pub mod StepEffects
+pub mod WiredCallEffects

@@ -48,6 +48,16 @@ generatedBy-exists c d r v =
     (λ n. rw (generated-off c d v n) (every-none Exists))))
     (λ f. rw f (every-none Exists))
 
+pub wire-exists : (w : Wired) (i : ℕ) (level : Bool) → Every Exists (wireCall w i level .messages)
+unfolding wireCall
+wire-exists w i level = flushed-exists (wireSet w i level)
+
+pub write-exists : (w : Wired) (c : Bool) (r : Word) (v : ℕ) → Every Exists (writeCall w c r v .messages)
+unfolding writeCall
+write-exists w c r v =
+    every-append Exists (generatedBy c (domainIn w c) r v) (flushed (writtenIn w c r v) .messages)
+    (generatedBy-exists c (domainIn w c) r v) (flushed-exists (writtenIn w c r v))
+
 -- ---- 63 log words suffice
 
 pub flushed-count : (w : Wired) → OneSends w → length (flushed w .messages) ≤ 63
@@ -82,12 +92,6 @@ module _ (w : Wired) (s : WiredSteady w) (q : WiredQuiet w) where
       (omega (arith, generatedBy-count c (domainIn w c) r v)))
       (λ f. rw (generatedBy-else c (domainIn w c) r v f)
       (flushed-count (writtenIn w c r v) (one-writtenIn w s q c r b v)))
-
-  pub write-exists : (c : Bool) (r : Word) (v : ℕ) → Every Exists (writeCall w c r v .messages)
-  unfolding writeCall
-  write-exists c r v =
-      every-append Exists (generatedBy c (domainIn w c) r v) (flushed (writtenIn w c r v) .messages)
-      (generatedBy-exists c (domainIn w c) r v) (flushed-exists (writtenIn w c r v))
 
 -- ---- the rules hold again
 

@@ -1,0 +1,2 @@
+-- What a call's code leaves. Assumes nothing.
+pub mod Left

@@ -1,0 +1,101 @@
+-- `wired_calls::calls::set_wire` meets its contract: refusal by refusal, and the call. Assumes nothing.
+use mathlib.Core.Path.{refl, sym, _∙_}
+use mathlib.Core.Bool.{true}
+use native.Mathlib.Omega.{arith}
+use borrow.Author.Tests.{not-true, not-false}
+use Rattle.call.proofs.RefusalLaws.{passed-state, passed-log, passed-rules}
+use Rattle.call_laws.proofs.WiredCallEffects.{wire-low, wire-high, wire-blocks, wire-name, wire-done}
+use borrow.Author.Needs.{needs}
+use Rattle.wired_calls.proofs.calls.set_wire.Statement.{statement}
+use Rattle.wired_calls.proofs.calls.set_wire.Tie as tie
+
+check-requires : tie.Need-check-requires
+check-requires c κs = search needs
+
+refusal-requires : tie.Need-refusal-requires
+refusal-requires c κs = search needs
+
+same-length : tie.Need-same-length
+same-length c = search needs
+
+same-length-2 : tie.Need-same-length-2
+same-length-2 c = search needs
+
+returns : tie.Need-returns
+returns c =
+    let at-check = c .before .before in
+    let args = at-check .before .before .before .before .before .args in
+    wire-blocks (args .state .now) (args .log .now) _ (at-check .check .ensures) (args .wire) (args .level)
+    (c .before .if1 .taken) _ (c .refusal .ensures)
+
+is-wire-requires : tie.Need-is-wire-requires
+is-wire-requires c κs = search needs
+
+same-length-3 : tie.Need-same-length-3
+same-length-3 c = search needs
+
+same-length-4 : tie.Need-same-length-4
+same-length-4 c = search needs
+
+returns-2 : tie.Need-returns-2
+returns-2 c =
+    let at-test = c .before .before in
+    let at-check = at-test .before in
+    let args = at-check .before .before .before .before .before .args in
+    wire-name (args .state .now) (args .log .now) _ (at-check .check .ensures) (args .wire) (args .level)
+    (at-test .if1 .left) (sym (c .before .is-wire .ensures) ∙ not-true _ (c .if2 .taken))
+
+wire-done-requires : tie.Need-wire-done-requires
+wire-done-requires c κs =
+    let at-name = c .before .before in
+    let at-test = at-name .before .before in
+    let at-check = at-test .before in
+    let args = at-check .before .before .before .before .before .args in
+    let none = sym (at-check .check .ensures) ∙ at-test .if1 .left in
+    let there = sym (at-name .before .is-wire .ensures) ∙ not-false _ (at-name .if2 .left) in (
+      passed-state true _ _ none,
+      passed-log true _ _ none,
+      wire-low (args .wire) (args .level) there,
+      wire-high (args .wire) (args .level) there,
+      passed-rules true _ _ none refl,
+    )
+
+cast-t18 : tie.Need-cast-t18
+cast-t18 c = omega (arith, c .before .before .before .before .wire-done .ensures .0)
+
+same-length-5 : tie.Need-same-length-5
+same-length-5 c = search needs
+
+same-length-6 : tie.Need-same-length-6
+same-length-6 c = search needs
+
+returns-3 : tie.Need-returns-3
+returns-3 c =
+    let at-done = c .before .before .before .before in
+    let at-name = at-done .before .before .before in
+    let at-test = at-name .before .before in
+    let at-check = at-test .before in
+    let args = at-check .before .before .before .before .before .args in
+    let none = sym (at-check .check .ensures) ∙ at-test .if1 .left in
+    wire-done (args .state .now) (args .log .now) _ (at-check .check .ensures) (args .wire) (args .level)
+    (at-test .if1 .left) (sym (at-name .before .is-wire .ensures) ∙ not-false _ (at-name .if2 .left)) _ _ _
+    (at-done .wire-done .kept .0 ∙ passed-state true _ _ none) (at-done .wire-done .ensures .1)
+
+pub set-wire-spec : {M : Type 1} → statement M
+set-wire-spec =
+    tie.close
+    (tie.spec
+    check-requires
+    refusal-requires
+    same-length
+    same-length-2
+    returns
+    is-wire-requires
+    same-length-3
+    same-length-4
+    returns-2
+    wire-done-requires
+    cast-t18
+    same-length-5
+    same-length-6
+    returns-3)

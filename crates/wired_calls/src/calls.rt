@@ -1,0 +1,70 @@
+// The calls, with their refusals.
+ghost use Rattle.call.specs.declared.Call.the-variants as the;
+ghost use Rattle.call.specs.Outcome.{outcome, Gives};
+use super::done::read_done;
+use super::done::wire_done;
+use super::done::write_done;
+use call::Answer;
+use call::check;
+use call::refusal;
+use region::address_legal;
+use region::word_at;
+
+pub fn set_wire(state: &mut [u32], log: &mut [u32], wire: u64, level: u64) -> Answer
+    ensures { λ r. ⌜ Gives (outcome (the.Wire wire level) (now (state .entry)) (now (log .entry))) r
+        (now (state .exit)) (now (log .exit)) ⌝ }
+{
+    let number = check(state, log);
+    if number != 0 {
+        return refusal(number);
+    }
+    if !call::is_wire(wire, level) {
+        return Answer::NoSuch;
+    }
+    let n = wire_done(state, log, wire as usize, level == 1);
+    Answer::Done(0, n as u32)
+}
+
+// Domain 0 is the machine domain, 1 the supervisor's.
+pub fn domain_read(state: &mut [u32], log: &mut [u32], domain: u64, address: u64) -> Answer
+    ensures { λ r. ⌜ Gives (outcome (the.DomainRead domain address) (now (state .entry)) (now (log .entry))) r
+        (now (state .exit)) (now (log .exit)) ⌝ }
+{
+    let number = check(state, log);
+    if number != 0 {
+        return refusal(number);
+    }
+    if 2 <= domain {
+        return Answer::NoSuch;
+    }
+    if !address_legal(address) {
+        return Answer::BadAddress;
+    }
+    let value = read_done(state, domain == 1, word_at(address));
+    Answer::Done(value as u64, 0)
+}
+
+pub fn domain_write(
+    state: &mut [u32],
+    log: &mut [u32],
+    domain: u64,
+    address: u64,
+    value: u32,
+) -> Answer
+    ensures { λ r. ⌜ Gives
+        (outcome (the.DomainWrite domain address value) (now (state .entry)) (now (log .entry))) r
+        (now (state .exit)) (now (log .exit)) ⌝ }
+{
+    let number = check(state, log);
+    if number != 0 {
+        return refusal(number);
+    }
+    if 2 <= domain {
+        return Answer::NoSuch;
+    }
+    if !address_legal(address) {
+        return Answer::BadAddress;
+    }
+    let n = write_done(state, log, domain == 1, word_at(address), value);
+    Answer::Done(0, n as u32)
+}

@@ -1,0 +1,7 @@
+// The calls on the wired controller: a wire set, a word of a domain read or written.
+mod calls;
+mod done;
+
+pub use calls::domain_read;
+pub use calls::domain_write;
+pub use calls::set_wire;
