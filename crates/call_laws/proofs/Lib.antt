@@ -2,3 +2,4 @@
 pub mod OutcomeEffects
 pub mod StepEffects
 pub mod WiredCallEffects
+pub mod GivesEffects

@@ -1,0 +1,40 @@
+-- A contract of the form Gives settles the answer and both blocks. No contract cites this file. Assumes
+-- nothing.
+use Prim.Native.Nat.{ℕ}
+use mathlib.Core.Path.{_≡_, refl, sym, _∙_}
+use mathlib.Core.Bool.{cond}
+use mathlib.Core.List.{List}
+use lib.Dec.{eqb}
+use Rattle.call.specs.declared.Answer.{Answer}
+use Rattle.call.specs.declared.Answer.the-variants.{Done, StateLength, LogLength, BrokenRule, NoSuch}
+use Rattle.call.specs.declared.Answer.the-variants.{BadAddress, IllegalSelect}
+use Rattle.call.specs.Answer.{numberOf, valueOf, countOf, refusalCase}
+use Rattle.call.specs.Outcome.{Outcome, Gives}
+
+-- the answer with these numbers
+told : ℕ → ℕ → ℕ → Answer
+told k v n = cond (eqb k 0) (Done v n) (refusalCase k)
+
+told-back : (r : Answer) → told (numberOf r) (valueOf r) (countOf r) ≡ r
+unfolding refusalCase told
+told-back (Done v n) = refl
+told-back StateLength = refl
+told-back LogLength = refl
+told-back BrokenRule = refl
+told-back NoSuch = refl
+told-back BadAddress = refl
+told-back IllegalSelect = refl
+
+-- an answer is settled by its refusal, value and count
+pub answer-one : (r s : Answer) → numberOf r ≡ numberOf s → valueOf r ≡ valueOf s → countOf r ≡ countOf s
+    → r ≡ s
+answer-one r s a v n = sym (told-back r) ∙ (λ k. told (a k) (v k) (n k)) ∙ told-back s
+
+-- two results that one outcome allows are equal
+pub gives-one : (o : Outcome) (r s : Answer) (l m g h : List ℕ) → Gives o r l g → Gives o s m h
+    → (r ≡ s) × (l ≡ m) × (g ≡ h)
+gives-one o r s l m g h a b = (
+  answer-one r s (a .number ∙ sym (b .number)) (a .value ∙ sym (b .value)) (a .count ∙ sym (b .count)),
+  a .block ∙ sym (b .block),
+  a .log ∙ sym (b .log),
+)
