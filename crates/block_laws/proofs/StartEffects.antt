@@ -16,7 +16,7 @@ use Rattle.domain.specs.Domain.{configOf, isEnabled, byMessages, generatedAt}
 use Rattle.domain.specs.Slot.{sourceAt}
 use Rattle.domain.specs.Structure.{structureAt}
 use Rattle.domain_laws.specs.Shape.{Shaped}
-use Rattle.writes.specs.Config.{keptConfig}
+use Rattle.config.specs.Config.{keptConfig}
 use Rattle.wired.specs.Wired.{isDelegated}
 use Rattle.source_rules.specs.SourceRules.{modeRange, targetRange, inactiveRule, levelRule, sourceSteady}
 use Rattle.source_rules.specs.SourceRules.{sentRule, sourceSound}

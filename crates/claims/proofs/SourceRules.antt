@@ -18,7 +18,7 @@ use Rattle.target.specs.Target.{hartOf, numberOf, receiverOf, keptTarget, keptG
 use Rattle.target.proofs.TargetLaws.{kept-first, kept-priority}
 use Rattle.source.specs.declared.Source.{Source}
 use Rattle.source.specs.Pending.{inactive}
-use Rattle.writes.specs.Config.{keptConfig}
+use Rattle.config.specs.Config.{keptConfig}
 use Rattle.source_rules.specs.SourceRules.{levelRule, sourceSteady, sentRule}
 use Rattle.source_laws.proofs.ModeEffects.{range-cases, range-delegated}
 use Rattle.source_laws.proofs.SteadyParts.{steady-mode, steady-target, steady-inactive, steady-level}

@@ -21,7 +21,7 @@ use Rattle.source.specs.Pending.{redelivered}
 use Rattle.domain.specs.Domain.{configOf, byMessages, withConfig, withGenerated}
 use Rattle.domain.specs.Slot.{sourceAt, withSource}
 use Rattle.domain.specs.Structure.{structureAt}
-use Rattle.writes.specs.Config.{keptConfig, redeliveredAt, redeliveredFrom, modeSettled, configWritten}
+use Rattle.config.specs.Config.{keptConfig, redeliveredAt, redeliveredFrom, modeSettled, configWritten}
 use Rattle.direct.specs.Direct.{standing, eligible, precedes, topFrom, topSource, topiOf}
 use Rattle.registers.specs.Read.{valueOf as readOf}
 use Rattle.claims.specs.Table.{Row, table, same, holds}

@@ -25,8 +25,8 @@ use Rattle.domain_laws.specs.Became.{Became}
 use Rattle.domain_laws.proofs.SlotEffects.{withSource-back}
 use Rattle.domain_laws.proofs.BecameEffects.{became-withConfig, became-messages, touched-as}
 use Rattle.writes.specs.Writes.{targetWritten}
-use Rattle.writes.specs.Config.{keptConfig, configWritten}
-use Rattle.writes.proofs.ConfigLaws.{mode-same}
+use Rattle.config.specs.Config.{keptConfig, configWritten}
+use Rattle.config.proofs.ConfigLaws.{mode-same}
 use Rattle.writes_laws.specs.Named.{named}
 use Rattle.writes_laws.proofs.WritesEffects.{touched-wordChanged, touched-numberChanged}
 use Rattle.writes_laws.proofs.WritesEffects.{touched-targetWritten}

@@ -9,3 +9,4 @@ pub mod Direct
 pub mod Rules
 pub mod Writes
 pub mod Operations
+pub mod Controller

@@ -16,7 +16,7 @@ use Rattle.words.specs.Parts.{packed}
 use Rattle.target.specs.Target.{keptTarget, messageOf}
 use Rattle.region.specs.declared.Word.the-variants.{Domaincfg}
 use Rattle.domain.specs.Domain.{Domain}
-use Rattle.writes.specs.Config.{configWritten}
+use Rattle.config.specs.Config.{configWritten}
 use Rattle.direct.specs.Direct.{topiOf}
 use Rattle.registers.specs.Read.{valueOf as readOf}
 

@@ -25,7 +25,7 @@ use Rattle.domain.specs.Slot.{sourceAt}
 use Rattle.domain_laws.specs.Shape.{Shaped}
 use Rattle.domain_laws.specs.Became.{Became, Touched}
 use Rattle.writes.specs.Writes.{wordChanged, numberChanged, targetWritten}
-use Rattle.writes.specs.Config.{configWritten}
+use Rattle.config.specs.Config.{configWritten}
 use Rattle.wired.specs.Wired.{Wired, wireSet, isDelegated, writtenIn}
 use Rattle.claims.specs.Rules.{Sound, TargetStored}
 

@@ -27,25 +27,7 @@ signals-silent x e t off =
     absurd (not-same (signals x e 1) (signals-iff x e 1 .1 (p .0, p .1, inr (λ z. omega arith))) off))
     (λ f. f)
 
--- topi's value for source i, and 0 for no source
-abbrev pub wordOf : Domain → ℕ → ℕ
-wordOf d i = cond (eqb i 0) 0 (i * 65536 + numberOf (sourceAt d i .target))
-
-pub word-none : (d : Domain) (i : ℕ) → i ≡ 0 → wordOf d i ≡ 0
-word-none d i z = simp (eq-eqb i 0 z)
-
-pub word-some : (d : Domain) (i : ℕ) → i ≢ 0 → wordOf d i ≡ i * 65536 + numberOf (sourceAt d i .target)
-word-some d i n = simp (ne-eqb i 0 n)
-
 module _ (d : Domain) (h : ℕ) where
-  pub topi-messages : byMessages d ≡ true → topiOf d h ≡ 0
-  unfolding topiOf
-  topi-messages m = simp m
-
-  pub topi-direct : byMessages d ≡ false → topiOf d h ≡ wordOf d (topSource d h)
-  unfolding topiOf
-  topi-direct m = simp m
-
   pub claimed-messages : byMessages d ≡ true → claimed d h ≡ d
   unfolding claimed
   claimed-messages m = simp m

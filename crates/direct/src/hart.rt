@@ -4,15 +4,15 @@ ghost use Prim.Native.Nat.{_<_};
 ghost use lib.ListN.{length};
 ghost use Rattle.domain.specs.Domain.{domainOf};
 ghost use Rattle.direct.specs.Direct.{topiOf, unforced, released, claimed, signalOf};
-use super::top::top_source;
-use super::top::topi;
-use super::top::topi_word;
 use domain::by_messages;
 use domain::enabled;
 use domain::load;
 use domain::load_structure;
 use domain::store;
 use domain::store_structure;
+use top::top_source;
+use top::topi;
+use top::topi_word;
 
 // A claim with no top clears iforce.
 fn unforce(part: &mut [u32], h: usize)

@@ -21,7 +21,7 @@ use Rattle.domain_laws.proofs.SlotEffects.{structureAt-withSource}
 use Rattle.domain_laws.proofs.StructureEffects.{structureAt-withStructure-same}
 use Rattle.domain_laws.proofs.StructureEffects.{structureAt-withStructure-other, sourceAt-withStructure}
 use Rattle.direct.specs.Direct.{topSource, topiOf, unforced, released, claimed, signalOf}
-use Rattle.direct.proofs.TopLaws.{topSource-lt}
+use Rattle.top.proofs.TopLaws.{topSource-lt}
 use Rattle.direct.proofs.DirectLaws.{claimed-none, claimed-some, signal-messages, signal-direct}
 use Rattle.direct_laws.proofs.TopEffects.{topi-zero}
 

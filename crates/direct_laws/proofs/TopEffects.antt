@@ -13,8 +13,9 @@ use Rattle.target.proofs.TargetLaws.{numberOf-lt}
 use Rattle.domain.specs.Domain.{Domain, byMessages}
 use Rattle.domain.specs.Slot.{sourceAt}
 use Rattle.direct.specs.Direct.{eligible, precedes, topFrom, topSource, topiOf, claimed}
-use Rattle.direct.proofs.TopLaws.{better, precedes-none, precedes-some, better-new, better-late, better-other}
-use Rattle.direct.proofs.TopLaws.{topFrom-end, topFrom-next, topSource-lt}
+use Rattle.top.proofs.TopLaws.{better, precedes-none, precedes-some, better-new, better-late, better-other}
+use Rattle.top.proofs.TopLaws.{topFrom-end, topFrom-next, topSource-lt}
+use Rattle.top.proofs.WordLaws as word
 use Rattle.direct.proofs.DirectLaws as direct
 
 -- the priority number of source i
@@ -142,14 +143,14 @@ module _ (d : Domain) (h : ℕ) where
 
   pub topi-is : byMessages d ≡ false → topSource d h ≢ 0
       → topiOf d h ≡ topSource d h * 65536 + priorityAt d (topSource d h)
-  topi-is m some = direct.topi-direct d h m ∙ direct.word-some d (topSource d h) some
+  topi-is m some = word.topi-direct d h m ∙ word.word-some d (topSource d h) some
 
   -- in direct mode topi is 0 exactly if the search finds nothing
   pub topi-zero : byMessages d ≡ false → topiOf d h ≡ 0 ↔ topSource d h ≡ 0
   topi-zero m = (
     λ z. tested (eqb (topSource d h) 0) (λ t. eqb-true (topSource d h) 0 t)
         (λ f. let some = eqb-false (topSource d h) 0 f in absurd (some (omega (arith, topi-is m some)))),
-    λ z. direct.topi-direct d h m ∙ direct.word-none d (topSource d h) z,
+    λ z. word.topi-direct d h m ∙ word.word-none d (topSource d h) z,
   )
 
   -- topi reads 0 exactly if no source counts
@@ -159,11 +160,11 @@ module _ (d : Domain) (h : ℕ) where
 
   -- by messages topi reads 0, and a claim changes nothing
   pub topi-messages : byMessages d ≡ true → (topiOf d h ≡ 0) × (claimed d h ≡ d)
-  topi-messages m = (direct.topi-messages d h m, direct.claimed-messages d h m)
+  topi-messages m = (word.topi-messages d h m, direct.claimed-messages d h m)
 
   pub topiOf-lt : topiOf d h < 2 ^ 32
   topiOf-lt =
-      tested (byMessages d) (λ m. omega (arith, direct.topi-messages d h m))
+      tested (byMessages d) (λ m. omega (arith, word.topi-messages d h m))
       (λ m. tested (eqb (topSource d h) 0) (λ t. omega (arith, topi-zero m .1 (eqb-true (topSource d h) 0 t)))
       (λ f. omega (
         arith,

@@ -58,7 +58,7 @@ pub fn write(part: &mut [u32], child: bool, wires: [u32; 2], word: Word, value: 
         ≡ registerWritten child (domainOf (now (part .entry))) wires word value ⌝ }
 {
     match word {
-        Word::Domaincfg => writes::write_config(part, wires, value),
+        Word::Domaincfg => config::write_config(part, wires, value),
         Word::Sourcecfg(_) => {}
         Word::Setip(k) => writes::change_word(part, wires, Change::Pend, k as usize, value),
         Word::Setipnum => writes::change_number(part, wires, Change::Pend, value),
@@ -75,7 +75,7 @@ pub fn write(part: &mut [u32], child: bool, wires: [u32; 2], word: Word, value: 
             Change::Pend,
             words::reversed32(value),
         ),
-        Word::Genmsi => writes::write_generated(part, value),
+        Word::Genmsi => config::write_generated(part, value),
         Word::Target(i) => writes::write_target(part, child, i as usize, value),
         Word::Idelivery(h) => direct::put_setting(part, h as usize, Setting::Idelivery, value),
         Word::Iforce(h) => direct::put_setting(part, h as usize, Setting::Iforce, value),

@@ -64,8 +64,8 @@ pub fn value_of(part: &[u32], wires: [u32; 2], word: Word) -> u32
         Word::Idelivery(h) => direct::setting_of(part, h as usize, Setting::Idelivery),
         Word::Iforce(h) => direct::setting_of(part, h as usize, Setting::Iforce),
         Word::Ithreshold(h) => direct::setting_of(part, h as usize, Setting::Ithreshold),
-        Word::Topi(h) => direct::topi(part, h as usize),
-        Word::Claimi(h) => direct::topi(part, h as usize),
+        Word::Topi(h) => top::topi(part, h as usize),
+        Word::Claimi(h) => top::topi(part, h as usize),
         Word::Unused => 0,
     }
 }

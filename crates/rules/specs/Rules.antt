@@ -20,7 +20,7 @@ use Rattle.delivery.specs.Delivery.{deliverySound}
 use Rattle.domain.specs.Domain.{Domain, configOf, isEnabled, byMessages, generatedAt}
 use Rattle.domain.specs.Slot.{sourceAt}
 use Rattle.domain.specs.Structure.{structureAt}
-use Rattle.writes.specs.Config.{keptConfig}
+use Rattle.config.specs.Config.{keptConfig}
 use Rattle.wired.specs.Wired.{Wired, isDelegated}
 use Rattle.source_rules.specs.SourceRules.{sourceSound}
 use Rattle.words.specs.Every.{every}

@@ -16,7 +16,7 @@ fn config_rule(part: &[u32]) -> bool
     ensures { λ r. ⌜ r ≡ configRange (domainOf (now (part .entry))) ⌝ }
 {
     let word = domain::config(part);
-    word == writes::kept_config(word)
+    word == config::kept_config(word)
 }
 
 fn generated_rules(part: &[u32]) -> bool

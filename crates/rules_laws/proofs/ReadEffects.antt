@@ -19,7 +19,7 @@ use Rattle.domain.specs.Slot.{sourceAt}
 use Rattle.domain.specs.Structure.{structureAt}
 use Rattle.domain_laws.proofs.OwnEffects.{byMessages-withSource, byMessages-withStructure}
 use Rattle.direct.specs.Direct.{topSource, unforced, released, claimed}
-use Rattle.direct.proofs.TopLaws.{topSource-lt}
+use Rattle.top.proofs.TopLaws.{topSource-lt}
 use Rattle.direct.proofs.DirectLaws as direct
 use Rattle.registers.specs.Read.{claimHart, claimedBy}
 use Rattle.registers.proofs.ReadLaws.{claimed-by, claimed-none}

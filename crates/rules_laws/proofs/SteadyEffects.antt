@@ -25,7 +25,7 @@ use Rattle.domain_laws.proofs.OwnEffects as own
 use Rattle.domain_laws.proofs.StructureEffects.{structureAt-withStructure-same}
 use Rattle.domain_laws.proofs.StructureEffects.{structureAt-withStructure-other, sourceAt-withStructure}
 use Rattle.domain_laws.proofs.StructureEffects.{shaped-withStructure}
-use Rattle.writes.specs.Config.{keptConfig}
+use Rattle.config.specs.Config.{keptConfig}
 use Rattle.source_rules.specs.SourceRules.{sourceSteady}
 use Rattle.rules.specs.Rules.{configRange, generatedRange, structureRange, zeroRule, generatedRule}
 use Rattle.rules_laws.specs.Steady.{Steady, Kept}

@@ -1,3 +1,2 @@
 -- The laws of writes. Assumes nothing.
 pub mod WritesLaws
-pub mod ConfigLaws

@@ -23,9 +23,9 @@ use Rattle.domain_laws.proofs.OwnEffects.{byMessages-withSource}
 use Rattle.domain_laws.proofs.BecameEffects.{became-withConfig, became-withGenerated, became-joined}
 use Rattle.domain_laws.proofs.BecameEffects.{became-touched, became-as, became-messages, became-enabled}
 use Rattle.domain_laws.proofs.BecameEffects.{touched-none, touched-as}
-use Rattle.writes.specs.Config.{keptConfig, redeliveredAt, redeliveredFrom, configWritten}
-use Rattle.writes.specs.Config.{generatedWritten}
-use Rattle.writes.proofs.ConfigLaws.{mode-same, mode-changed, generated-messages, generated-direct}
+use Rattle.config.specs.Config.{keptConfig, redeliveredAt, redeliveredFrom, configWritten}
+use Rattle.config.specs.Config.{generatedWritten}
+use Rattle.config.proofs.ConfigLaws.{mode-same, mode-changed, generated-messages, generated-direct}
 use Rattle.writes_laws.specs.Named.{keepsMode}
 
 -- ---- what is stored of domaincfg

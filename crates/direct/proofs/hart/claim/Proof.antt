@@ -3,8 +3,8 @@
 use mathlib.Core.Path.{ap, sym, _∙_}
 use Rattle.domain.specs.Domain.{domainOf}
 use Rattle.direct.specs.Direct.{released}
-use Rattle.direct.proofs.TopLaws.{topSource-lt}
-use Rattle.direct.proofs.DirectLaws.{wordOf, topi-messages, topi-direct}
+use Rattle.top.proofs.TopLaws.{topSource-lt}
+use Rattle.top.proofs.WordLaws.{wordOf, topi-messages, topi-direct}
 use Rattle.direct.proofs.DirectLaws.{claimed-messages, claimed-none, claimed-some}
 use borrow.Author.Needs.{needs}
 use Rattle.direct.proofs.hart.claim.Statement.{statement}

@@ -2,7 +2,7 @@
 use Prim.Native.Nat.{ℕ}
 use mathlib.Core.Path.{ap, _∙_}
 use lib.Dec.{eqb}
-use Rattle.writes.specs.Config.{keptConfig}
+use Rattle.config.specs.Config.{keptConfig}
 use Rattle.rules.specs.Rules.{configRange}
 use borrow.Author.Needs.{needs}
 use Rattle.rules.proofs.domains.config_rule.Statement.{statement}

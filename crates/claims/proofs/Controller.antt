@@ -1,0 +1,71 @@
+-- Claims 76 to 79, by the laws of the wired controller's calls. Assumes nothing.
+use Prim.Native.Nat.{ℕ, _≤_}
+use mathlib.Core.Path.{_≡_, refl, ap, _∙_}
+use mathlib.Core.Bool.{Bool, true, false}
+use mathlib.Core.List.{[], append-nil}
+use mathlib.Core.Logic.{_⊎_, inl, inr}
+use native.Mathlib.Omega.{arith}
+use Rattle.region.specs.declared.Word.the-variants.{Genmsi}
+use Rattle.wired.specs.Wired.{Wired, domainIn, writtenIn, wireSet}
+use Rattle.sending.specs.Sending.{Sent, sent}
+use Rattle.genmsi.specs.Genmsi.{generatedSent}
+use Rattle.rules_laws.specs.Steady.{WiredSteady, WiredQuiet}
+use Rattle.rules_laws.proofs.SoundParts.{wired-sound-steady, wired-sound-quiet}
+use Rattle.controller.specs.Controller.{Out, flushed, isGenmsi, generatedBy, wireCall, writeCall, OneSends}
+use Rattle.controller.proofs.CallLaws.{one-wireSet, read-silent, genmsi-silent}
+use Rattle.controller_laws.proofs.OutEffects.{wire-count, wire-exists, write-count, write-exists}
+use Rattle.controller_laws.proofs.OutEffects.{wire-sound, read-sound, write-sound}
+use Rattle.claims.specs.Rules.{Sound}
+use Rattle.claims.specs.Controller.{Claim-76, Claim-77, Claim-78, Claim-79}
+
+pub claim-76 : Claim-76
+unfolding Claim-76
+claim-76 = (
+  (λ l b b′ g g′ i n level learnt. learnt),
+  (λ l b b′ c r v learnt. learnt),
+  (λ l b b′ g g′ c r v n learnt. learnt),
+)
+
+-- what Sound says, in the two halves of the laws
+steady : (w : Wired) → Sound w → WiredSteady w
+steady w (lists, sound) = wired-sound-steady w sound (lists .0) (lists .1) (lists .2)
+
+quiet : (w : Wired) → Sound w → WiredQuiet w
+quiet w (lists, sound) = wired-sound-quiet w sound
+
+one : (w : Wired) → OneSends w → (sent false (w .root) .messages ≡ []) ⊎ (sent true (w .child) .messages ≡ [])
+one w (inl e) = inl e
+one w (inr e) = inr (ap (λ (s : Sent). s .messages) e)
+
+-- a write to genmsi, with nothing to be sent after it
+genmsi-alone : (w : Wired) (c : Bool) (v : ℕ)
+    → flushed (writtenIn w c Genmsi v) ≡ record { wired = writtenIn w c Genmsi v; messages = [] }
+    → writeCall w c Genmsi v
+    ≡ record { wired = writtenIn w c Genmsi v; messages = generatedSent c (domainIn w c) v }
+unfolding writeCall generatedBy isGenmsi
+genmsi-alone w c v silent = rw (silent, append-nil (generatedSent c (domainIn w c) v))
+
+pub claim-77 : Claim-77
+unfolding Claim-77 wireCall isGenmsi flushed
+claim-77 w s =
+    let a = steady w s in
+    let q = quiet w s in (
+      (λ i l h level. ((refl, refl), one (wireSet w i level) (one-wireSet w a q i l (omega arith) level))),
+      (λ c r. read-silent w a q c r),
+      (λ c v. genmsi-alone w c v (genmsi-silent w a q c Genmsi refl v)),
+    )
+
+pub claim-78 : Claim-78
+unfolding Claim-78
+claim-78 w s = (
+  (λ i l h level. (wire-count w (steady w s) (quiet w s) i l (omega arith) level, wire-exists w i level)),
+  (λ c r b v. (write-count w (steady w s) (quiet w s) c r b v, write-exists w c r v)),
+)
+
+pub claim-79 : Claim-79
+unfolding Claim-79
+claim-79 w s = (
+  (λ i l h level. wire-sound w (steady w s) i l (omega arith) level),
+  (λ c r. read-sound w (steady w s) c r),
+  (λ c r b v. write-sound w (steady w s) c r b v),
+)

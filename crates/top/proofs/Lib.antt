@@ -1,0 +1,4 @@
+-- The laws of the top. Assumes nothing.
+pub mod TopLaws
+pub mod StandingLaws
+pub mod WordLaws

@@ -1,0 +1,2 @@
+-- The top of a hart. Assumes nothing.
+pub mod Top
