@@ -24,6 +24,9 @@ use Rattle.domain.specs.Structure.{structureAt}
 use Rattle.config.specs.Config.{keptConfig, redeliveredAt, redeliveredFrom, modeSettled, configWritten}
 use Rattle.direct.specs.Direct.{standing, eligible, precedes, topFrom, topSource, topiOf}
 use Rattle.registers.specs.Read.{valueOf as readOf}
+use Rattle.region.specs.Region.{wordAt, wordIn, nameIn, registers, addressLegal}
+use Rattle.registers.specs.Read.{claimHart}
+use Rattle.call.specs.Refusal.{nameRefusal, named, addressed, selected}
 use Rattle.claims.specs.Table.{Row, table, same, holds}
 
 pub table-holds : holds table ≡ true
@@ -32,7 +35,7 @@ unfolding holds table same topOf topIdentity lowest qualifies passes member hasB
     standing eligible precedes lets structureAt sourceAt byMessages configOf hartOf guestOf numberOf fieldOf
     keptTarget receiverOf packed messageOf logWord readOf configWritten modeSettled keptConfig
     withConfig withGenerated redeliveredFrom redeliveredAt redelivered withSource isActive put remove
-    withoutBit
+    withoutBit claimHart wordAt wordIn nameIn registers nameRefusal named addressed selected addressLegal
 table-holds = refl
 
 -- what the test says of one row: the two lists are equal

@@ -10,3 +10,4 @@ pub mod Rules
 pub mod Writes
 pub mod Operations
 pub mod Controller
+pub mod BoardCalls

@@ -1,4 +1,4 @@
--- The table cases of the paper, T1 to T9 and T11: what the definitions give, beside what the table says.
+-- The table cases of the paper, T1 to T11: what the definitions give, beside what the table says.
 -- 01, "Table cases". Assumes nothing.
 use Prim.Native.Nat.{ℕ}
 use mathlib.Core.Bool.{Bool, true, false, _&&_}
@@ -18,7 +18,10 @@ use Rattle.region.specs.declared.Word.the-variants.{Domaincfg}
 use Rattle.domain.specs.Domain.{Domain}
 use Rattle.config.specs.Config.{configWritten}
 use Rattle.direct.specs.Direct.{topiOf}
-use Rattle.registers.specs.Read.{valueOf as readOf}
+use Rattle.region.specs.Region.{wordAt}
+use Rattle.registers.specs.Read.{valueOf as readOf, claimHart}
+use Rattle.call.specs.declared.Call.the-variants.{DomainRead}
+use Rattle.call.specs.Refusal.{nameRefusal}
 
 -- a row: the case's number, what the definitions give, what the table says
 pub record Row : Type 0 where
@@ -83,6 +86,8 @@ table =
       given = readOf (configWritten quiet wires 0x104) wires Domaincfg ∷ [];
       says = 0x80000104 ∷ [];
     }
+    ∷ record { case = 10; given = claimHart (wordAt 0x407C) ∷ []; says = 3 ∷ [] }
+    ∷ record { case = 10; given = nameRefusal (DomainRead 0 0x5000) ∷ []; says = 5 ∷ [] }
     ∷ record { case = 11; given = numberOf (accessed 255 true empty Read 0x81 0 .answer) ∷ []; says = 6 ∷ [] }
     ∷ record {
       case = 11;

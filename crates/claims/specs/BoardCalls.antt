@@ -1,0 +1,64 @@
+-- Claims 80 to 85, on the calls of the board: what a call gives, that this settles everything, when it is
+-- refused, and that a refused call changes nothing. 01, "Calls and their refusals". Assumes nothing.
+use Prim.Native.Nat.{ℕ}
+use mathlib.Core.Path.{_≡_}
+use mathlib.Core.Bool.{Bool, true, false}
+use mathlib.Core.List.{List}
+use mathlib.Core.Logic.{_≢_}
+use lib.ListN.{length}
+use contract.Lifetimes.{Lfts}
+use denote.Ref.{RefT, now}
+use Rattle.block.specs.Block.{boardOf, boardSound}
+use Rattle.call.specs.declared.Answer.{Answer}
+use Rattle.call.specs.declared.Call.{Call}
+use Rattle.call.specs.declared.Call.the-variants.{Wire, DomainRead, DomainWrite}
+use Rattle.call.specs.Refusal.{testsRules, named, addressed, selected, refusalOf}
+use Rattle.call.specs.Outcome.{Outcome, outcome, Gives}
+use Rattle.wired_calls.proofs.set_wire.Reads as set-wire
+use Rattle.wired_calls.proofs.domain_read.Reads as domain-read
+use Rattle.wired_calls.proofs.domain_write.Reads as domain-write
+
+-- ---- what a call gives
+
+-- the calls on the wired controller, for any numbers and any blocks
+unfoldable pub Claim-80 : Type 0
+Claim-80 =
+    (l : Lfts 2) (b b′ g g′ : RefT (List ℕ)) (r : Answer)
+    → ((i level : ℕ) → set-wire.Learnt l (b, (g, (i, (level, tt)))) r (b′, (g′, (i, (level, tt))))
+    → Gives (outcome (Wire i level) (now b) (now g)) r (now b′) (now g′))
+    × ((d a : ℕ) → domain-read.Learnt l (b, (g, (d, (a, tt)))) r (b′, (g′, (d, (a, tt))))
+    → Gives (outcome (DomainRead d a) (now b) (now g)) r (now b′) (now g′))
+    × ((d a v : ℕ) → domain-write.Learnt l (b, (g, (d, (a, (v, tt))))) r (b′, (g′, (d, (a, (v, tt)))))
+    → Gives (outcome (DomainWrite d a v) (now b) (now g)) r (now b′) (now g′))
+
+-- two results that a call's contract allows are equal: the answer and both blocks
+unfoldable pub Claim-83 : Type 0
+Claim-83 =
+    (o : Outcome) (r s : Answer) (l m g h : List ℕ) → Gives o r l g → Gives o s m h
+    → (r ≡ s) × (l ≡ m) × (g ≡ h)
+
+-- ---- when it is refused
+
+-- both blocks have their lengths, and the block keeps the state rules where they are tested
+abbrev pub Passes : Call → List ℕ → List ℕ → Type 0
+Passes c l g =
+    (length l ≡ 650) × (length g ≡ 63) × (testsRules c ≡ true → boardSound (boardOf l) ≡ true)
+
+-- the table of refusals: each number where it applies and no lower one does, and 0 where none does
+unfoldable pub Claim-84 : Type 0
+Claim-84 =
+    (c : Call) (l g : List ℕ)
+    → (length l ≢ 650 → refusalOf c l g ≡ 1)
+    × (length l ≡ 650 → length g ≢ 63 → refusalOf c l g ≡ 2)
+    × (length l ≡ 650 → length g ≡ 63 → testsRules c ≡ true → boardSound (boardOf l) ≡ false
+    → refusalOf c l g ≡ 3)
+    × (Passes c l g → named c ≡ false → refusalOf c l g ≡ 4)
+    × (Passes c l g → named c ≡ true → addressed c ≡ false → refusalOf c l g ≡ 5)
+    × (Passes c l g → named c ≡ true → addressed c ≡ true → selected c ≡ false → refusalOf c l g ≡ 6)
+    × (Passes c l g → named c ≡ true → addressed c ≡ true → selected c ≡ true → refusalOf c l g ≡ 0)
+
+-- a refused call answers its number, 0 and 0, and changes neither block
+unfoldable pub Claim-85 : Type 0
+Claim-85 =
+    (c : Call) (l g : List ℕ) → refusalOf c l g ≢ 0
+    → outcome c l g ≡ record { number = refusalOf c l g; value = 0; count = 0; block = l; log = g }
