@@ -3,3 +3,4 @@ pub mod OutcomeEffects
 pub mod StepEffects
 pub mod WiredCallEffects
 pub mod GivesEffects
+pub mod KeepsEffects

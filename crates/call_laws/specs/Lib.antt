@@ -1,2 +1,3 @@
 -- What a call's code leaves. Assumes nothing.
 pub mod Left
+pub mod Small

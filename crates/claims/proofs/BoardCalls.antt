@@ -1,19 +1,33 @@
--- Claims 80 to 85, by the laws of the calls. Assumes nothing.
+-- Claims 80 to 88, by the laws of the calls. Assumes nothing.
 use Prim.Native.Nat.{ℕ, suc}
-use mathlib.Core.Path.{_≡_, refl, sym, _∙_}
+use mathlib.Core.Path.{_≡_, refl, sym, subst, _∙_}
 use mathlib.Core.Bool.{true, false}
 use mathlib.Core.List.{List}
+use native.Mathlib.Decide.{ℕ-discrete}
 use native.Mathlib.Omega.{arith}
+use lib.ListN.{take}
 use borrow.Author.Tests.{ne-eqb}
 use Rattle.words.proofs.TestsLaws.{tested}
+use Rattle.file.specs.declared.File.{File}
+use Rattle.file.specs.Shape.{Shaped}
+use Rattle.files.specs.Files.{theFile}
+use Rattle.file_laws.proofs.Stored.{part-fit}
+use Rattle.files_laws.proofs.Keeps.{filesOf-shaped}
+use Rattle.block.specs.Block.{boardOf}
+use Rattle.block.proofs.BlockLaws.{files-part, files-long}
+use Rattle.block_laws.proofs.BlockBack.{block-back, boardOf-shaped, board-back, length-blockOf}
+use Rattle.block_laws.proofs.StartEffects.{start-sound}
 use Rattle.call.specs.declared.Call.{Call}
-use Rattle.call.specs.Refusal.{testsRules, blockRefusal, nameRefusal, refusalOf}
+use Rattle.call.specs.Refusal.{testsRules, named, blockRefusal, nameRefusal, refusalOf}
 use Rattle.call.specs.Outcome.{outcome}
 use Rattle.call.proofs.RefusalLaws.{refused-state, refused-log, refused-rules, blocks-sound, blocks-untested}
 use Rattle.call.proofs.RefusalLaws.{refused-name, refused-address, refused-select, numbers-name}
-use Rattle.call.proofs.RefusalLaws.{refused-blocks, refused-numbers}
+use Rattle.call.proofs.RefusalLaws.{refused-blocks, refused-numbers, passed-state}
 use Rattle.call_laws.proofs.GivesEffects.{gives-one}
+use Rattle.call_laws.proofs.KeepsEffects.{keeps-step}
+use Rattle.call_laws.proofs.StepEffects.{step-reset}
 use Rattle.claims.specs.BoardCalls.{Claim-80, Claim-83, Passes, Claim-84, Claim-85}
+use Rattle.claims.specs.BoardCalls.{Claim-86, Claim-87, Claim-88}
 
 pub claim-80 : Claim-80
 unfolding Claim-80
@@ -51,3 +65,37 @@ claim-84 c l g = (
 pub claim-85 : Claim-85
 unfolding Claim-85 outcome
 claim-85 c l g h = simp (ne-eqb (refusalOf c l g) 0 h)
+
+-- ---- what an accepted call leaves
+
+-- an accepted call passed every test
+accepted : (c : Call) (l g : List ℕ) → refusalOf c l g ≡ 0
+    → (blockRefusal (testsRules c) l g ≡ 0) × (nameRefusal c ≡ 0)
+accepted c l g e = at (ℕ-discrete (blockRefusal (testsRules c) l g) 0)
+  where
+    at : Dec (blockRefusal (testsRules c) l g ≡ 0)
+        → (blockRefusal (testsRules c) l g ≡ 0) × (nameRefusal c ≡ 0)
+    at (yes z) = (z, sym (refused-numbers c l g 0 (sym z) refl) ∙ e)
+    at (no n) = absurd (n (sym (refused-blocks c l g _ refl n) ∙ e))
+
+names : (c : Call) → nameRefusal c ≡ 0 → named c ≡ true
+names c e = tested (named c) (λ y. y) (λ n. absurd (omega (arith, refused-name c n, e)))
+
+pub claim-86 : Claim-86
+unfolding Claim-86
+claim-86 l g fit c small sound e =
+    let passed = accepted c l g e in
+    let long = passed-state (testsRules c) l g (passed .0) in
+    let files = take 360 l in
+    keeps-step (boardOf l) (boardOf-shaped l long) sound
+    (λ k h. subst (λ (fs : List File). Shaped (theFile fs k)) (files-part l long)
+    (filesOf-shaped files (files-long l long) k h (part-fit l 0 360 fit)))
+    c (names c (passed .1)) small
+
+pub claim-87 : Claim-87
+unfolding Claim-87
+claim-87 b = (step-reset b, start-sound)
+
+pub claim-88 : Claim-88
+unfolding Claim-88
+claim-88 = (block-back, (λ b s. (board-back b s, length-blockOf b s)))

@@ -1,19 +1,24 @@
--- Claims 80 to 85, on the calls of the board: what a call gives, that this settles everything, when it is
--- refused, and that a refused call changes nothing. 01, "Calls and their refusals". Assumes nothing.
-use Prim.Native.Nat.{ℕ}
+-- Claims 80 to 88, on the calls of the board: what a call gives, that this settles everything, when it is
+-- refused, that a refused call changes nothing, and what an accepted one leaves. 01, "Calls and their
+-- refusals", "State rules". Assumes nothing.
+use Prim.Native.Nat.{ℕ, _≤_}
 use mathlib.Core.Path.{_≡_}
 use mathlib.Core.Bool.{Bool, true, false}
-use mathlib.Core.List.{List}
+use mathlib.Core.List.{List, []}
 use mathlib.Core.Logic.{_≢_}
 use lib.ListN.{length}
 use contract.Lifetimes.{Lfts}
 use denote.Ref.{RefT, now}
-use Rattle.block.specs.Block.{boardOf, boardSound}
+use Rattle.words.specs.Sets.{WordsFit}
+use Rattle.block.specs.Block.{Board, boardOf, blockOf, boardSound}
+use Rattle.block.specs.Start.{startBoard}
+use Rattle.block_laws.specs.Shape.{BoardShaped}
 use Rattle.call.specs.declared.Answer.{Answer}
 use Rattle.call.specs.declared.Call.{Call}
-use Rattle.call.specs.declared.Call.the-variants.{Wire, DomainRead, DomainWrite}
+use Rattle.call.specs.declared.Call.the-variants.{Reset, Wire, DomainRead, DomainWrite}
 use Rattle.call.specs.Refusal.{testsRules, named, addressed, selected, refusalOf}
-use Rattle.call.specs.Outcome.{Outcome, outcome, Gives}
+use Rattle.call.specs.Outcome.{Outcome, step, outcome, Gives}
+use Rattle.call_laws.specs.Small.{Small}
 use Rattle.wired_calls.proofs.set_wire.Reads as set-wire
 use Rattle.wired_calls.proofs.domain_read.Reads as domain-read
 use Rattle.wired_calls.proofs.domain_write.Reads as domain-write
@@ -62,3 +67,24 @@ unfoldable pub Claim-85 : Type 0
 Claim-85 =
     (c : Call) (l g : List ℕ) → refusalOf c l g ≢ 0
     → outcome c l g ≡ record { number = refusalOf c l g; value = 0; count = 0; block = l; log = g }
+
+-- ---- what an accepted call leaves
+
+-- the state rules hold again, and 63 log words suffice, for every call: of words of 32 bits that keep the
+-- rules, and a value of 64 bits
+unfoldable pub Claim-86 : Type 0
+Claim-86 =
+    (l g : List ℕ) → WordsFit l → (c : Call) → Small c → boardSound (boardOf l) ≡ true → refusalOf c l g ≡ 0
+    → (boardSound (step c (boardOf l) .board) ≡ true) × (length (step c (boardOf l) .messages) ≤ 63)
+
+-- reset leaves the board that the paper describes, whatever the block held, and sends nothing
+unfoldable pub Claim-87 : Type 0
+Claim-87 =
+    (b : Board) → (step Reset b ≡ record { board = startBoard; value = 0; messages = [] })
+    × (boardSound startBoard ≡ true)
+
+-- a board has one block, and a block one board
+unfoldable pub Claim-88 : Type 0
+Claim-88 =
+    ((l : List ℕ) → length l ≡ 650 → blockOf (boardOf l) ≡ l)
+    × ((b : Board) → BoardShaped b → (boardOf (blockOf b) ≡ b) × (length (blockOf b) ≡ 650))

@@ -156,7 +156,7 @@ module _ (l : List ℕ) (at : ℕ) (f : File) where
   file-apart s = long-apart (shaped-long f s)
 
 -- a stretch of a block has words of 32 bits if the block has
-part-fit : (l : List ℕ) (at n : ℕ) → WordsFit l → WordsFit (take n (drop at l))
+pub part-fit : (l : List ℕ) (at n : ℕ) → WordsFit l → WordsFit (take n (drop at l))
 unfolding WordsFit
 part-fit l at n fit k = place (decLt k n)
   where
