@@ -4,3 +4,5 @@ pub mod StepEffects
 pub mod WiredCallEffects
 pub mod GivesEffects
 pub mod KeepsEffects
+pub mod CallTests
+pub mod FileCallEffects

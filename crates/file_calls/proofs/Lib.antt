@@ -1,0 +1,1 @@
+-- The proofs of the calls on one message file. Assumes nothing.

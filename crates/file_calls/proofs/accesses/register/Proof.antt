@@ -1,0 +1,133 @@
+-- `file_calls::accesses::register` meets its contract: refused, or its file accessed and stored. Assumes
+-- nothing.
+use mathlib.Core.Path.{refl, sym, _∙_}
+use borrow.Author.Tests.{not-true, not-false}
+use Rattle.words.proofs.TestsLaws.{and-first}
+use Rattle.call_laws.proofs.CallTests.{checked-long, tests-blocks, tests-name, tests-select}
+use Rattle.call_laws.proofs.FileCallEffects.{register-did, tests-register, register-done}
+use borrow.Author.Needs.{needs}
+use Rattle.file_calls.proofs.accesses.register.Statement.{statement}
+use Rattle.file_calls.proofs.accesses.register.Tie as tie
+
+check-requires : tie.Need-check-requires
+check-requires c κs = search needs
+
+refusal-requires : tie.Need-refusal-requires
+refusal-requires c κs = search needs
+
+same-length : tie.Need-same-length
+same-length c = search needs
+
+same-length-2 : tie.Need-same-length-2
+same-length-2 c = search needs
+
+returns : tie.Need-returns
+returns c =
+    tests-blocks (tests-register _ _ _ _ _) _ _ _ (c .before .before .check .ensures)
+    (c .before .if1 .taken) _ (c .refusal .ensures)
+
+is-access-requires : tie.Need-is-access-requires
+is-access-requires c κs = search needs
+
+same-length-3 : tie.Need-same-length-3
+same-length-3 c = search needs
+
+same-length-4 : tie.Need-same-length-4
+same-length-4 c = search needs
+
+returns-2 : tie.Need-returns-2
+returns-2 c =
+    let at-check = c .before .before in
+    tests-name (tests-register _ _ _ _ _) _ _ _ (at-check .before .check .ensures) (at-check .if1 .left)
+    (sym (c .before .is-access .ensures) ∙ not-true _ (c .if2 .taken))
+
+select-legal-requires : tie.Need-select-legal-requires
+select-legal-requires c κs = search needs
+
+same-length-5 : tie.Need-same-length-5
+same-length-5 c = search needs
+
+same-length-6 : tie.Need-same-length-6
+same-length-6 c = search needs
+
+returns-3 : tie.Need-returns-3
+returns-3 c =
+    let at-test = c .before .before in
+    let at-check = at-test .before .before in
+    tests-select (tests-register _ _ _ _ _) _ _ _ (at-check .before .check .ensures) (at-check .if1 .left)
+    (sym (at-test .before .is-access .ensures) ∙ not-false _ (at-test .if2 .left)) refl
+    (sym (c .before .select-legal .ensures) ∙ not-true _ (c .if3 .taken))
+
+load-file-requires : tie.Need-load-file-requires
+load-file-requires c κs =
+    let at-test = c .before .before .before in
+    let at-check = at-test .before .before in (
+      checked-long _ _ _ (at-check .before .check .ensures) (at-check .if1 .left),
+      and-first _ _ (sym (at-test .before .is-access .ensures) ∙ not-false _ (at-test .if2 .left)),
+    )
+
+kind-of-requires : tie.Need-kind-of-requires
+kind-of-requires c κs = search needs
+
+access-requires : tie.Need-access-requires
+access-requires c κs = search needs
+
+store-file-requires : tie.Need-store-file-requires
+store-file-requires c κs =
+    let at-test = c .before .before .before .before .before .before .before in
+    let at-check = at-test .before .before in (
+      checked-long _ _ _ (at-check .before .check .ensures) (at-check .if1 .left),
+      and-first _ _ (sym (at-test .before .is-access .ensures) ∙ not-false _ (at-test .if2 .left)),
+    )
+
+value-of-requires : tie.Need-value-of-requires
+value-of-requires c κs = search needs
+
+same-length-7 : tie.Need-same-length-7
+same-length-7 c = search needs
+
+same-length-8 : tie.Need-same-length-8
+same-length-8 c = search needs
+
+returns-4 : tie.Need-returns-4
+returns-4 c =
+    let at-store = c .before .before .before in
+    let at-access = at-store .before .before in
+    let at-kind = at-access .before in
+    let at-load = at-kind .before in
+    let at-select = at-load .before .before in
+    let at-test = at-select .before .before in
+    let at-check = at-test .before .before in
+    let there = sym (at-test .before .is-access .ensures) ∙ not-false _ (at-test .if2 .left) in
+    register-done _ _ _ (at-check .before .check .ensures) (at-check .if1 .left) _ _ _
+    (at-load .load-file .ensures) _ _ (at-store .store-file .kept .0)
+    (at-store .store-file .ensures) _ _ _ there
+    (sym (at-select .before .select-legal .ensures) ∙ not-false _ (at-select .if3 .left)) _
+    (register-did _ _ (and-first _ _ there) _ _ _ _ _ (at-kind .kind-of .ensures) _
+    (at-access .access .ensures)) refl _ (c .value-of .ensures)
+
+pub register-spec : {M : Type 1} → statement M
+register-spec =
+    tie.close
+    (tie.spec
+    check-requires
+    refusal-requires
+    same-length
+    same-length-2
+    returns
+    is-access-requires
+    same-length-3
+    same-length-4
+    returns-2
+    select-legal-requires
+    same-length-5
+    same-length-6
+    returns-3
+    load-file-requires
+    kind-of-requires
+    access-requires
+    store-file-requires
+    value-of-requires
+    same-length-7
+    same-length-8
+    returns-4)

@@ -1,0 +1,41 @@
+// An access to a register of a file, by its select number.
+ghost use Rattle.call.specs.declared.Call.the-variants as the;
+ghost use Rattle.call.specs.Outcome.{outcome, Gives};
+use super::one::is_access;
+use super::one::load_file;
+use super::one::store_file;
+use super::one::value_of;
+use call::Answer;
+use call::check;
+use call::refusal;
+
+// The kind is 0 for read, 1 for write, 2 for set bits, 3 for clear bits.
+pub fn register(
+    state: &mut [u32],
+    log: &mut [u32],
+    hart: u64,
+    file: u64,
+    kind: u64,
+    select: u64,
+    value: u64,
+) -> Answer
+    ensures { λ r. ⌜ Gives
+        (outcome (the.Register hart file kind select value) (now (state .entry)) (now (log .entry))) r
+        (now (state .exit)) (now (log .exit)) ⌝ }
+{
+    let number = check(state, log);
+    if number != 0 {
+        return refusal(number);
+    }
+    if !is_access(hart, file, kind) {
+        return Answer::NoSuch;
+    }
+    if !file::select_legal(select) {
+        return Answer::IllegalSelect;
+    }
+    let f = load_file(state, hart, file);
+    let done = f.access(2 <= file, call::kind_of(kind), select, value);
+    let answer = done.answer;
+    store_file(state, hart, file, done.file);
+    Answer::Done(value_of(answer), 0)
+}

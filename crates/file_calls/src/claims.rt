@@ -1,0 +1,26 @@
+// A claim: the top of a file, with its pending bit cleared.
+ghost use Rattle.call.specs.declared.Call.the-variants as the;
+ghost use Rattle.call.specs.Outcome.{outcome, Gives};
+use super::one::load_file;
+use super::one::store_file;
+use call::Answer;
+use call::check;
+use call::is_file;
+use call::refusal;
+
+pub fn claim(state: &mut [u32], log: &mut [u32], hart: u64, file: u64) -> Answer
+    ensures { λ r. ⌜ Gives (outcome (the.Claim hart file) (now (state .entry)) (now (log .entry))) r
+        (now (state .exit)) (now (log .exit)) ⌝ }
+{
+    let number = check(state, log);
+    if number != 0 {
+        return refusal(number);
+    }
+    if !is_file(hart, file) {
+        return Answer::NoSuch;
+    }
+    let f = load_file(state, hart, file);
+    let done = f.claim();
+    store_file(state, hart, file, done.file);
+    Answer::Done(done.top as u64, 0)
+}

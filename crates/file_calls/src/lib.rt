@@ -1,0 +1,13 @@
+// The calls on one message file: its page, its registers, its top. Each has a file of its own.
+mod accesses;
+mod claims;
+mod one;
+mod page_reads;
+mod page_writes;
+mod tops;
+
+pub use accesses::register;
+pub use claims::claim;
+pub use page_reads::page_read;
+pub use page_writes::page_write;
+pub use tops::top;

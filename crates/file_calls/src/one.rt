@@ -1,0 +1,47 @@
+// One file of the block, by hart and file.
+ghost use mathlib.Core.Path.{_≡_};
+ghost use mathlib.Core.Bool.{true, _&&_};
+ghost use lib.Dec.{ltb};
+ghost use lib.ListN.{length};
+ghost use Rattle.file.specs.Answer.{valueOf};
+ghost use Rattle.files.specs.Files.{fileNumber, theFile, withFile};
+ghost use Rattle.block.specs.Block.{boardOf};
+ghost use Rattle.call.specs.Refusal.{isFile};
+use call::is_file;
+use file::Answer;
+use file::File;
+
+// There is such a file, and such a kind of access.
+pub fn is_access(hart: u64, file: u64, kind: u64) -> bool
+    ensures { λ r. ⌜ r ≡ (isFile hart file && ltb kind 4) ⌝ }
+{
+    is_file(hart, file) & (kind < 4)
+}
+
+pub fn load_file(state: &[u32], hart: u64, file: u64) -> File
+    requires { ⌜ (length (now state) ≡ 650) × (isFile hart file ≡ true) ⌝ }
+    ensures { λ r. ⌜ r ≡ theFile (boardOf (now (state .entry)) .files) (fileNumber hart file) ⌝ }
+{
+    files::load(&state[0..360], (5 * hart + file) as usize)
+}
+
+pub fn store_file(state: &mut [u32], hart: u64, file: u64, f: File)
+    requires { ⌜ (length (now state) ≡ 650) × (isFile hart file ≡ true) ⌝ }
+    ensures { λ r. ⌜ boardOf (now (state .exit))
+        ≡ record {
+          files = withFile (boardOf (now (state .entry)) .files) (fileNumber hart file) f;
+          wired = boardOf (now (state .entry)) .wired;
+        } ⌝ }
+{
+    files::store(&mut state[0..360], (5 * hart + file) as usize, f);
+}
+
+// The value that a register access answers, 0 for an illegal one.
+pub fn value_of(answer: Answer) -> u64
+    ensures { λ r. ⌜ r ≡ valueOf answer ⌝ }
+{
+    match answer {
+        Answer::Value(v) => v,
+        Answer::Illegal => 0,
+    }
+}

@@ -1,0 +1,27 @@
+// A read of a file's page.
+ghost use Rattle.call.specs.declared.Call.the-variants as the;
+ghost use Rattle.call.specs.Outcome.{outcome, Gives};
+use super::one::load_file;
+use call::Answer;
+use call::check;
+use call::is_file;
+use call::is_page_address;
+use call::refusal;
+
+pub fn page_read(state: &mut [u32], log: &mut [u32], hart: u64, file: u64, offset: u64) -> Answer
+    ensures { λ r. ⌜ Gives (outcome (the.PageRead hart file offset) (now (state .entry)) (now (log .entry))) r
+        (now (state .exit)) (now (log .exit)) ⌝ }
+{
+    let number = check(state, log);
+    if number != 0 {
+        return refusal(number);
+    }
+    if !is_file(hart, file) {
+        return Answer::NoSuch;
+    }
+    if !is_page_address(offset) {
+        return Answer::BadAddress;
+    }
+    let f = load_file(state, hart, file);
+    Answer::Done(f.page_read(offset) as u64, 0)
+}

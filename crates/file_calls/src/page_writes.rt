@@ -1,0 +1,37 @@
+// A write to a file's page: a message.
+ghost use Rattle.call.specs.declared.Call.the-variants as the;
+ghost use Rattle.call.specs.Outcome.{outcome, Gives};
+use super::one::load_file;
+use super::one::store_file;
+use call::Answer;
+use call::check;
+use call::is_file;
+use call::is_page_address;
+use call::refusal;
+
+pub fn page_write(
+    state: &mut [u32],
+    log: &mut [u32],
+    hart: u64,
+    file: u64,
+    offset: u64,
+    value: u32,
+) -> Answer
+    ensures { λ r. ⌜ Gives
+        (outcome (the.PageWrite hart file offset value) (now (state .entry)) (now (log .entry))) r
+        (now (state .exit)) (now (log .exit)) ⌝ }
+{
+    let number = check(state, log);
+    if number != 0 {
+        return refusal(number);
+    }
+    if !is_file(hart, file) {
+        return Answer::NoSuch;
+    }
+    if !is_page_address(offset) {
+        return Answer::BadAddress;
+    }
+    let f = load_file(state, hart, file);
+    store_file(state, hart, file, f.page_write(offset, value));
+    Answer::Done(0, 0)
+}

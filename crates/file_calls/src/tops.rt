@@ -1,0 +1,23 @@
+// The top of a file.
+ghost use Rattle.call.specs.declared.Call.the-variants as the;
+ghost use Rattle.call.specs.Outcome.{outcome, Gives};
+use super::one::load_file;
+use call::Answer;
+use call::check;
+use call::is_file;
+use call::refusal;
+
+pub fn top(state: &mut [u32], log: &mut [u32], hart: u64, file: u64) -> Answer
+    ensures { λ r. ⌜ Gives (outcome (the.Top hart file) (now (state .entry)) (now (log .entry))) r
+        (now (state .exit)) (now (log .exit)) ⌝ }
+{
+    let number = check(state, log);
+    if number != 0 {
+        return refusal(number);
+    }
+    if !is_file(hart, file) {
+        return Answer::NoSuch;
+    }
+    let f = load_file(state, hart, file);
+    Answer::Done(f.top() as u64, 0)
+}
