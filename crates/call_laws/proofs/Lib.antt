@@ -6,3 +6,4 @@ pub mod GivesEffects
 pub mod KeepsEffects
 pub mod CallTests
 pub mod FileCallEffects
+pub mod HartCallEffects

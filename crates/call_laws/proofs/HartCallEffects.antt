@@ -1,0 +1,112 @@
+-- What a reset and the signals of a hart test, do and give, and the signals file by file. No contract cites
+-- this file. Assumes nothing.
+use Prim.Native.Nat.{ℕ, _+_, _≤_, _<_}
+use mathlib.Core.Path.{_≡_, refl, sym, ap, _∙_}
+use mathlib.Core.Bool.{Bool, true, false}
+use mathlib.Core.List.{List}
+use mathlib.Core.Logic.{_≢_}
+use native.Mathlib.Numerals.{add-one}
+use lib.Dec.{eqb, ltb}
+use lib.ListN.{length, take, drop}
+use borrow.Author.Tests.{lt-ltb, le-ltb, eq-eqb, ne-eqb}
+use Rattle.words.specs.Bits.{putBit}
+use Rattle.file.specs.declared.File.{File}
+use Rattle.file.specs.Size.{identities}
+use Rattle.file.specs.Top.{signals}
+use Rattle.files.specs.Files.{fileNumber, theFile}
+use Rattle.direct.specs.Direct.{signalOf}
+use Rattle.sending.proofs.SendingLaws.{logged-none}
+use Rattle.wired.specs.Wired.{Wired, wiredOf, domainIn}
+use Rattle.block.specs.Block.{Board, boardOf, boardSound}
+use Rattle.block.specs.Start.{startBoard}
+use Rattle.block.proofs.BlockLaws.{wired-part}
+use Rattle.call.specs.declared.Answer.{Answer}
+use Rattle.call.specs.declared.Answer.the-variants.{Done}
+use Rattle.call.specs.declared.Call.the-variants.{Reset, Signals}
+use Rattle.call.specs.Answer.{refusalCase}
+use Rattle.call.specs.Change.{signalAt, signalsTo, change}
+use Rattle.call.specs.Refusal.{testsRules, named, addressed, selected, blockRefusal, nameRefusal}
+use Rattle.call.specs.Outcome.{step, outcome, Gives}
+use Rattle.call.proofs.RefusalLaws.{passed-state, numbers-name}
+use Rattle.call_laws.proofs.OutcomeEffects.{gives-blocks, gives-done}
+use Rattle.call_laws.proofs.StepEffects.{step-answering, step-reset}
+use Rattle.call_laws.proofs.CallTests.{Tests, quiet, checked-long, checked-sound, tests-done}
+
+-- ---- a reset; k is what the test of the lengths answered
+
+reset-names : nameRefusal Reset ≡ 0
+unfolding named addressed selected
+reset-names = numbers-name Reset refl refl refl
+
+module _ (l g : List ℕ) (k : ℕ) (e : k ≡ blockRefusal false l g) where
+  untested : k ≡ blockRefusal (testsRules Reset) l g
+  unfolding testsRules
+  untested = e
+
+  pub reset-blocks : k ≢ 0 → (r : Answer) → r ≡ refusalCase k → Gives (outcome Reset l g) r l g
+  reset-blocks = gives-blocks Reset l g k untested
+
+  module _ (z : k ≡ 0) where
+    pub reset-long : length l ≡ 650
+    reset-long = passed-state false l g (sym e ∙ z)
+
+    pub reset-done : (l′ : List ℕ) → length l′ ≡ length l → boardOf l′ ≡ startBoard
+        → Gives (outcome Reset l g) (Done 0 0) l′ g
+    reset-done l′ kept board =
+        gives-done Reset l g k untested z reset-names (quiet startBoard 0) (step-reset (boardOf l)) 0 0 refl
+        refl l′ g (kept ∙ reset-long) board (sym (logged-none g))
+
+-- ---- the signal of file f of hart h, where x is that file
+
+module _ (b : Board) (h f : ℕ) (x : File) (here : x ≡ theFile (b .files) (fileNumber h f)) where
+  pub signal-own : signals identities x ≡ true → signalAt b h f ≡ true
+  unfolding signalAt
+  signal-own own = simp (sym here, own)
+
+  module _ (own : signals identities x ≡ false) where
+    pub signal-guest : 2 ≤ f → signalAt b h f ≡ false
+    unfolding signalAt
+    signal-guest g = simp (sym here, own, le-ltb f 2 g)
+
+    module _ (low : f < 2) where
+      pub signal-off : x .delivery ≢ 0x40000000 → signalAt b h f ≡ false
+      unfolding signalAt
+      signal-off d = simp (sym here, own, lt-ltb f 2 low, ne-eqb (x .delivery) 0x40000000 d)
+
+      pub signal-domain : x .delivery ≡ 0x40000000
+          → signalAt b h f ≡ signalOf (domainIn (b .wired) (eqb f 1)) h
+      unfolding signalAt
+      signal-domain d = simp (sym here, own, lt-ltb f 2 low, eq-eqb (x .delivery) 0x40000000 d)
+
+-- the signal of the domain, read where the wired controller's part of the block l is lent
+pub signal-lent : (l : List ℕ) → length l ≡ 650 → (h f : ℕ) (r : Bool)
+    → r ≡ signalOf (domainIn (wiredOf (take 290 (drop 360 l))) (eqb f 1)) h
+    → r ≡ signalOf (domainIn (boardOf l .wired) (eqb f 1)) h
+signal-lent l long h f r e = e ∙ ap (λ (w : Wired). signalOf (domainIn w (eqb f 1)) h) (wired-part l long)
+
+module _ (b : Board) (h : ℕ) where
+  pub signals-none : signalsTo b h 0 ≡ 0
+  unfolding signalsTo
+  signals-none = refl
+
+  pub signals-next : (n : ℕ) → putBit (signalsTo b h n) n (signalAt b h n) ≡ signalsTo b h (n + 1)
+  unfolding signalsTo
+  signals-next n = rw add-one
+
+-- ---- the signals of a hart; k is what the test of the blocks answered
+
+pub tests-signals : (h : ℕ) → Tests (Signals h) (ltb h 4) true true
+unfolding testsRules named addressed selected
+tests-signals h = record { rules = refl; names = refl; addresses = refl; selects = refl }
+
+step-signals : (b : Board) → boardSound b ≡ true → (h : ℕ)
+    → step (Signals h) b ≡ quiet b (signalsTo b h 5)
+unfolding step change
+step-signals b sound h = step-answering b sound _
+
+pub signals-done : (l g : List ℕ) (k : ℕ) (e : k ≡ blockRefusal true l g) (z : k ≡ 0) (h : ℕ) → h < 4
+    → (v : ℕ) → v ≡ signalsTo (boardOf l) h 5 → Gives (outcome (Signals h) l g) (Done v 0) l g
+signals-done l g k e z h there v p =
+    tests-done (tests-signals h) l g k e z (lt-ltb h 4 there) refl refl (boardOf l)
+    (signalsTo (boardOf l) h 5) (step-signals (boardOf l) (checked-sound l g k e z) h) v p l
+    (checked-long l g k e z) refl

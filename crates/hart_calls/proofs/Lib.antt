@@ -1,0 +1,1 @@
+-- The proofs of the calls on the whole board and on a hart. Assumes nothing.

@@ -1,0 +1,34 @@
+// The calls, with their refusals. Reset tests the lengths only.
+ghost use Rattle.call.specs.declared.Call.the-variants as the;
+ghost use Rattle.call.specs.Outcome.{outcome, Gives};
+use super::signal::all_signals;
+use call::Answer;
+use call::check;
+use call::lengths;
+use call::refusal;
+
+pub fn reset(state: &mut [u32], log: &mut [u32]) -> Answer
+    ensures { λ r. ⌜ Gives (outcome the.Reset (now (state .entry)) (now (log .entry))) r
+        (now (state .exit)) (now (log .exit)) ⌝ }
+{
+    let number = lengths(state, log);
+    if number != 0 {
+        return refusal(number);
+    }
+    block::start(state);
+    Answer::Done(0, 0)
+}
+
+pub fn signals(state: &mut [u32], log: &mut [u32], hart: u64) -> Answer
+    ensures { λ r. ⌜ Gives (outcome (the.Signals hart) (now (state .entry)) (now (log .entry))) r
+        (now (state .exit)) (now (log .exit)) ⌝ }
+{
+    let number = check(state, log);
+    if number != 0 {
+        return refusal(number);
+    }
+    if 4 <= hart {
+        return Answer::NoSuch;
+    }
+    Answer::Done(all_signals(state, hart as usize) as u64, 0)
+}

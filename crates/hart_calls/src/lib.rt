@@ -1,0 +1,6 @@
+// The calls on the whole board and on a hart: reset, and the signals.
+mod calls;
+mod signal;
+
+pub use calls::reset;
+pub use calls::signals;
