@@ -1,24 +1,34 @@
--- Claims 80 to 88, by the laws of the calls. Assumes nothing.
-use Prim.Native.Nat.{ℕ, suc}
-use mathlib.Core.Path.{_≡_, refl, sym, subst, _∙_}
-use mathlib.Core.Bool.{true, false}
+-- Claims 80 to 89, by the laws of the calls. Assumes nothing.
+use Prim.Native.Nat.{ℕ, zero, suc, _<_}
+use mathlib.Core.Path.{_≡_, refl, sym, ap, subst, _∙_}
+use mathlib.Core.Bool.{Bool, true, false, _&&_, _||_}
 use mathlib.Core.List.{List}
+use mathlib.Core.Logic.{_≢_, inl, inr, ⊎-elim}
 use native.Mathlib.Decide.{ℕ-discrete}
 use native.Mathlib.Omega.{arith}
+use lib.Dec.{eqb, ltb}
 use lib.ListN.{take}
-use borrow.Author.Tests.{ne-eqb}
-use Rattle.words.proofs.TestsLaws.{tested}
+use borrow.Author.Tests.{eq-eqb, ne-eqb, eqb-true, lt-ltb, ltb-true}
+use Rattle.words.specs.Bits.{hasBit, putBit}
+use Rattle.words.proofs.BitsLaws.{putBit-on, putBit-off, hasBit-withBit-same, hasBit-withBit-other}
+use Rattle.words.proofs.BitsLaws.{hasBit-withoutBit-same, hasBit-withoutBit-other}
+use Rattle.words.proofs.TestsLaws.{tested, and-first, and-second, and-both, or-cases}
 use Rattle.file.specs.declared.File.{File}
 use Rattle.file.specs.Shape.{Shaped}
-use Rattle.files.specs.Files.{theFile}
+use Rattle.file.specs.Top.{signals}
+use Rattle.files.specs.Files.{fileNumber, theFile}
+use Rattle.direct.specs.Direct.{signalOf}
+use Rattle.direct_laws.proofs.ClaimEffects.{signal-iff}
+use Rattle.wired.specs.Wired.{domainIn}
 use Rattle.file_laws.proofs.Stored.{part-fit}
 use Rattle.files_laws.proofs.Keeps.{filesOf-shaped}
-use Rattle.block.specs.Block.{boardOf}
+use Rattle.block.specs.Block.{Board, boardOf}
 use Rattle.block.proofs.BlockLaws.{files-part, files-long}
 use Rattle.block_laws.proofs.BlockBack.{block-back, boardOf-shaped, board-back, length-blockOf}
 use Rattle.block_laws.proofs.StartEffects.{start-sound}
 use Rattle.call.specs.declared.Call.{Call}
 use Rattle.call.specs.Refusal.{testsRules, named, blockRefusal, nameRefusal, refusalOf}
+use Rattle.call.specs.Change.{signalAt, signalsTo}
 use Rattle.call.specs.Outcome.{outcome}
 use Rattle.call.proofs.RefusalLaws.{refused-state, refused-log, refused-rules, blocks-sound, blocks-untested}
 use Rattle.call.proofs.RefusalLaws.{refused-name, refused-address, refused-select, numbers-name}
@@ -26,13 +36,30 @@ use Rattle.call.proofs.RefusalLaws.{refused-blocks, refused-numbers, passed-sta
 use Rattle.call_laws.proofs.GivesEffects.{gives-one}
 use Rattle.call_laws.proofs.KeepsEffects.{keeps-step}
 use Rattle.call_laws.proofs.StepEffects.{step-reset}
-use Rattle.claims.specs.BoardCalls.{Claim-80, Claim-83, Passes, Claim-84, Claim-85}
-use Rattle.claims.specs.BoardCalls.{Claim-86, Claim-87, Claim-88}
+use Rattle.claims.specs.FileFacts.{Claim-33}
+use Rattle.claims.proofs.FileFacts.{claim-33}
+use Rattle.claims.specs.BoardCalls.{Claim-80, Claim-81, Claim-82, Claim-83, Passes, Claim-84}
+use Rattle.claims.specs.BoardCalls.{Claim-85}
+use Rattle.claims.specs.BoardCalls.{Claim-86, Claim-87, Claim-88, Claim-89}
 
 pub claim-80 : Claim-80
 unfolding Claim-80
 claim-80 l b b′ g g′ r =
     ((λ i level learnt. learnt), (λ d a learnt. learnt), (λ d a v learnt. learnt))
+
+pub claim-81 : Claim-81
+unfolding Claim-81
+claim-81 l b b′ g g′ r h f = (
+  (λ a learnt. learnt),
+  (λ a v learnt. learnt),
+  (λ k s v learnt. learnt),
+  (λ learnt. learnt),
+  (λ learnt. learnt),
+)
+
+pub claim-82 : Claim-82
+unfolding Claim-82
+claim-82 l b b′ g g′ r = ((λ learnt. learnt), (λ h learnt. learnt))
 
 pub claim-83 : Claim-83
 unfolding Claim-83
@@ -99,3 +126,63 @@ claim-87 b = (step-reset b, start-sound)
 pub claim-88 : Claim-88
 unfolding Claim-88
 claim-88 = (block-back, (λ b s. (board-back b s, length-blockOf b s)))
+
+-- ---- the signals
+
+bit-put : (w k : ℕ) (b : Bool) → hasBit (putBit w k b) k ≡ b
+bit-put w k true = ap (λ (x : ℕ). hasBit x k) (putBit-on w k true refl) ∙ hasBit-withBit-same w k
+bit-put w k false = ap (λ (x : ℕ). hasBit x k) (putBit-off w k false refl) ∙ hasBit-withoutBit-same w k
+
+bit-stays : (w k : ℕ) (b : Bool) (j : ℕ) → j ≢ k → hasBit (putBit w k b) j ≡ hasBit w j
+bit-stays w k true j n =
+    ap (λ (x : ℕ). hasBit x j) (putBit-on w k true refl) ∙ hasBit-withBit-other w k j n
+bit-stays w k false j n =
+    ap (λ (x : ℕ). hasBit x j) (putBit-off w k false refl) ∙ hasBit-withoutBit-other w k j n
+
+signal-bit : (b : Board) (h n f : ℕ) → f < n → hasBit (signalsTo b h n) f ≡ signalAt b h f
+unfolding signalsTo
+signal-bit b h zero f l = absurd (omega arith)
+signal-bit b h (suc n) f l = at (ℕ-discrete f n) (signal-bit b h n f)
+  where
+    at : Dec (f ≡ n) → (f < n → hasBit (signalsTo b h n) f ≡ signalAt b h f)
+        → hasBit (signalsTo b h (suc n)) f ≡ signalAt b h f
+    at (yes e) lower =
+        ap (hasBit (signalsTo b h (suc n))) e ∙ bit-put (signalsTo b h n) n (signalAt b h n)
+        ∙ ap (signalAt b h) (sym e)
+    at (no d) lower = bit-stays (signalsTo b h n) n (signalAt b h n) f d ∙ lower (omega arith)
+
+or-first : (a b : Bool) → a ≡ true → (a || b) ≡ true
+or-first a b e = rw e
+
+or-second : (a b : Bool) → b ≡ true → (a || b) ≡ true
+or-second true b e = refl
+or-second false b e = e
+
+pub claim-89 : Claim-89
+unfolding Claim-89 signalAt Claim-33
+claim-89 b h f l =
+    let x = theFile (b .files) (fileNumber h f) in
+    let d = domainIn (b .wired) (eqb f 1) in
+    let low = ltb f 2 in
+    let takes = eqb (x .delivery) 0x40000000 in
+    let own = signals 255 x in
+    let domains = low && takes && signalOf d h in (
+      (λ e. ⊎-elim (λ t. inl (claim-33 255 x .0 t))
+          (λ t. let both = and-first (low && takes) (signalOf d h) t in
+          let s = signal-iff d h .0 (and-second (low && takes) (signalOf d h) t) in
+          inr (
+            ltb-true f 2 (and-first low takes both),
+            eqb-true (x .delivery) 0x40000000
+                (and-second low takes both),
+            s .0,
+            s .1,
+            s .2,
+            s .3,
+          ))
+          (or-cases own domains (sym (signal-bit b h 5 f l) ∙ e))),
+      (λ p. signal-bit b h 5 f l ∙ ⊎-elim (λ q. or-first own domains (claim-33 255 x .1 q))
+          (λ (q : _). or-second own domains
+          (and-both (low && takes) (signalOf d h)
+          (and-both low takes (lt-ltb f 2 (q .0)) (eq-eqb (x .delivery) 0x40000000 (q .1)))
+          (signal-iff d h .1 (q .2, q .3, q .4, q .5)))) p),
+    )

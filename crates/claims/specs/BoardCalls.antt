@@ -1,27 +1,44 @@
--- Claims 80 to 88, on the calls of the board: what a call gives, that this settles everything, when it is
+-- Claims 80 to 89, on the calls of the board: what a call gives, that this settles everything, when it is
 -- refused, that a refused call changes nothing, and what an accepted one leaves. 01, "Calls and their
 -- refusals", "State rules". Assumes nothing.
-use Prim.Native.Nat.{ℕ, _≤_}
+use Prim.Native.Nat.{ℕ, _≤_, _<_}
 use mathlib.Core.Path.{_≡_}
 use mathlib.Core.Bool.{Bool, true, false}
 use mathlib.Core.List.{List, []}
-use mathlib.Core.Logic.{_≢_}
+use mathlib.Core.Logic.{_≢_, _↔_, _⊎_}
+use lib.Dec.{eqb}
 use lib.ListN.{length}
 use contract.Lifetimes.{Lfts}
 use denote.Ref.{RefT, now}
+use Rattle.words.specs.Bits.{hasBit}
 use Rattle.words.specs.Sets.{WordsFit}
+use Rattle.file.specs.Top.{topOf}
+use Rattle.files.specs.Files.{fileNumber, theFile}
+use Rattle.domain.specs.Domain.{isEnabled, byMessages}
+use Rattle.domain.specs.Structure.{structureAt}
+use Rattle.direct.specs.Direct.{topiOf}
+use Rattle.wired.specs.Wired.{domainIn}
 use Rattle.block.specs.Block.{Board, boardOf, blockOf, boardSound}
 use Rattle.block.specs.Start.{startBoard}
 use Rattle.block_laws.specs.Shape.{BoardShaped}
 use Rattle.call.specs.declared.Answer.{Answer}
 use Rattle.call.specs.declared.Call.{Call}
-use Rattle.call.specs.declared.Call.the-variants.{Reset, Wire, DomainRead, DomainWrite}
+use Rattle.call.specs.declared.Call.the-variants.{Reset, Wire, DomainRead, DomainWrite, PageRead, PageWrite}
+use Rattle.call.specs.declared.Call.the-variants.{Register, Top, Claim, Signals}
 use Rattle.call.specs.Refusal.{testsRules, named, addressed, selected, refusalOf}
+use Rattle.call.specs.Change.{signalsTo}
 use Rattle.call.specs.Outcome.{Outcome, step, outcome, Gives}
 use Rattle.call_laws.specs.Small.{Small}
 use Rattle.wired_calls.proofs.set_wire.Reads as set-wire
 use Rattle.wired_calls.proofs.domain_read.Reads as domain-read
 use Rattle.wired_calls.proofs.domain_write.Reads as domain-write
+use Rattle.file_calls.proofs.page_read.Reads as page-read
+use Rattle.file_calls.proofs.page_write.Reads as page-write
+use Rattle.file_calls.proofs.register.Reads as register
+use Rattle.file_calls.proofs.top.Reads as top
+use Rattle.file_calls.proofs.claim.Reads as claim
+use Rattle.hart_calls.proofs.reset.Reads as reset
+use Rattle.hart_calls.proofs.signals.Reads as signals
 
 -- ---- what a call gives
 
@@ -35,6 +52,32 @@ Claim-80 =
     → Gives (outcome (DomainRead d a) (now b) (now g)) r (now b′) (now g′))
     × ((d a v : ℕ) → domain-write.Learnt l (b, (g, (d, (a, (v, tt))))) r (b′, (g′, (d, (a, (v, tt)))))
     → Gives (outcome (DomainWrite d a v) (now b) (now g)) r (now b′) (now g′))
+
+-- the calls on one message file
+unfoldable pub Claim-81 : Type 0
+Claim-81 =
+    (l : Lfts 2) (b b′ g g′ : RefT (List ℕ)) (r : Answer) (h f : ℕ)
+    → ((a : ℕ) → page-read.Learnt l (b, (g, (h, (f, (a, tt))))) r (b′, (g′, (h, (f, (a, tt)))))
+    → Gives (outcome (PageRead h f a) (now b) (now g)) r (now b′) (now g′))
+    × ((a v : ℕ)
+    → page-write.Learnt l (b, (g, (h, (f, (a, (v, tt)))))) r (b′, (g′, (h, (f, (a, (v, tt))))))
+    → Gives (outcome (PageWrite h f a v) (now b) (now g)) r (now b′) (now g′))
+    × ((k s v : ℕ)
+    → register.Learnt l (b, (g, (h, (f, (k, (s, (v, tt))))))) r (b′, (g′, (h, (f, (k, (s, (v, tt)))))))
+    → Gives (outcome (Register h f k s v) (now b) (now g)) r (now b′) (now g′))
+    × (top.Learnt l (b, (g, (h, (f, tt)))) r (b′, (g′, (h, (f, tt))))
+    → Gives (outcome (Top h f) (now b) (now g)) r (now b′) (now g′))
+    × (claim.Learnt l (b, (g, (h, (f, tt)))) r (b′, (g′, (h, (f, tt))))
+    → Gives (outcome (Claim h f) (now b) (now g)) r (now b′) (now g′))
+
+-- reset, and the signals of a hart
+unfoldable pub Claim-82 : Type 0
+Claim-82 =
+    (l : Lfts 2) (b b′ g g′ : RefT (List ℕ)) (r : Answer)
+    → (reset.Learnt l (b, (g, tt)) r (b′, (g′, tt))
+    → Gives (outcome Reset (now b) (now g)) r (now b′) (now g′))
+    × ((h : ℕ) → signals.Learnt l (b, (g, (h, tt))) r (b′, (g′, (h, tt)))
+    → Gives (outcome (Signals h) (now b) (now g)) r (now b′) (now g′))
 
 -- two results that a call's contract allows are equal: the answer and both blocks
 unfoldable pub Claim-83 : Type 0
@@ -88,3 +131,17 @@ unfoldable pub Claim-88 : Type 0
 Claim-88 =
     ((l : List ℕ) → length l ≡ 650 → blockOf (boardOf l) ≡ l)
     × ((b : Board) → BoardShaped b → (boardOf (blockOf b) ≡ b) × (length (blockOf b) ≡ 650))
+
+-- ---- the signals
+
+-- bit f of the answer is up exactly if file f signals: with delivery 1 if its top is not 0, and file 0 or 1
+-- with delivery 0x40000000 if its domain has DM = 0, IE = 1, idelivery = 1, and iforce or topi that is not 0
+unfoldable pub Claim-89 : Type 0
+Claim-89 =
+    (b : Board) (h f : ℕ) → f < 5
+    → let x = theFile (b .files) (fileNumber h f) in
+    let d = domainIn (b .wired) (eqb f 1) in
+    hasBit (signalsTo b h 5) f ≡ true
+    ↔ (((x .delivery ≡ 1) × (topOf 255 x ≢ 0))
+    ⊎ ((f < 2) × (x .delivery ≡ 0x40000000) × (byMessages d ≡ false) × (isEnabled d ≡ true)
+    × (structureAt d h .idelivery ≡ 1) × ((structureAt d h .iforce ≢ 0) ⊎ (topiOf d h ≢ 0))))

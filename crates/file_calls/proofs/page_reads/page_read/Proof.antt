@@ -1,4 +1,5 @@
--- `file_calls::page_reads::page_read` meets its contract: refused, or what its page reads. Assumes nothing.
+-- `file_calls::page_reads::page_read` meets its contract: refused, or what its page reads. The file is
+-- long because each of four ways out asks for the lengths of both blocks. Assumes nothing.
 use mathlib.Core.Path.{sym, _∙_}
 use borrow.Author.Tests.{not-true, not-false}
 use Rattle.call_laws.proofs.CallTests.{checked-long, tests-blocks, tests-name, tests-address}
