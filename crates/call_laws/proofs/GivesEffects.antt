@@ -1,7 +1,7 @@
 -- A contract of the form Gives settles the answer and both blocks. No contract cites this file. Assumes
 -- nothing.
 use Prim.Native.Nat.{ℕ}
-use mathlib.Core.Path.{_≡_, refl, sym, _∙_}
+use mathlib.Core.Path.{_≡_, refl, sym, subst, _∙_}
 use mathlib.Core.Bool.{cond}
 use mathlib.Core.List.{List}
 use lib.Dec.{eqb}
@@ -9,7 +9,8 @@ use Rattle.call.specs.declared.Answer.{Answer}
 use Rattle.call.specs.declared.Answer.the-variants.{Done, StateLength, LogLength, BrokenRule, NoSuch}
 use Rattle.call.specs.declared.Answer.the-variants.{BadAddress, IllegalSelect}
 use Rattle.call.specs.Answer.{numberOf, valueOf, countOf, refusalCase}
-use Rattle.call.specs.Outcome.{Outcome, Gives}
+use Rattle.call.specs.declared.Call.{Call}
+use Rattle.call.specs.Outcome.{Outcome, outcome, Gives}
 
 -- the answer with these numbers
 told : ℕ → ℕ → ℕ → Answer
@@ -38,3 +39,8 @@ gives-one o r s l m g h a b = (
   a .block ∙ sym (b .block),
   a .log ∙ sym (b .log),
 )
+
+-- what an equal call gives
+pub gives-of : {c d : Call} → c ≡ d → (l g m h : List ℕ) (r : Answer) → Gives (outcome c l g) r m h
+    → Gives (outcome d l g) r m h
+gives-of e l g m h r = subst (λ (x : Call). Gives (outcome x l g) r m h) e

@@ -1,4 +1,4 @@
--- Claims 80 to 89, by the laws of the calls. Assumes nothing.
+-- Claims 80 to 90, by the laws of the calls. Assumes nothing.
 use Prim.Native.Nat.{ℕ, zero, suc, _<_}
 use mathlib.Core.Path.{_≡_, refl, sym, ap, subst, _∙_}
 use mathlib.Core.Bool.{Bool, true, false, _&&_, _||_}
@@ -40,7 +40,7 @@ use Rattle.claims.specs.FileFacts.{Claim-33}
 use Rattle.claims.proofs.FileFacts.{claim-33}
 use Rattle.claims.specs.BoardCalls.{Claim-80, Claim-81, Claim-82, Claim-83, Passes, Claim-84}
 use Rattle.claims.specs.BoardCalls.{Claim-85}
-use Rattle.claims.specs.BoardCalls.{Claim-86, Claim-87, Claim-88, Claim-89}
+use Rattle.claims.specs.BoardCalls.{Claim-86, Claim-87, Claim-88, Claim-89, Claim-90}
 
 pub claim-80 : Claim-80
 unfolding Claim-80
@@ -60,6 +60,10 @@ claim-81 l b b′ g g′ r h f = (
 pub claim-82 : Claim-82
 unfolding Claim-82
 claim-82 l b b′ g g′ r = ((λ learnt. learnt), (λ h learnt. learnt))
+
+pub claim-90 : Claim-90
+unfolding Claim-90
+claim-90 l b b′ g g′ c r learnt = learnt
 
 pub claim-83 : Claim-83
 unfolding Claim-83

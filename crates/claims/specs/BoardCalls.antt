@@ -1,4 +1,4 @@
--- Claims 80 to 89, on the calls of the board: what a call gives, that this settles everything, when it is
+-- Claims 80 to 90, on the calls of the board: what a call gives, that this settles everything, when it is
 -- refused, that a refused call changes nothing, and what an accepted one leaves. 01, "Calls and their
 -- refusals", "State rules". Assumes nothing.
 use Prim.Native.Nat.{ℕ, _≤_, _<_}
@@ -39,6 +39,7 @@ use Rattle.file_calls.proofs.top.Reads as top
 use Rattle.file_calls.proofs.claim.Reads as claim
 use Rattle.hart_calls.proofs.reset.Reads as reset
 use Rattle.hart_calls.proofs.signals.Reads as signals
+use Rattle.board.proofs.apply.Reads as apply
 
 -- ---- what a call gives
 
@@ -78,6 +79,13 @@ Claim-82 =
     → Gives (outcome Reset (now b) (now g)) r (now b′) (now g′))
     × ((h : ℕ) → signals.Learnt l (b, (g, (h, tt))) r (b′, (g′, (h, tt)))
     → Gives (outcome (Signals h) (now b) (now g)) r (now b′) (now g′))
+
+-- the function over the enum of calls gives what the call of each case gives
+unfoldable pub Claim-90 : Type 0
+Claim-90 =
+    (l : Lfts 2) (b b′ g g′ : RefT (List ℕ)) (c : Call) (r : Answer)
+    → apply.Learnt l (b, (g, (c, tt))) r (b′, (g′, (c, tt)))
+    → Gives (outcome c (now b) (now g)) r (now b′) (now g′)
 
 -- two results that a call's contract allows are equal: the answer and both blocks
 unfoldable pub Claim-83 : Type 0
