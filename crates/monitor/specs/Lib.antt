@@ -1,0 +1,2 @@
+-- What a monitor in C is told. Assumes nothing.
+pub mod Told

@@ -1,0 +1,23 @@
+-- What an exported function answers to C: the numbers of the paper, not an enum. 01, "Calls and their
+-- refusals". Assumes nothing.
+--   Numbers r a     r has the refusal, the value and the count of the answer a
+--   Told o r l g    a function that answers r and leaves the block l and the log g does as o says
+use mathlib.Core.Path.{_≡_}
+use mathlib.Core.List.{List}
+use Prim.Native.Nat.{ℕ}
+use Rattle.call.specs.declared.Answer.{Answer}
+use Rattle.call.specs.Answer.{numberOf, valueOf, countOf}
+use Rattle.call.specs.Outcome.{Outcome}
+use Rattle.monitor.specs.declared.VskAnswer.{VskAnswer}
+
+pub record Numbers (r : VskAnswer) (a : Answer) : Type 0 where
+  pub refusal : r .refusal ≡ numberOf a
+  pub value : r .value ≡ valueOf a
+  pub count : r .count ≡ countOf a
+
+pub record Told (o : Outcome) (r : VskAnswer) (l g : List ℕ) : Type 0 where
+  pub refusal : r .refusal ≡ o .number
+  pub value : r .value ≡ o .value
+  pub count : r .count ≡ o .count
+  pub block : l ≡ o .block
+  pub log : g ≡ o .log

@@ -1,0 +1,80 @@
+// The functions that a monitor in C calls, each thin over one call of the board. C gives a slice as two
+// arguments, the pointer and the number of words; include/varskumo.h has the prototypes.
+ghost use mathlib.Core.Path.{_≡_};
+ghost use Rattle.call.specs.declared.Call.the-variants as the;
+ghost use Rattle.call.specs.Outcome.{outcome};
+ghost use Rattle.monitor.specs.Told.{Numbers, Told};
+use call::Answer;
+
+// What C is answered, in two registers. The refusal is 0 if the call is done.
+#[repr(C)]
+pub struct VskAnswer {
+    pub value: u64,
+    // the number of messages
+    pub count: u32,
+    pub refusal: u32,
+}
+
+fn refused(number: u32) -> VskAnswer
+    ensures { λ r. ⌜ r ≡ record { value = 0; count = 0; refusal = number } ⌝ }
+{
+    VskAnswer {
+        value: 0,
+        count: 0,
+        refusal: number,
+    }
+}
+
+fn numbers(answer: Answer) -> VskAnswer
+    ensures { λ r. ⌜ Numbers r answer ⌝ }
+{
+    match answer {
+        Answer::Done(value, count) => VskAnswer {
+            value: value,
+            count: count,
+            refusal: 0,
+        },
+        Answer::StateLength => refused(1),
+        Answer::LogLength => refused(2),
+        Answer::BrokenRule => refused(3),
+        Answer::NoSuch => refused(4),
+        Answer::BadAddress => refused(5),
+        Answer::IllegalSelect => refused(6),
+    }
+}
+
+#[no_mangle]
+pub extern "C" fn vsk_wire(state: &mut [u32], log: &mut [u32], wire: u64, level: u64) -> VskAnswer
+    ensures { λ r. ⌜ Told (outcome (the.Wire wire level) (now (state .entry)) (now (log .entry))) r
+        (now (state .exit)) (now (log .exit)) ⌝ }
+{
+    numbers(wired_calls::set_wire(state, log, wire, level))
+}
+
+#[no_mangle]
+pub extern "C" fn vsk_domain_read(
+    state: &mut [u32],
+    log: &mut [u32],
+    domain: u64,
+    address: u64,
+) -> VskAnswer
+    ensures { λ r. ⌜ Told (outcome (the.DomainRead domain address) (now (state .entry)) (now (log .entry))) r
+        (now (state .exit)) (now (log .exit)) ⌝ }
+{
+    numbers(wired_calls::domain_read(state, log, domain, address))
+}
+
+#[no_mangle]
+pub extern "C" fn vsk_domain_write(
+    state: &mut [u32],
+    log: &mut [u32],
+    domain: u64,
+    address: u64,
+    value: u32,
+) -> VskAnswer
+    ensures { λ r. ⌜ Told
+        (outcome (the.DomainWrite domain address value) (now (state .entry)) (now (log .entry))) r
+        (now (state .exit)) (now (log .exit)) ⌝ }
+{
+    numbers(wired_calls::domain_write(state, log, domain, address, value))
+}
