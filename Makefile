@@ -1,9 +1,11 @@
-# make proves and builds what there is and prints the table cases; make test is the whole gate; see make help.
+# make proves and builds what there is, runs the example in C and prints the table cases; make test is the whole
+# gate; see make help.
 .DEFAULT_GOAL := all
-.PHONY: all test check fmt style clean help toolchain
+.PHONY: all test check example fmt style clean help toolchain
 
 # rt check runs each program once it is proved, and keeps what it wrote
 all: check
+	@$(MAKE) --no-print-directory example
 	@echo "table cases:"
 	@cat target/log/cases.stdout
 
@@ -16,6 +18,10 @@ test: toolchain
 check: toolchain
 	@rt check
 
+# a monitor in C on the proved archive; it is skipped, and says so, where gcc is not there
+example: toolchain
+	@scripts/example
+
 fmt: toolchain
 	@rt fmt
 
@@ -26,9 +32,10 @@ clean:
 	@rm -rf target
 
 help:
-	@echo "make          prove every crate, build and run the programs, print the table cases"
+	@echo "make          prove every crate, build and run the programs and the C example, print the table cases"
 	@echo "make test     the whole gate: style, layout, then rt ci, from nothing; its last line is the verdict"
 	@echo "make check    prove what changed since it was last proved, and run the programs"
+	@echo "make example  prove what the C functions need, build examples/station.c on them, run and compare it"
 	@echo "make fmt      bring every source file under crates/ into the layout"
 	@echo "make style    what the checker does not see: width, headers, holes, contracts, edits, names, paths"
 	@echo "make clean    remove target/, where all that is built lies"
