@@ -7,7 +7,8 @@
  * It answers a vsk_answer. Any number may be given in any place: what names nothing is refused.
  *
  * A refused call answers value 0 and count 0 and changes neither block. Of the refusals that apply the lowest
- * is given. Every call may be refused with 1, 2 and 3; the comment of a function names the further ones.
+ * is given. Every call may be refused with 1, 2 and 3, but reset with 1 and 2 only; the comment of a function
+ * names the further ones.
  *
  * What each call answers and leaves is proved for all numbers and all contents of both blocks. The proof asks
  * of C, and nothing checks:
@@ -38,7 +39,7 @@ typedef enum vsk_refusal {
     VSK_BROKEN_RULE = 3,   /* the state breaks a state rule */
     VSK_NO_SUCH = 4,       /* no such hart, file, domain, wire, level or kind of access */
     VSK_BAD_ADDRESS = 5,   /* the address is no multiple of 4, or outside the region or page */
-    VSK_ILLEGAL_SELECT = 6 /* there is no register with this select number */
+    VSK_ILLEGAL_SELECT = 6 /* the select number is below 0x70, above 0xFF, or odd and above 0x80 */
 } vsk_refusal;
 
 /* What a call answers. If it sent messages, count is their number and they are the first words of the log, in
@@ -126,6 +127,10 @@ typedef struct vsk_answer {
 #define VSK_CALL
 #endif
 
+/* Puts the board in its start: wires low, files 0 and 1 follow their domains, all else 0. The state may have
+ * held anything; the log stays. */
+VSK_CALL vsk_answer vsk_reset(uint32_t *state, size_t state_len, uint32_t *log, size_t log_len);
+
 /* Sets a wire, 1 to 63, to a level, 0 or 1, and sends what is then to be sent.
  * Refuses 4: no such wire, no such level. */
 VSK_CALL vsk_answer vsk_wire(uint32_t *state, size_t state_len, uint32_t *log, size_t log_len,
@@ -141,6 +146,40 @@ VSK_CALL vsk_answer vsk_domain_read(uint32_t *state, size_t state_len, uint32_t 
  * Refuses 4: no such domain. 5: the address. */
 VSK_CALL vsk_answer vsk_domain_write(uint32_t *state, size_t state_len, uint32_t *log, size_t log_len,
                                      uint64_t domain, uint64_t address, uint32_t value);
+
+/* Reads a word of a file's page: 0, for every word of it.
+ * Refuses 4: no such hart, no such file. 5: the address. */
+VSK_CALL vsk_answer vsk_page_read(uint32_t *state, size_t state_len, uint32_t *log, size_t log_len,
+                                  uint64_t hart, uint64_t file, uint64_t address);
+
+/* Writes a word of a file's page, as a device does that sends a message: an identity of 1 to 255 becomes
+ * pending. It is not logged.
+ * Refuses 4: no such hart, no such file. 5: the address. */
+VSK_CALL vsk_answer vsk_page_write(uint32_t *state, size_t state_len, uint32_t *log, size_t log_len,
+                                   uint64_t hart, uint64_t file, uint64_t address, uint32_t value);
+
+/* Accesses a register of a file. The kind is VSK_READ (the value given is ignored), VSK_WRITE, VSK_SET
+ * (writes old-or-value) or VSK_CLEAR (writes old without value). A write answers 0, the others the old value.
+ * Refuses 4: no such hart, file or kind. 6: the select number. */
+VSK_CALL vsk_answer vsk_register(uint32_t *state, size_t state_len, uint32_t *log, size_t log_len,
+                                 uint64_t hart, uint64_t file, uint64_t kind, uint64_t select,
+                                 uint64_t value);
+
+/* Reads a file's top: i x 65536 + i, where i is the lowest identity that is pending and enabled, and below
+ * the threshold if that is not 0; or 0 if there is none.
+ * Refuses 4: no such hart, no such file. */
+VSK_CALL vsk_answer vsk_top(uint32_t *state, size_t state_len, uint32_t *log, size_t log_len,
+                            uint64_t hart, uint64_t file);
+
+/* Answers a file's top and clears its pending bit.
+ * Refuses 4: no such hart, no such file. */
+VSK_CALL vsk_answer vsk_claim(uint32_t *state, size_t state_len, uint32_t *log, size_t log_len,
+                              uint64_t hart, uint64_t file);
+
+/* The signals of a hart: bit f of the value is set if file f signals.
+ * Refuses 4: no such hart. */
+VSK_CALL vsk_answer vsk_signals(uint32_t *state, size_t state_len, uint32_t *log, size_t log_len,
+                                uint64_t hart);
 
 #undef VSK_CALL
 

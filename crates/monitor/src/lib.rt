@@ -44,6 +44,14 @@ fn numbers(answer: Answer) -> VskAnswer
 }
 
 #[no_mangle]
+pub extern "C" fn vsk_reset(state: &mut [u32], log: &mut [u32]) -> VskAnswer
+    ensures { λ r. ⌜ Told (outcome the.Reset (now (state .entry)) (now (log .entry))) r
+        (now (state .exit)) (now (log .exit)) ⌝ }
+{
+    numbers(hart_calls::reset(state, log))
+}
+
+#[no_mangle]
 pub extern "C" fn vsk_wire(state: &mut [u32], log: &mut [u32], wire: u64, level: u64) -> VskAnswer
     ensures { λ r. ⌜ Told (outcome (the.Wire wire level) (now (state .entry)) (now (log .entry))) r
         (now (state .exit)) (now (log .exit)) ⌝ }
@@ -77,4 +85,76 @@ pub extern "C" fn vsk_domain_write(
         (now (state .exit)) (now (log .exit)) ⌝ }
 {
     numbers(wired_calls::domain_write(state, log, domain, address, value))
+}
+
+#[no_mangle]
+pub extern "C" fn vsk_page_read(
+    state: &mut [u32],
+    log: &mut [u32],
+    hart: u64,
+    file: u64,
+    address: u64,
+) -> VskAnswer
+    ensures { λ r. ⌜ Told
+        (outcome (the.PageRead hart file address) (now (state .entry)) (now (log .entry))) r
+        (now (state .exit)) (now (log .exit)) ⌝ }
+{
+    numbers(file_calls::page_read(state, log, hart, file, address))
+}
+
+#[no_mangle]
+pub extern "C" fn vsk_page_write(
+    state: &mut [u32],
+    log: &mut [u32],
+    hart: u64,
+    file: u64,
+    address: u64,
+    value: u32,
+) -> VskAnswer
+    ensures { λ r. ⌜ Told
+        (outcome (the.PageWrite hart file address value) (now (state .entry)) (now (log .entry))) r
+        (now (state .exit)) (now (log .exit)) ⌝ }
+{
+    numbers(file_calls::page_write(state, log, hart, file, address, value))
+}
+
+#[no_mangle]
+pub extern "C" fn vsk_register(
+    state: &mut [u32],
+    log: &mut [u32],
+    hart: u64,
+    file: u64,
+    kind: u64,
+    select: u64,
+    value: u64,
+) -> VskAnswer
+    ensures { λ r. ⌜ Told
+        (outcome (the.Register hart file kind select value) (now (state .entry)) (now (log .entry))) r
+        (now (state .exit)) (now (log .exit)) ⌝ }
+{
+    numbers(file_calls::register(state, log, hart, file, kind, select, value))
+}
+
+#[no_mangle]
+pub extern "C" fn vsk_top(state: &mut [u32], log: &mut [u32], hart: u64, file: u64) -> VskAnswer
+    ensures { λ r. ⌜ Told (outcome (the.Top hart file) (now (state .entry)) (now (log .entry))) r
+        (now (state .exit)) (now (log .exit)) ⌝ }
+{
+    numbers(file_calls::top(state, log, hart, file))
+}
+
+#[no_mangle]
+pub extern "C" fn vsk_claim(state: &mut [u32], log: &mut [u32], hart: u64, file: u64) -> VskAnswer
+    ensures { λ r. ⌜ Told (outcome (the.Claim hart file) (now (state .entry)) (now (log .entry))) r
+        (now (state .exit)) (now (log .exit)) ⌝ }
+{
+    numbers(file_calls::claim(state, log, hart, file))
+}
+
+#[no_mangle]
+pub extern "C" fn vsk_signals(state: &mut [u32], log: &mut [u32], hart: u64) -> VskAnswer
+    ensures { λ r. ⌜ Told (outcome (the.Signals hart) (now (state .entry)) (now (log .entry))) r
+        (now (state .exit)) (now (log .exit)) ⌝ }
+{
+    numbers(hart_calls::signals(state, log, hart))
 }

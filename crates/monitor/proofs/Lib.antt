@@ -1,0 +1,2 @@
+-- What holds of the exported functions. Assumes nothing.
+pub mod ToldLaws
