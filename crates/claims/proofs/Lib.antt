@@ -12,3 +12,4 @@ pub mod Writes
 pub mod Operations
 pub mod Controller
 pub mod BoardCalls
+pub mod BoardFacts

@@ -11,3 +11,4 @@ pub mod Writes
 pub mod Operations
 pub mod Controller
 pub mod BoardCalls
+pub mod BoardFacts

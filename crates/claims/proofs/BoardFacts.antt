@@ -1,0 +1,160 @@
+-- Claims 91 to 93. Where nothing is refused the block is that of a board after a reset. Assumes nothing.
+use Prim.Native.Nat.{ℕ}
+use mathlib.Core.Path.{_≡_, refl, sym, ap, _∙_}
+use mathlib.Core.Bool.{true, false}
+use mathlib.Core.List.{List, [], _∷_}
+use mathlib.Core.Logic.{_≢_}
+use native.Mathlib.Omega.{arith}
+use lib.ListN.{length, replicate}
+use Rattle.words.specs.Bits.{bitOf, hasBit}
+use Rattle.words.specs.Every.{every}
+use Rattle.file.specs.declared.File.{File}
+use Rattle.file.specs.Rules as rules
+use Rattle.file.specs.Select.{selectLegal}
+use Rattle.stored.specs.Stored.{fileAt}
+use Rattle.files.specs.Files.{filesOf, filesFrom, theFile, withFile, filesSound, soundAt, isGuest}
+use Rattle.files.proofs.FilesLaws.{theFile-withFile-other}
+use Rattle.region.specs.Region.{addressLegal}
+use Rattle.block.specs.Block.{Board, boardOf, blockOf, boardSound}
+use Rattle.block.specs.Start.{startBoard}
+use Rattle.block_laws.proofs.BlockBack.{board-back, length-blockOf}
+use Rattle.block_laws.proofs.StartEffects.{start-sound, start-shaped}
+use Rattle.call.specs.declared.Call.{Call}
+use Rattle.call.specs.declared.Call.the-variants.{Reset, Wire, DomainRead, DomainWrite, PageRead, PageWrite}
+use Rattle.call.specs.declared.Call.the-variants.{Register, Top, Claim, Signals}
+use Rattle.call.specs.Change.{onFile, change}
+use Rattle.call.specs.Refusal.{testsRules, named, addressed, selected, isWire, isFile, isPageAddress}
+use Rattle.call.specs.Refusal.{refusalOf}
+use Rattle.call.specs.Outcome.{Stepped, settled, step}
+use Rattle.call_laws.proofs.StepEffects.{step-onFile, step-answering}
+use Rattle.claims.specs.BoardCalls.{Passes, Claim-84}
+use Rattle.claims.specs.BoardFacts.{Leaves, Claim-91, Given, Claim-92, Claim-93}
+use Rattle.claims.proofs.BoardCalls.{claim-84}
+
+-- ---- one file
+
+module _ (b : Board) (sound : boardSound b ≡ true) where
+  on-file : (k : ℕ) (f : File) (v : ℕ) → Leaves k b (settled (onFile b k f v) .board)
+  on-file k f v =
+      let e = step-onFile b sound k f v in
+      record {
+        files = λ j n. ap (λ (s : Stepped). theFile (s .board .files) j) e
+            ∙ theFile-withFile-other (b .files) k f j n;
+        wired = ap (λ (s : Stepped). s .board .wired) e;
+      }
+
+  answers : (v : ℕ) → settled (record { board = b; value = v; own = [] }) .board ≡ b
+  answers v = ap (λ (s : Stepped). s .board) (step-answering b sound v)
+
+pub claim-91 : Claim-91
+unfolding Claim-91 step change
+claim-91 b sound h f = (
+  (λ a v. on-file b sound _ _ _),
+  (λ k s v. on-file b sound _ _ _),
+  on-file b sound _ _ _,
+  (λ a. answers b sound _),
+  answers b sound _,
+  answers b sound _,
+)
+
+-- ---- the table
+
+abbrev start : List ℕ
+start = blockOf startBoard
+
+abbrev log : List ℕ
+log = replicate 63 0
+
+start-long : length start ≡ 650
+start-long = length-blockOf startBoard start-shaped
+
+start-keeps : boardSound (boardOf start) ≡ true
+start-keeps = ap boardSound (board-back startBoard start-shaped) ∙ start-sound
+
+-- a block whose first file has a delivery that is none
+abbrev broken : List ℕ
+broken = 2 ∷ replicate 649 0
+
+broken-breaks : boardSound (boardOf broken) ≡ false
+unfolding boardSound boardOf filesOf filesFrom filesSound every soundAt theFile fileAt isGuest rules.fileSound
+    rules.deliveryRule rules.deliveryLegal
+broken-breaks = refl
+
+given : (c : Call) (l g : List ℕ) (n : ℕ) → refusalOf c l g ≡ n → Given c n
+given c l g n e = record { block = l; log = g; refused = e }
+
+module _ (c : Call) where
+  passes : Passes c start log
+  passes = (start-long, refl, (λ t. start-keeps))
+
+  one : Given c 1
+  unfolding Claim-84
+  one = given c [] log 1 (claim-84 c [] log .0 (λ e. omega arith))
+
+  two : Given c 2
+  unfolding Claim-84
+  two = given c start [] 2 (claim-84 c start [] .1 start-long (λ e. omega arith))
+
+  three : testsRules c ≡ true → Given c 3
+  unfolding Claim-84
+  three t = given c broken log 3 (claim-84 c broken log .2 refl refl t broken-breaks)
+
+  four : named c ≡ false → Given c 4
+  unfolding Claim-84
+  four n = given c start log 4 (claim-84 c start log .3 passes n)
+
+  five : named c ≡ true → addressed c ≡ false → Given c 5
+  unfolding Claim-84
+  five n a = given c start log 5 (claim-84 c start log .4 passes n a)
+
+  six : named c ≡ true → addressed c ≡ true → selected c ≡ false → Given c 6
+  unfolding Claim-84
+  six n a s = given c start log 6 (claim-84 c start log .5 passes n a s)
+
+  done : named c ≡ true → addressed c ≡ true → selected c ≡ true → Given c 0
+  unfolding Claim-84
+  done n a s = given c start log 0 (claim-84 c start log .6 passes n a s)
+
+pub claim-92 : Claim-92
+unfolding Claim-92 named addressed selected isWire isFile isPageAddress addressLegal selectLegal
+claim-92 = (
+  (λ c. (one c, two c)),
+  (λ c t. three c t),
+  (four (Wire 0 1) refl, four (Wire 64 1) refl, four (Wire 1 2) refl),
+  (four (DomainRead 2 0) refl, four (DomainWrite 2 0 0) refl),
+  (four (PageRead 4 0 0) refl, four (PageRead 0 5 0) refl, four (PageWrite 4 0 0 1) refl),
+  (four (Register 4 0 0 0x70 0) refl, four (Register 0 0 4 0x70 0) refl),
+  (four (Top 4 0) refl, four (Claim 0 5) refl, four (Signals 4) refl),
+  (five (DomainRead 0 0x5000) refl refl, five (DomainWrite 1 2 0) refl refl),
+  (five (PageRead 0 0 0x1000) refl refl, five (PageWrite 0 0 1 1) refl refl),
+  six (Register 0 0 0 0x81 0) refl refl refl,
+  (
+    done Reset refl refl refl,
+    done (Wire 1 1) refl refl refl,
+    done (DomainRead 0 0) refl refl refl,
+    done (DomainWrite 0 0 0) refl refl refl,
+  ),
+  (
+    done (PageRead 0 0 0) refl refl refl,
+    done (PageWrite 0 0 0 1) refl refl refl,
+    done (Register 0 0 0 0x70 0) refl refl refl,
+  ),
+  (done (Top 0 0) refl refl refl, done (Claim 0 0) refl refl refl, done (Signals 0) refl refl refl),
+)
+
+-- ---- the functions that C calls
+
+pub claim-93 : Claim-93
+unfolding Claim-93
+claim-93 l b b′ g g′ r = (
+  (λ learnt. learnt),
+  (λ i level learnt. learnt),
+  (λ d a learnt. learnt),
+  (λ d a v learnt. learnt),
+  (λ h f a learnt. learnt),
+  (λ h f a v learnt. learnt),
+  (λ h f k s v learnt. learnt),
+  (λ h f learnt. learnt),
+  (λ h f learnt. learnt),
+  (λ h learnt. learnt),
+)

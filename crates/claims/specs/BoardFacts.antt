@@ -1,0 +1,105 @@
+-- Claims 91 to 93, on the calls of the board: a call on one file leaves the others, each number of the table
+-- of refusals is given for some input, and what the functions that C calls answer. 01, "Calls and their
+-- refusals". Assumes nothing.
+--   Given c n       there are a block and a log with which the call c gets the number n
+--   Leaves k b b′   b′ is b but for file number k
+use Prim.Native.Nat.{ℕ}
+use mathlib.Core.Path.{_≡_}
+use mathlib.Core.Bool.{true}
+use mathlib.Core.List.{List}
+use mathlib.Core.Logic.{_≢_}
+use contract.Lifetimes.{Lfts}
+use denote.Ref.{RefT, now}
+use Rattle.files.specs.Files.{fileNumber, theFile}
+use Rattle.block.specs.Block.{Board, boardSound}
+use Rattle.call.specs.declared.Call.{Call}
+use Rattle.call.specs.declared.Call.the-variants.{Reset, Wire, DomainRead, DomainWrite, PageRead, PageWrite}
+use Rattle.call.specs.declared.Call.the-variants.{Register, Top, Claim, Signals}
+use Rattle.call.specs.Refusal.{testsRules, refusalOf}
+use Rattle.call.specs.Outcome.{step, outcome}
+use Rattle.monitor.specs.declared.VskAnswer.{VskAnswer}
+use Rattle.monitor.specs.Told.{Told}
+use Rattle.monitor.proofs.vsk_reset.Reads as vsk-reset
+use Rattle.monitor.proofs.vsk_wire.Reads as vsk-wire
+use Rattle.monitor.proofs.vsk_domain_read.Reads as vsk-domain-read
+use Rattle.monitor.proofs.vsk_domain_write.Reads as vsk-domain-write
+use Rattle.monitor.proofs.vsk_page_read.Reads as vsk-page-read
+use Rattle.monitor.proofs.vsk_page_write.Reads as vsk-page-write
+use Rattle.monitor.proofs.vsk_register.Reads as vsk-register
+use Rattle.monitor.proofs.vsk_top.Reads as vsk-top
+use Rattle.monitor.proofs.vsk_claim.Reads as vsk-claim
+use Rattle.monitor.proofs.vsk_signals.Reads as vsk-signals
+
+-- ---- one file
+
+pub record Leaves (k : ℕ) (b b′ : Board) : Type 0 where
+  pub files : (j : ℕ) → j ≢ k → theFile (b′ .files) j ≡ theFile (b .files) j
+  pub wired : b′ .wired ≡ b .wired
+
+-- a page write, a register access and a claim leave every other file and the wired controller; a page read, a
+-- read of the top or of the signals leave the board
+unfoldable pub Claim-91 : Type 0
+Claim-91 =
+    (b : Board) → boardSound b ≡ true → (h f : ℕ)
+    → ((a v : ℕ) → Leaves (fileNumber h f) b (step (PageWrite h f a v) b .board))
+    × ((k s v : ℕ) → Leaves (fileNumber h f) b (step (Register h f k s v) b .board))
+    × Leaves (fileNumber h f) b (step (Claim h f) b .board)
+    × ((a : ℕ) → step (PageRead h f a) b .board ≡ b)
+    × (step (Top h f) b .board ≡ b)
+    × (step (Signals h) b .board ≡ b)
+
+-- ---- no row of the table is empty
+
+pub record Given (c : Call) (n : ℕ) : Type 0 where
+  pub block : List ℕ
+  pub log : List ℕ
+  pub refused : refusalOf c block log ≡ n
+
+-- 1 and 2 by every call, 3 by every call that tests the rules; 4 for each thing that may not be there; 5 by
+-- each call with an address, 6 by the one with a select number; and each call is done for some input
+unfoldable pub Claim-92 : Type 0
+Claim-92 =
+    ((c : Call) → Given c 1 × Given c 2)
+    × ((c : Call) → testsRules c ≡ true → Given c 3)
+    × (Given (Wire 0 1) 4 × Given (Wire 64 1) 4 × Given (Wire 1 2) 4)
+    × (Given (DomainRead 2 0) 4 × Given (DomainWrite 2 0 0) 4)
+    × (Given (PageRead 4 0 0) 4 × Given (PageRead 0 5 0) 4 × Given (PageWrite 4 0 0 1) 4)
+    × (Given (Register 4 0 0 0x70 0) 4 × Given (Register 0 0 4 0x70 0) 4)
+    × (Given (Top 4 0) 4 × Given (Claim 0 5) 4 × Given (Signals 4) 4)
+    × (Given (DomainRead 0 0x5000) 5 × Given (DomainWrite 1 2 0) 5)
+    × (Given (PageRead 0 0 0x1000) 5 × Given (PageWrite 0 0 1 1) 5)
+    × Given (Register 0 0 0 0x81 0) 6
+    × (Given Reset 0 × Given (Wire 1 1) 0 × Given (DomainRead 0 0) 0 × Given (DomainWrite 0 0 0) 0)
+    × (Given (PageRead 0 0 0) 0 × Given (PageWrite 0 0 0 1) 0 × Given (Register 0 0 0 0x70 0) 0)
+    × (Given (Top 0 0) 0 × Given (Claim 0 0) 0 × Given (Signals 0) 0)
+
+-- ---- the functions that C calls
+
+-- each answers the refusal, the value and the count of its call's outcome, and leaves both blocks as it says
+unfoldable pub Claim-93 : Type 0
+Claim-93 =
+    (l : Lfts 2) (b b′ g g′ : RefT (List ℕ)) (r : VskAnswer)
+    → (vsk-reset.Learnt l (b, (g, tt)) r (b′, (g′, tt))
+    → Told (outcome Reset (now b) (now g)) r (now b′) (now g′))
+    × ((i level : ℕ) → vsk-wire.Learnt l (b, (g, (i, (level, tt)))) r (b′, (g′, (i, (level, tt))))
+    → Told (outcome (Wire i level) (now b) (now g)) r (now b′) (now g′))
+    × ((d a : ℕ) → vsk-domain-read.Learnt l (b, (g, (d, (a, tt)))) r (b′, (g′, (d, (a, tt))))
+    → Told (outcome (DomainRead d a) (now b) (now g)) r (now b′) (now g′))
+    × ((d a v : ℕ)
+    → vsk-domain-write.Learnt l (b, (g, (d, (a, (v, tt))))) r (b′, (g′, (d, (a, (v, tt)))))
+    → Told (outcome (DomainWrite d a v) (now b) (now g)) r (now b′) (now g′))
+    × ((h f a : ℕ) → vsk-page-read.Learnt l (b, (g, (h, (f, (a, tt))))) r (b′, (g′, (h, (f, (a, tt)))))
+    → Told (outcome (PageRead h f a) (now b) (now g)) r (now b′) (now g′))
+    × ((h f a v : ℕ)
+    → vsk-page-write.Learnt l (b, (g, (h, (f, (a, (v, tt)))))) r (b′, (g′, (h, (f, (a, (v, tt))))))
+    → Told (outcome (PageWrite h f a v) (now b) (now g)) r (now b′) (now g′))
+    × ((h f k s v : ℕ)
+    → vsk-register.Learnt l (b, (g, (h, (f, (k, (s, (v, tt))))))) r
+    (b′, (g′, (h, (f, (k, (s, (v, tt)))))))
+    → Told (outcome (Register h f k s v) (now b) (now g)) r (now b′) (now g′))
+    × ((h f : ℕ) → vsk-top.Learnt l (b, (g, (h, (f, tt)))) r (b′, (g′, (h, (f, tt))))
+    → Told (outcome (Top h f) (now b) (now g)) r (now b′) (now g′))
+    × ((h f : ℕ) → vsk-claim.Learnt l (b, (g, (h, (f, tt)))) r (b′, (g′, (h, (f, tt))))
+    → Told (outcome (Claim h f) (now b) (now g)) r (now b′) (now g′))
+    × ((h : ℕ) → vsk-signals.Learnt l (b, (g, (h, tt))) r (b′, (g′, (h, tt)))
+    → Told (outcome (Signals h) (now b) (now g)) r (now b′) (now g′))
