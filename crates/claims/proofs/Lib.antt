@@ -13,3 +13,4 @@ pub mod Operations
 pub mod Controller
 pub mod BoardCalls
 pub mod BoardFacts
+pub mod Modes

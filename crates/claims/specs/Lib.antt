@@ -12,3 +12,4 @@ pub mod Operations
 pub mod Controller
 pub mod BoardCalls
 pub mod BoardFacts
+pub mod Modes
