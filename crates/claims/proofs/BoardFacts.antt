@@ -28,13 +28,13 @@ use Rattle.call.specs.Refusal.{refusalOf}
 use Rattle.call.specs.Outcome.{Stepped, settled, step}
 use Rattle.call_laws.proofs.StepEffects.{step-onFile, step-answering}
 use Rattle.claims.specs.BoardCalls.{Passes, Claim-84}
-use Rattle.claims.specs.BoardFacts.{Leaves, Claim-91, Given, Claim-92, Claim-93}
+use Rattle.claims.specs.BoardFacts.{OnlyFile, Claim-91, Given, Claim-92, Claim-93}
 use Rattle.claims.proofs.BoardCalls.{claim-84}
 
 -- ---- one file
 
 module _ (b : Board) (sound : boardSound b ≡ true) where
-  on-file : (k : ℕ) (f : File) (v : ℕ) → Leaves k b (settled (onFile b k f v) .board)
+  on-file : (k : ℕ) (f : File) (v : ℕ) → OnlyFile k b (settled (onFile b k f v) .board)
   on-file k f v =
       let e = step-onFile b sound k f v in
       record {

@@ -2,7 +2,7 @@
 -- of refusals is given for some input, and what the functions that C calls answer. 01, "Calls and their
 -- refusals". Assumes nothing.
 --   Given c n       there are a block and a log with which the call c gets the number n
---   Leaves k b b′   b′ is b but for file number k
+--   OnlyFile k b b′   b′ is b but for file number k
 use Prim.Native.Nat.{ℕ}
 use mathlib.Core.Path.{_≡_}
 use mathlib.Core.Bool.{true}
@@ -32,7 +32,7 @@ use Rattle.monitor.proofs.vsk_signals.Reads as vsk-signals
 
 -- ---- one file
 
-pub record Leaves (k : ℕ) (b b′ : Board) : Type 0 where
+pub record OnlyFile (k : ℕ) (b b′ : Board) : Type 0 where
   pub files : (j : ℕ) → j ≢ k → theFile (b′ .files) j ≡ theFile (b .files) j
   pub wired : b′ .wired ≡ b .wired
 
@@ -41,9 +41,9 @@ pub record Leaves (k : ℕ) (b b′ : Board) : Type 0 where
 unfoldable pub Claim-91 : Type 0
 Claim-91 =
     (b : Board) → boardSound b ≡ true → (h f : ℕ)
-    → ((a v : ℕ) → Leaves (fileNumber h f) b (step (PageWrite h f a v) b .board))
-    × ((k s v : ℕ) → Leaves (fileNumber h f) b (step (Register h f k s v) b .board))
-    × Leaves (fileNumber h f) b (step (Claim h f) b .board)
+    → ((a v : ℕ) → OnlyFile (fileNumber h f) b (step (PageWrite h f a v) b .board))
+    × ((k s v : ℕ) → OnlyFile (fileNumber h f) b (step (Register h f k s v) b .board))
+    × OnlyFile (fileNumber h f) b (step (Claim h f) b .board)
     × ((a : ℕ) → step (PageRead h f a) b .board ≡ b)
     × (step (Top h f) b .board ≡ b)
     × (step (Signals h) b .board ≡ b)
