@@ -1,7 +1,7 @@
 -- What a call does, all in all. 01, "Calls and their refusals", "The wired controller". Assumes nothing.
 --   Stepped           the board after a call, its value, and the messages that it sent, in order
 --   settled x         x, then each domain sends what is to be sent, and every message reaches its file
---   step c b          what an accepted call does: its change, then each domain sends what is to be sent, and
+--   step c b          what an accepted call does: its change, settled
 --   Outcome           refusal, value and count, the block and the log after the call
 --   outcome c l g     what the call c does with the block l and the log g: refused, it answers 0 and 0 and
 --                     changes nothing
