@@ -3,16 +3,15 @@ use Prim.Native.Nat.{ℕ, zero, suc, _<_}
 use mathlib.Core.Path.{_≡_, refl, sym, ap, subst, _∙_}
 use mathlib.Core.Bool.{Bool, true, false, _&&_, _||_}
 use mathlib.Core.List.{List}
-use mathlib.Core.Logic.{_≢_, inl, inr, ⊎-elim}
+use mathlib.Core.Logic.{inl, inr, ⊎-elim}
 use native.Mathlib.Decide.{ℕ-discrete}
 use native.Mathlib.Omega.{arith}
 use lib.Dec.{eqb, ltb}
 use lib.ListN.{take}
 use borrow.Author.Tests.{eq-eqb, ne-eqb, eqb-true, lt-ltb, ltb-true}
-use Rattle.words.specs.Bits.{hasBit, putBit}
-use Rattle.words.proofs.BitsLaws.{putBit-on, putBit-off, hasBit-withBit-same, hasBit-withBit-other}
-use Rattle.words.proofs.BitsLaws.{hasBit-withoutBit-same, hasBit-withoutBit-other}
-use Rattle.words.proofs.TestsLaws.{tested, and-first, and-second, and-both, or-cases}
+use Rattle.words.specs.Bits.{hasBit}
+use Rattle.words.proofs.BitsLaws.{hasBit-putBit-same, hasBit-putBit-other}
+use Rattle.words.proofs.TestsLaws.{tested, and-first, and-second, and-both, or-cases, or-left, or-right}
 use Rattle.file.specs.declared.File.{File}
 use Rattle.file.specs.Shape.{Shaped}
 use Rattle.file.specs.Top.{signals}
@@ -133,16 +132,6 @@ claim-88 = (block-back, (λ b s. (board-back b s, length-blockOf b s)))
 
 -- ---- the signals
 
-bit-put : (w k : ℕ) (b : Bool) → hasBit (putBit w k b) k ≡ b
-bit-put w k true = ap (λ (x : ℕ). hasBit x k) (putBit-on w k true refl) ∙ hasBit-withBit-same w k
-bit-put w k false = ap (λ (x : ℕ). hasBit x k) (putBit-off w k false refl) ∙ hasBit-withoutBit-same w k
-
-bit-stays : (w k : ℕ) (b : Bool) (j : ℕ) → j ≢ k → hasBit (putBit w k b) j ≡ hasBit w j
-bit-stays w k true j n =
-    ap (λ (x : ℕ). hasBit x j) (putBit-on w k true refl) ∙ hasBit-withBit-other w k j n
-bit-stays w k false j n =
-    ap (λ (x : ℕ). hasBit x j) (putBit-off w k false refl) ∙ hasBit-withoutBit-other w k j n
-
 signal-bit : (b : Board) (h n f : ℕ) → f < n → hasBit (signalsTo b h n) f ≡ signalAt b h f
 unfolding signalsTo
 signal-bit b h zero f l = absurd (omega arith)
@@ -151,16 +140,9 @@ signal-bit b h (suc n) f l = at (ℕ-discrete f n) (signal-bit b h n f)
     at : Dec (f ≡ n) → (f < n → hasBit (signalsTo b h n) f ≡ signalAt b h f)
         → hasBit (signalsTo b h (suc n)) f ≡ signalAt b h f
     at (yes e) lower =
-        ap (hasBit (signalsTo b h (suc n))) e ∙ bit-put (signalsTo b h n) n (signalAt b h n)
+        ap (hasBit (signalsTo b h (suc n))) e ∙ hasBit-putBit-same (signalsTo b h n) n (signalAt b h n)
         ∙ ap (signalAt b h) (sym e)
-    at (no d) lower = bit-stays (signalsTo b h n) n (signalAt b h n) f d ∙ lower (omega arith)
-
-or-first : (a b : Bool) → a ≡ true → (a || b) ≡ true
-or-first a b e = rw e
-
-or-second : (a b : Bool) → b ≡ true → (a || b) ≡ true
-or-second true b e = refl
-or-second false b e = e
+    at (no d) lower = hasBit-putBit-other (signalsTo b h n) n (signalAt b h n) f d ∙ lower (omega arith)
 
 pub claim-89 : Claim-89
 unfolding Claim-89 signalAt Claim-33
@@ -184,8 +166,8 @@ claim-89 b h f l =
             s .3,
           ))
           (or-cases own domains (sym (signal-bit b h 5 f l) ∙ e))),
-      (λ p. signal-bit b h 5 f l ∙ ⊎-elim (λ q. or-first own domains (claim-33 255 x .1 q))
-          (λ (q : _). or-second own domains
+      (λ p. signal-bit b h 5 f l ∙ ⊎-elim (λ q. or-left own domains (claim-33 255 x .1 q))
+          (λ (q : _). or-right own domains
           (and-both (low && takes) (signalOf d h)
           (and-both low takes (lt-ltb f 2 (q .0)) (eq-eqb (x .delivery) 0x40000000 (q .1)))
           (signal-iff d h .1 (q .2, q .3, q .4, q .5)))) p),

@@ -1,8 +1,7 @@
 -- Claims 94 and 95, case by case. Assumes nothing.
 use Prim.Native.Nat.{ℕ, _<_}
-use mathlib.Core.Path.{_≡_, refl, sym, ap, subst, _∙_}
+use mathlib.Core.Path.{_≡_, refl, sym, ap, _∙_}
 use mathlib.Core.Bool.{Bool, true, false, Bool·beq, _||_}
-use mathlib.Core.Logic.{_≢_}
 use native.Mathlib.Decide.{ℕ-discrete}
 use native.Mathlib.Omega.{arith}
 use lib.Dec.{eqb, leb}
@@ -10,7 +9,7 @@ use borrow.Author.Tests.{le-leb, lt-leb}
 use Rattle.words.specs.Bits.{hasBit}
 use Rattle.words.specs.Parts.{fieldOf}
 use Rattle.words.proofs.PartsLaws.{fieldOf-lt}
-use Rattle.words.proofs.TestsLaws.{tested}
+use Rattle.words.proofs.TestsLaws.{tested, beq-same, beq-differs}
 use Rattle.mode.specs.Mode.{isActive, isLevel, keptMode, sourceWord}
 use Rattle.mode.proofs.ModeLaws.{word-delegated, word-machine}
 use Rattle.target.specs.Target.{startTarget}
@@ -55,16 +54,6 @@ delegates v =
     (λ t. ap (leb 1024) (word-delegated v false false refl t) ∙ sym t)
     (λ f. lt-leb 1024 (sourceWord false false v)
     (omega (arith, word-machine v false false refl f, kept-small v)) ∙ sym f)
-
-beq-same : (a b : Bool) → a ≡ b → Bool·beq a b ≡ true
-beq-same true b e = subst (λ (x : Bool). Bool·beq true x ≡ true) e refl
-beq-same false b e = subst (λ (x : Bool). Bool·beq false x ≡ true) e refl
-
-beq-differs : (a b : Bool) → a ≢ b → Bool·beq a b ≡ false
-beq-differs true true n = absurd (n refl)
-beq-differs true false n = refl
-beq-differs false true n = refl
-beq-differs false false n = absurd (n refl)
 
 pub claim-95 : Claim-95
 unfolding Claim-95

@@ -10,7 +10,7 @@ use borrow.Author.Tests.{eqb-true}
 use Rattle.words.specs.Bits.{hasBit}
 use Rattle.words.specs.Parts.{fieldOf, packed}
 use Rattle.words.specs.Sets.{member}
-use Rattle.words.proofs.TestsLaws.{tested, not-same}
+use Rattle.words.proofs.TestsLaws.{tested, beq-same, beq-differs, not-same}
 use Rattle.mode.specs.Mode.{isActive}
 use Rattle.target.specs.Target.{hartOf, guestOf, numberOf, startTarget, priorityOf, receiverOf, keptTarget}
 use Rattle.region.specs.declared.Word.the-variants.{Sourcecfg}
@@ -73,16 +73,6 @@ restarted m x s =
       messages = λ l e. absurd (not-same (isActive (s .mode)) (active-level (s .mode) l) f);
     })
 
-beq-same : (a b : Bool) → a ≡ b → Bool·beq a b ≡ true
-beq-same true b e = rw (sym e)
-beq-same false b e = rw (sym e)
-
-beq-other : (a b : Bool) → a ≢ b → Bool·beq a b ≡ false
-beq-other true true n = absurd (n refl)
-beq-other true false n = refl
-beq-other false true n = refl
-beq-other false false n = absurd (n refl)
-
 module _ (d : Domain) (wires : List ℕ) (v : ℕ) (shaped : Shaped d) where
   same-mode : byMessages d ≡ hasBit v 2 → configWritten d wires v ≡ withConfig d (keptConfig v)
   unfolding configWritten
@@ -94,7 +84,7 @@ module _ (d : Domain) (wires : List ℕ) (v : ℕ) (shaped : Shaped d) where
   other-mode : byMessages d ≢ hasBit v 2
       → Became d (configWritten d wires v) (keptConfig v) 0
       (λ j s. redelivered s (hasBit v 2) (member wires j))
-  other-mode n = rw (beq-other (byMessages d) (hasBit v 2) n) at (became-configWritten d wires v shaped)
+  other-mode n = rw (beq-differs (byMessages d) (hasBit v 2) n) at (became-configWritten d wires v shaped)
 
 pub claim-56 : Claim-56
 unfolding Claim-56

@@ -2,14 +2,14 @@
 -- delivery structure. No contract cites this file. Assumes nothing.
 use Prim.Native.Nat.{ℕ, _≤_, _<_}
 use mathlib.Core.Path.{_≡_, refl, sym, _∙_}
-use mathlib.Core.Bool.{Bool, true, false, Bool·beq, cond, _||_, or-true, false≢true}
+use mathlib.Core.Bool.{Bool, true, false, Bool·beq, cond, _||_, or-true}
 use mathlib.Core.List.{List}
 use native.Mathlib.Omega.{arith}
 use lib.Dec.{eqb}
 use Rattle.words.specs.Bits.{hasBit}
 use Rattle.words.specs.Parts.{fieldOf, packed}
 use Rattle.words.specs.Sets.{member}
-use Rattle.words.proofs.TestsLaws.{tested}
+use Rattle.words.proofs.TestsLaws.{tested, beq-true}
 use Rattle.target.specs.Target.{hartOf, numberOf, keptGenerated}
 use Rattle.source.specs.declared.Source.{Source}
 use Rattle.source.specs.Pending.{redelivered}
@@ -54,12 +54,6 @@ config-low {d = d} s = omega (arith, steady-config s, keptConfig-lt (configOf d)
 keptGenerated-zero : keptGenerated 0 ≡ 0
 unfolding keptGenerated hartOf numberOf packed fieldOf
 keptGenerated-zero = refl
-
-pub beq-true : (a b : Bool) → Bool·beq a b ≡ true → a ≡ b
-beq-true true true e = refl
-beq-true true false e = absurd (false≢true e)
-beq-true false true e = absurd (false≢true e)
-beq-true false false e = refl
 
 -- ---- a write to domaincfg
 

@@ -8,7 +8,7 @@ use native.Mathlib.Decide.{ℕ-discrete}
 use native.Mathlib.Omega.{arith}
 use lib.Dec.{leb}
 use Rattle.words.specs.Sets.{member}
-use Rattle.words.proofs.TestsLaws.{tested}
+use Rattle.words.proofs.TestsLaws.{tested, beq-true}
 use Rattle.mode.specs.Mode.{sourceWord}
 use Rattle.mode.proofs.ModeLaws.{word-child-not}
 use Rattle.region.specs.Region.{Within}
@@ -24,7 +24,6 @@ use Rattle.wired.proofs.WiredLaws.{root-stays, root-moves, written-child, writt
 use Rattle.wired.proofs.WiredLaws.{written-part, written-source}
 use Rattle.rules.specs.Rules.{delegatedRule}
 use Rattle.rules_laws.specs.Steady.{Steady, WiredSteady}
-use Rattle.rules_laws.proofs.ConfigEffects.{beq-true}
 use Rattle.rules_laws.proofs.SourceEffects.{steady-sourceModed-word, steady-started}
 use Rattle.rules_laws.proofs.SourceEffects.{mode-sourceModed, sourceAt-sourceModed-other}
 use Rattle.rules_laws.proofs.WiredEffects.{delegated-yes, delegated-zero, delegated-same}

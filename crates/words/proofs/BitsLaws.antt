@@ -284,3 +284,14 @@ putBit-on w k b e = simp e
 pub putBit-off : (w k : ℕ) (b : Bool) → b ≡ false → putBit w k b ≡ withoutBit w k
 unfolding putBit
 putBit-off w k b e = simp e
+
+pub hasBit-putBit-same : (w k : ℕ) (b : Bool) → hasBit (putBit w k b) k ≡ b
+hasBit-putBit-same w k true = ap (λ (x : ℕ). hasBit x k) (putBit-on w k true refl) ∙ hasBit-withBit-same w k
+hasBit-putBit-same w k false =
+    ap (λ (x : ℕ). hasBit x k) (putBit-off w k false refl) ∙ hasBit-withoutBit-same w k
+
+pub hasBit-putBit-other : (w k : ℕ) (b : Bool) (j : ℕ) → j ≢ k → hasBit (putBit w k b) j ≡ hasBit w j
+hasBit-putBit-other w k true j n =
+    ap (λ (x : ℕ). hasBit x j) (putBit-on w k true refl) ∙ hasBit-withBit-other w k j n
+hasBit-putBit-other w k false j n =
+    ap (λ (x : ℕ). hasBit x j) (putBit-off w k false refl) ∙ hasBit-withoutBit-other w k j n

@@ -1,9 +1,9 @@
--- A test goes one way or the other, what a joined test says of its parts, and a range taken apart at its
--- start. No contract cites this file. Assumes nothing.
+-- A test goes one way or the other, what a joined test says of its parts, when two tests agree, and a range
+-- taken apart at its start. No contract cites this file. Assumes nothing.
 use Prim.Native.Nat.{ℕ, suc, _≤_}
-use mathlib.Core.Path.{_≡_, refl, subst}
-use mathlib.Core.Bool.{Bool, true, false, not, _&&_, _||_, true≢false, false≢true}
-use mathlib.Core.Logic.{_⊎_, inl, inr}
+use mathlib.Core.Path.{_≡_, refl, sym, subst}
+use mathlib.Core.Bool.{Bool, true, false, not, Bool·beq, _&&_, _||_, true≢false, false≢true}
+use mathlib.Core.Logic.{_≢_, _⊎_, inl, inr}
 use native.Mathlib.Decide.{ℕ-discrete}
 use native.Mathlib.Omega.{arith}
 
@@ -26,6 +26,29 @@ and-both a b p q = rw (p, q)
 pub or-cases : (a b : Bool) → (a || b) ≡ true → (a ≡ true) ⊎ (b ≡ true)
 or-cases true b e = inl refl
 or-cases false b e = inr e
+
+pub or-left : (a b : Bool) → a ≡ true → (a || b) ≡ true
+or-left a b e = rw e
+
+pub or-right : (a b : Bool) → b ≡ true → (a || b) ≡ true
+or-right true b e = refl
+or-right false b e = e
+
+pub beq-true : (a b : Bool) → Bool·beq a b ≡ true → a ≡ b
+beq-true true true e = refl
+beq-true true false e = absurd (false≢true e)
+beq-true false true e = absurd (false≢true e)
+beq-true false false e = refl
+
+pub beq-same : (a b : Bool) → a ≡ b → Bool·beq a b ≡ true
+beq-same true b e = rw (sym e)
+beq-same false b e = rw (sym e)
+
+pub beq-differs : (a b : Bool) → a ≢ b → Bool·beq a b ≡ false
+beq-differs true true n = absurd (n refl)
+beq-differs true false n = refl
+beq-differs false true n = refl
+beq-differs false false n = absurd (n refl)
 
 pub not-same : (b : Bool) → b ≡ true → b ≡ false → ⊥
 not-same true p q = true≢false q
