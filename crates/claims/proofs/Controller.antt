@@ -5,6 +5,7 @@ use mathlib.Core.Bool.{Bool, true, false}
 use mathlib.Core.List.{[], append-nil}
 use mathlib.Core.Logic.{_⊎_, inl, inr}
 use native.Mathlib.Omega.{arith}
+use Rattle.region.specs.declared.Word.{Word}
 use Rattle.region.specs.declared.Word.the-variants.{Genmsi}
 use Rattle.wired.specs.Wired.{Wired, domainIn, writtenIn, wireSet}
 use Rattle.sending.specs.Sending.{Sent, sent}
@@ -16,7 +17,7 @@ use Rattle.controller.proofs.CallLaws.{one-wireSet, read-silent, genmsi-silent}
 use Rattle.controller_laws.proofs.OutEffects.{wire-count, wire-exists, write-count, write-exists}
 use Rattle.controller_laws.proofs.OutEffects.{wire-sound, read-sound, write-sound}
 use Rattle.claims.specs.Rules.{Sound}
-use Rattle.claims.specs.Controller.{Claim-76, Claim-77, Claim-78, Claim-79}
+use Rattle.claims.specs.Controller.{Sends, Claim-76, Claim-77, Claim-78, Claim-79}
 
 pub claim-76 : Claim-76
 unfolding Claim-76
@@ -45,6 +46,12 @@ genmsi-alone : (w : Wired) (c : Bool) (v : ℕ)
 unfolding writeCall generatedBy isGenmsi
 genmsi-alone w c v silent = rw (silent, append-nil (generatedSent c (domainIn w c) v))
 
+-- a write to any other register, with what is to be sent after it
+change-alone : (w : Wired) (c : Bool) (r : Word) (v : ℕ) → isGenmsi r ≡ false
+    → Sends (writtenIn w c r v) (writeCall w c r v)
+unfolding writeCall generatedBy flushed
+change-alone w c r v e = rw e (refl, refl)
+
 pub claim-77 : Claim-77
 unfolding Claim-77 wireCall isGenmsi flushed
 claim-77 w s =
@@ -52,6 +59,7 @@ claim-77 w s =
     let q = quiet w s in (
       (λ i l h level. ((refl, refl), one (wireSet w i level) (one-wireSet w a q i l (omega arith) level))),
       (λ c r. read-silent w a q c r),
+      (λ c r v e. change-alone w c r v e),
       (λ c v. genmsi-alone w c v (genmsi-silent w a q c Genmsi refl v)),
     )
 

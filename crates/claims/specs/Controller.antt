@@ -17,7 +17,7 @@ use Rattle.rules.specs.Rules.{wiredSound}
 use Rattle.sending.specs.Sending.{sent, logged}
 use Rattle.sending.specs.Delivered.{fileIn}
 use Rattle.genmsi.specs.Genmsi.{generatedSent}
-use Rattle.controller.specs.Controller.{Out, wireCall, readCall, writeCall, Leaves}
+use Rattle.controller.specs.Controller.{Out, isGenmsi, wireCall, readCall, writeCall, Leaves}
 use Rattle.controller.proofs.set_wire.Reads as set-wire
 use Rattle.controller.proofs.read.Reads as read
 use Rattle.controller.proofs.write.Reads as write
@@ -47,7 +47,7 @@ Sends w o =
       child = sent true (w .child) .domain;
     })
 
--- the messages of a call: those of the change, machine domain first, of which one domain at most sends; a
+-- the messages of a call: those of the change, machine domain first; after a wire one domain at most sends; a
 -- read sends nothing; the message of a genmsi is the only one of its call
 unfoldable pub Claim-77 : Type 0
 Claim-77 =
@@ -57,6 +57,7 @@ Claim-77 =
     × ((sent false (wireSet w i level .root) .messages ≡ [])
     ⊎ (sent true (wireSet w i level .child) .messages ≡ [])))
     × ((c : Bool) (r : Word) → readCall w c r ≡ record { wired = claimedIn w c r; messages = [] })
+    × ((c : Bool) (r : Word) (v : ℕ) → isGenmsi r ≡ false → Sends (writtenIn w c r v) (writeCall w c r v))
     × ((c : Bool) (v : ℕ)
     → writeCall w c Genmsi v
     ≡ record { wired = writtenIn w c Genmsi v; messages = generatedSent c (domainIn w c) v })
