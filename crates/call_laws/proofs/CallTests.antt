@@ -9,6 +9,7 @@ use mathlib.Core.Bool.{Bool, true, false}
 use mathlib.Core.List.{List, []}
 use mathlib.Core.Logic.{_≢_}
 use lib.ListN.{length}
+use Rattle.sending.specs.Sending.{logged}
 use Rattle.sending.proofs.SendingLaws.{logged-none}
 use Rattle.block.specs.Block.{Board, boardOf, boardSound}
 use Rattle.call.specs.declared.Answer.{Answer}
@@ -57,6 +58,15 @@ module _ {c : Call} {n a s : Bool} (t : Tests c n a s) (l g : List ℕ) (k : ℕ
       pub tests-select : a ≡ true → s ≡ false → Gives (outcome c l g) IllegalSelect l g
       tests-select y w =
           gives-select c l g k by-rules z (t .names ∙ x) (t .addresses ∙ y) (t .selects ∙ w)
+
+      -- the call does what t′ says, and its code answered 0 and n and left the blocks l′ and g′
+      pub tests-sent : a ≡ true → s ≡ true → (t′ : Stepped) → step c (boardOf l) ≡ t′ → (m : ℕ)
+          → (l′ g′ : List ℕ) → length l′ ≡ 650 → 0 ≡ t′ .value → boardOf l′ ≡ t′ .board
+          → g′ ≡ logged g (t′ .messages) → m ≡ length (t′ .messages) → Gives (outcome c l g) (Done 0 m) l′ g′
+      tests-sent y w t′ q m l′ g′ long value board log count =
+          gives-done c l g k by-rules z
+          (numbers-name c (t .names ∙ x) (t .addresses ∙ y) (t .selects ∙ w)) t′ q 0 m value count l′ g′ long
+          board log
 
       -- the call does what quiet says, and its code answered u and left the block l′
       pub tests-done : a ≡ true → s ≡ true → (b : Board) (v : ℕ) → step c (boardOf l) ≡ quiet b v

@@ -7,8 +7,7 @@ use mathlib.Core.List.{List, []}
 use native.Mathlib.Omega.{arith}
 use lib.Dec.{eqb, ltb}
 use lib.ListN.{length}
-use borrow.Author.Tests.{ltb-true}
-use Rattle.words.proofs.TestsLaws.{and-first, and-second, and-both}
+use Rattle.words.proofs.TestsLaws.{and-first, and-both}
 use Rattle.file.specs.declared.File.{File}
 use Rattle.file.specs.Page.{pageWritten}
 use Rattle.file.specs.Register.{accessed}
@@ -42,6 +41,7 @@ use Rattle.call_laws.proofs.StepEffects.{sound-files, sound-wired, soun
 use Rattle.call_laws.proofs.StepEffects.{step-domainRead, step-domainWrite, step-onFile}
 use Rattle.call_laws.proofs.StepEffects.{step-answering}
 use Rattle.call_laws.proofs.StepEffects.{step-reset}
+use Rattle.call_laws.proofs.FileCallEffects.{number-read, number-lt}
 use Rattle.call_laws.proofs.WiredCallEffects.{wire-low, wire-high}
 
 -- what a call leaves: the rules kept, and room in the log
@@ -75,13 +75,7 @@ module _ (b : Board) (sound : boardSound b ≡ true) where
     k = fileNumber h f
 
     number-below : k < 20
-    unfolding isFile fileNumber
-    number-below =
-        omega (
-          arith,
-          ltb-true h 4 (and-first (ltb h 4) (ltb f 5) there),
-          ltb-true f 5 (and-second (ltb h 4) (ltb f 5) there),
-        )
+    number-below = omega (arith, number-read h f, number-lt h f there)
 
     own-sound : fileSound identities (isGuest k) (theFile (b .files) k) ≡ true
     own-sound = filesSound-1 (b .files) (sound-files b sound) k number-below

@@ -2,7 +2,7 @@
 use mathlib.Core.Path.{refl, sym, _∙_}
 use mathlib.Core.Bool.{true}
 use native.Mathlib.Omega.{arith}
-use borrow.Author.Tests.{not-true, not-false}
+use borrow.Author.Tests.{not-true, not-false, lt-ltb, le-ltb}
 use Rattle.call.proofs.RefusalLaws.{passed-state, passed-log, passed-rules}
 use mathlib.Core.Path.{ap, subst}
 use Rattle.region.specs.Region.{Within}
@@ -14,8 +14,8 @@ use Rattle.wired.specs.Wired.{readIn}
 use Rattle.controller.specs.Controller.{readCall}
 use Rattle.block.specs.Block.{Board, boardOf}
 use Rattle.wired_calls.proofs.DoneLaws.{read-none}
-use Rattle.call_laws.proofs.WiredCallEffects.{domainRead-blocks, domainRead-name, domainRead-address}
-use Rattle.call_laws.proofs.WiredCallEffects.{domainRead-done}
+use Rattle.call_laws.proofs.CallTests.{tests-blocks, tests-name, tests-address}
+use Rattle.call_laws.proofs.WiredCallEffects.{tests-domainRead, domainRead-done}
 use borrow.Author.Needs.{needs}
 use Rattle.wired_calls.proofs.calls.domain_read.Statement.{statement}
 use Rattle.wired_calls.proofs.calls.domain_read.Tie as tie
@@ -36,9 +36,8 @@ returns : tie.Need-returns
 returns c =
     let at-check = c .before .before in
     let args = at-check .before .before .before .before .before .args in
-    domainRead-blocks (args .state .now) (args .log .now) _ (at-check .check .ensures) (args .domain)
-    (args .address)
-    (c .before .if1 .taken) _ (c .refusal .ensures)
+    tests-blocks (tests-domainRead (args .domain) (args .address)) (args .state .now) (args .log .now) _
+    (at-check .check .ensures) (c .before .if1 .taken) _ (c .refusal .ensures)
 
 same-length-3 : tie.Need-same-length-3
 same-length-3 c = search needs
@@ -50,9 +49,8 @@ returns-2 : tie.Need-returns-2
 returns-2 c =
     let at-check = c .before .before in
     let args = at-check .before .before .before .before .before .args in
-    domainRead-name (args .state .now) (args .log .now) _ (at-check .check .ensures) (args .domain)
-    (args .address)
-    (c .before .if1 .left) (c .if2 .taken)
+    tests-name (tests-domainRead (args .domain) (args .address)) (args .state .now) (args .log .now) _
+    (at-check .check .ensures) (c .before .if1 .left) (le-ltb _ 2 (c .if2 .taken))
 
 address-legal-requires : tie.Need-address-legal-requires
 address-legal-requires c κs = search needs
@@ -68,9 +66,9 @@ returns-3 c =
     let at-name = c .before .before in
     let at-check = at-name .before .before in
     let args = at-check .before .before .before .before .before .args in
-    domainRead-address (args .state .now) (args .log .now) _ (at-check .check .ensures) (args .domain)
-    (args .address)
-    (at-name .before .if1 .left) (omega (arith, at-name .if2 .left))
+    tests-address (tests-domainRead (args .domain) (args .address)) (args .state .now) (args .log .now) _
+    (at-check .check .ensures) (at-name .before .if1 .left)
+    (lt-ltb (args .domain) 2 (omega (arith, at-name .if2 .left)))
     (sym (c .before .address-legal .ensures) ∙ not-true _ (c .if3 .taken))
 
 word-at-requires : tie.Need-word-at-requires
@@ -108,8 +106,8 @@ returns-4 c =
     let child = eqb (args .domain) 1 in
     let word = at-done .before .word-at .ensures in
     let read = at-done .read-done .ensures in
-    domainRead-done l (args .log .now) _ (at-check .check .ensures) (args .domain) (args .address)
-    (at-name .before .if1 .left) (omega (arith, at-name .if2 .left))
+    domainRead-done l (args .log .now) _ (at-check .check .ensures) (at-name .before .if1 .left)
+    (args .domain) (args .address) (omega (arith, at-name .if2 .left))
     (sym (at-address .before .address-legal .ensures) ∙ not-false _ (at-address .if3 .left)) _ _
     (at-done .read-done .kept .0 ∙ long)
     (read-none l long (passed-rules true l (args .log .now) none refl) child (wordAt (args .address)))

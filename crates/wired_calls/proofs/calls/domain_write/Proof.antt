@@ -2,7 +2,7 @@
 use mathlib.Core.Path.{refl, sym, _∙_}
 use mathlib.Core.Bool.{true}
 use native.Mathlib.Omega.{arith}
-use borrow.Author.Tests.{not-true, not-false}
+use borrow.Author.Tests.{not-true, not-false, lt-ltb, le-ltb}
 use Rattle.call.proofs.RefusalLaws.{passed-state, passed-log, passed-rules}
 use mathlib.Core.Path.{ap, subst}
 use Rattle.region.specs.Region.{Within}
@@ -12,8 +12,8 @@ use lib.Dec.{eqb}
 use Rattle.controller.specs.Controller.{writeCall}
 use Rattle.block.specs.Block.{boardOf}
 use Rattle.wired_calls.proofs.DoneLaws.{left-of}
-use Rattle.call_laws.proofs.WiredCallEffects.{domainWrite-blocks, domainWrite-name, domainWrite-address}
-use Rattle.call_laws.proofs.WiredCallEffects.{domainWrite-done}
+use Rattle.call_laws.proofs.CallTests.{tests-blocks, tests-name, tests-address}
+use Rattle.call_laws.proofs.WiredCallEffects.{tests-domainWrite, domainWrite-done}
 use borrow.Author.Needs.{needs}
 use Rattle.wired_calls.proofs.calls.domain_write.Statement.{statement}
 use Rattle.wired_calls.proofs.calls.domain_write.Tie as tie
@@ -34,9 +34,9 @@ returns : tie.Need-returns
 returns c =
     let at-check = c .before .before in
     let args = at-check .before .before .before .before .before .args in
-    domainWrite-blocks (args .state .now) (args .log .now) _ (at-check .check .ensures) (args .domain)
-    (args .address) (args .value)
-    (c .before .if1 .taken) _ (c .refusal .ensures)
+    tests-blocks (tests-domainWrite (args .domain) (args .address) (args .value)) (args .state .now)
+    (args .log .now) _
+    (at-check .check .ensures) (c .before .if1 .taken) _ (c .refusal .ensures)
 
 same-length-3 : tie.Need-same-length-3
 same-length-3 c = search needs
@@ -48,9 +48,9 @@ returns-2 : tie.Need-returns-2
 returns-2 c =
     let at-check = c .before .before in
     let args = at-check .before .before .before .before .before .args in
-    domainWrite-name (args .state .now) (args .log .now) _ (at-check .check .ensures) (args .domain)
-    (args .address) (args .value)
-    (c .before .if1 .left) (c .if2 .taken)
+    tests-name (tests-domainWrite (args .domain) (args .address) (args .value)) (args .state .now)
+    (args .log .now) _
+    (at-check .check .ensures) (c .before .if1 .left) (le-ltb _ 2 (c .if2 .taken))
 
 address-legal-requires : tie.Need-address-legal-requires
 address-legal-requires c κs = search needs
@@ -66,9 +66,10 @@ returns-3 c =
     let at-name = c .before .before in
     let at-check = at-name .before .before in
     let args = at-check .before .before .before .before .before .args in
-    domainWrite-address (args .state .now) (args .log .now) _ (at-check .check .ensures) (args .domain)
-    (args .address) (args .value)
-    (at-name .before .if1 .left) (omega (arith, at-name .if2 .left))
+    tests-address (tests-domainWrite (args .domain) (args .address) (args .value)) (args .state .now)
+    (args .log .now) _
+    (at-check .check .ensures) (at-name .before .if1 .left)
+    (lt-ltb (args .domain) 2 (omega (arith, at-name .if2 .left)))
     (sym (c .before .address-legal .ensures) ∙ not-true _ (c .if3 .taken))
 
 word-at-requires : tie.Need-word-at-requires
@@ -103,9 +104,10 @@ returns-4 c =
     let args = at-check .before .before .before .before .before .args in
     let none = sym (at-check .check .ensures) ∙ at-name .before .if1 .left in
     let child = eqb (args .domain) 1 in
-    domainWrite-done (args .state .now) (args .log .now) _ (at-check .check .ensures) (args .domain)
-    (args .address) (args .value) (at-name .before .if1 .left) (omega (arith, at-name .if2 .left))
-    (sym (at-address .before .address-legal .ensures) ∙ not-false _ (at-address .if3 .left)) _ _ _
+    domainWrite-done (args .state .now) (args .log .now) _ (at-check .check .ensures)
+    (at-name .before .if1 .left) (args .domain) (args .address) (omega (arith, at-name .if2 .left))
+    (sym (at-address .before .address-legal .ensures) ∙ not-false _ (at-address .if3 .left)) (args .value)
+    _ _ _
     (at-done .write-done .kept .0 ∙ passed-state true _ _ none)
     (left-of (ap (λ (r : Word). writeCall (boardOf (args .state .now) .wired) child r (args .value))
     (at-done .before .word-at .ensures)) _ _ _ _ _ (at-done .write-done .ensures .1))

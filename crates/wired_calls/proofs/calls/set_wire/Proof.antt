@@ -4,7 +4,8 @@ use mathlib.Core.Bool.{true}
 use native.Mathlib.Omega.{arith}
 use borrow.Author.Tests.{not-true, not-false}
 use Rattle.call.proofs.RefusalLaws.{passed-state, passed-log, passed-rules}
-use Rattle.call_laws.proofs.WiredCallEffects.{wire-low, wire-high, wire-blocks, wire-name, wire-done}
+use Rattle.call_laws.proofs.WiredCallEffects.{wire-low, wire-high, tests-wire, wire-done}
+use Rattle.call_laws.proofs.CallTests.{tests-blocks, tests-name}
 use borrow.Author.Needs.{needs}
 use Rattle.wired_calls.proofs.calls.set_wire.Statement.{statement}
 use Rattle.wired_calls.proofs.calls.set_wire.Tie as tie
@@ -25,7 +26,8 @@ returns : tie.Need-returns
 returns c =
     let at-check = c .before .before in
     let args = at-check .before .before .before .before .before .args in
-    wire-blocks (args .state .now) (args .log .now) _ (at-check .check .ensures) (args .wire) (args .level)
+    tests-blocks (tests-wire (args .wire) (args .level)) (args .state .now) (args .log .now) _
+    (at-check .check .ensures)
     (c .before .if1 .taken) _ (c .refusal .ensures)
 
 is-wire-requires : tie.Need-is-wire-requires
@@ -42,7 +44,8 @@ returns-2 c =
     let at-test = c .before .before in
     let at-check = at-test .before in
     let args = at-check .before .before .before .before .before .args in
-    wire-name (args .state .now) (args .log .now) _ (at-check .check .ensures) (args .wire) (args .level)
+    tests-name (tests-wire (args .wire) (args .level)) (args .state .now) (args .log .now) _
+    (at-check .check .ensures)
     (at-test .if1 .left) (sym (c .before .is-wire .ensures) ∙ not-true _ (c .if2 .taken))
 
 wire-done-requires : tie.Need-wire-done-requires
@@ -77,8 +80,9 @@ returns-3 c =
     let at-check = at-test .before in
     let args = at-check .before .before .before .before .before .args in
     let none = sym (at-check .check .ensures) ∙ at-test .if1 .left in
-    wire-done (args .state .now) (args .log .now) _ (at-check .check .ensures) (args .wire) (args .level)
-    (at-test .if1 .left) (sym (at-name .before .is-wire .ensures) ∙ not-false _ (at-name .if2 .left)) _ _ _
+    wire-done (args .state .now) (args .log .now) _ (at-check .check .ensures) (at-test .if1 .left)
+    (args .wire) (args .level) (sym (at-name .before .is-wire .ensures) ∙ not-false _
+    (at-name .if2 .left)) _ _ _
     (at-done .wire-done .kept .0 ∙ passed-state true _ _ none) (at-done .wire-done .ensures .1)
 
 pub set-wire-spec : {M : Type 1} → statement M
