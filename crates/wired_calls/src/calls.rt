@@ -1,9 +1,9 @@
 // The calls, with their refusals.
 ghost use Rattle.call.specs.declared.Call.the-variants as the;
 ghost use Rattle.call.specs.Outcome.{outcome, Gives};
-use super::done::read_done;
 use super::done::wire_done;
-use super::done::write_done;
+use super::seen::read_done;
+use super::written::write_done;
 use call::Answer;
 use call::check;
 use call::refusal;

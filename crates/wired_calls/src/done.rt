@@ -3,12 +3,9 @@ ghost use mathlib.Core.Path.{_≡_};
 ghost use mathlib.Core.Bool.{true};
 ghost use Prim.Native.Nat.{_≤_, _<_};
 ghost use lib.ListN.{length};
-ghost use Rattle.region.specs.Region.{Within};
-ghost use Rattle.wired.specs.Wired.{readIn};
-ghost use Rattle.controller.specs.Controller.{wireCall, readCall, writeCall};
+ghost use Rattle.controller.specs.Controller.{wireCall};
 ghost use Rattle.block.specs.Block.{boardOf, boardSound};
 ghost use Rattle.call_laws.specs.Left.{Left};
-use region::Word;
 
 // Answers the number of messages.
 pub fn wire_done(state: &mut [u32], log: &mut [u32], i: usize, level: bool) -> usize
@@ -20,28 +17,4 @@ pub fn wire_done(state: &mut [u32], log: &mut [u32], i: usize, level: bool) -> u
     let n = controller::set_wire(&mut state[360..650], log, i, level);
     files::deliver(&mut state[0..360], log, n);
     n
-}
-
-// Answers the number of messages.
-pub fn write_done(state: &mut [u32], log: &mut [u32], child: bool, word: Word, value: u32) -> usize
-    requires { ⌜ (length (now state) ≡ 650) × (length (now log) ≡ 63) × Within word
-        × (boardSound (boardOf (now state)) ≡ true) ⌝ }
-    ensures { λ r. ⌜ (r ≤ 63) × Left (writeCall (boardOf (now (state .entry)) .wired) child word value)
-        (now (state .entry)) (now (state .exit)) (now (log .entry)) (now (log .exit)) r ⌝ }
-{
-    let n = controller::write(&mut state[360..650], log, child, word, value);
-    files::deliver(&mut state[0..360], log, n);
-    n
-}
-
-pub fn read_done(state: &mut [u32], child: bool, word: Word) -> u32
-    requires { ⌜ (length (now state) ≡ 650) × Within word × (boardSound (boardOf (now state)) ≡ true) ⌝ }
-    ensures { λ r. ⌜ (r ≡ readIn (boardOf (now (state .entry)) .wired) child word)
-        × (boardOf (now (state .exit))
-        ≡ record {
-          files = boardOf (now (state .entry)) .files;
-          wired = readCall (boardOf (now (state .entry)) .wired) child word .wired;
-        }) ⌝ }
-{
-    controller::read(&mut state[360..650], child, word)
 }

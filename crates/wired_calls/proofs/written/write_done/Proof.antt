@@ -1,4 +1,4 @@
--- `wired_calls::done::write_done` meets its contract: a write, then the messages. Assumes nothing.
+-- `wired_calls::written::write_done` meets its contract: a write, then the messages. Assumes nothing.
 use mathlib.Core.Path.{ap, _∙_}
 use lib.ListN.{take, drop}
 use Rattle.wired.specs.Wired.{Wired, wiredOf}
@@ -7,8 +7,8 @@ use Rattle.controller_laws.proofs.OutEffects.{write-exists}
 use Rattle.block.proofs.BlockLaws.{files-long, wired-long, wired-part, wiredPut, put-wired-long}
 use Rattle.wired_calls.proofs.DoneLaws.{part-sound, write-within, left-named, done-left, left-of}
 use borrow.Author.Needs.{needs}
-use Rattle.wired_calls.proofs.done.write_done.Statement.{statement}
-use Rattle.wired_calls.proofs.done.write_done.Tie as tie
+use Rattle.wired_calls.proofs.written.write_done.Statement.{statement}
+use Rattle.wired_calls.proofs.written.write_done.Tie as tie
 
 sub-write : tie.Need-sub-write
 sub-write c = search needs

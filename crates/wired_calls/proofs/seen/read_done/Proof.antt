@@ -1,12 +1,12 @@
--- `wired_calls::done::read_done` meets its contract: the files stay. Assumes nothing.
+-- `wired_calls::seen::read_done` meets its contract: the files stay. Assumes nothing.
 use mathlib.Core.Path.{refl, ap, _∙_}
 use Rattle.wired.specs.Wired.{Wired, readIn}
 use Rattle.controller.specs.Controller.{readCall}
 use Rattle.block.proofs.BlockLaws.{board-path, wired-long, wired-part, put-wired}
 use Rattle.wired_calls.proofs.DoneLaws.{part-sound}
 use borrow.Author.Needs.{needs}
-use Rattle.wired_calls.proofs.done.read_done.Statement.{statement}
-use Rattle.wired_calls.proofs.done.read_done.Tie as tie
+use Rattle.wired_calls.proofs.seen.read_done.Statement.{statement}
+use Rattle.wired_calls.proofs.seen.read_done.Tie as tie
 
 sub-read : tie.Need-sub-read
 sub-read c = search needs

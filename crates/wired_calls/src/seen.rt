@@ -1,0 +1,21 @@
+// What an accepted read does: that of the wired controller on its part; nothing is sent.
+ghost use mathlib.Core.Path.{_≡_};
+ghost use mathlib.Core.Bool.{true};
+ghost use lib.ListN.{length};
+ghost use Rattle.region.specs.Region.{Within};
+ghost use Rattle.wired.specs.Wired.{readIn};
+ghost use Rattle.controller.specs.Controller.{readCall};
+ghost use Rattle.block.specs.Block.{boardOf, boardSound};
+use region::Word;
+
+pub fn read_done(state: &mut [u32], child: bool, word: Word) -> u32
+    requires { ⌜ (length (now state) ≡ 650) × Within word × (boardSound (boardOf (now state)) ≡ true) ⌝ }
+    ensures { λ r. ⌜ (r ≡ readIn (boardOf (now (state .entry)) .wired) child word)
+        × (boardOf (now (state .exit))
+        ≡ record {
+          files = boardOf (now (state .entry)) .files;
+          wired = readCall (boardOf (now (state .entry)) .wired) child word .wired;
+        }) ⌝ }
+{
+    controller::read(&mut state[360..650], child, word)
+}
