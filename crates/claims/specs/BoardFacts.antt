@@ -17,8 +17,8 @@ use Rattle.call.specs.declared.Call.the-variants.{Reset, Wire, DomainRead, Doma
 use Rattle.call.specs.declared.Call.the-variants.{Register, Top, Claim, Signals}
 use Rattle.call.specs.Refusal.{testsRules, refusalOf}
 use Rattle.call.specs.Outcome.{step, outcome}
-use Rattle.monitor.specs.declared.VskAnswer.{VskAnswer}
-use Rattle.monitor.specs.Told.{Told}
+use Rattle.answer.specs.declared.VskAnswer.{VskAnswer}
+use Rattle.answer.specs.Told.{Told}
 use Rattle.monitor.proofs.vsk_reset.Reads as vsk-reset
 use Rattle.monitor.proofs.vsk_wire.Reads as vsk-wire
 use Rattle.monitor.proofs.vsk_domain_read.Reads as vsk-domain-read

@@ -3,45 +3,9 @@
 ghost use mathlib.Core.Path.{_≡_};
 ghost use Rattle.call.specs.declared.Call.the-variants as the;
 ghost use Rattle.call.specs.Outcome.{outcome};
-ghost use Rattle.monitor.specs.Told.{Numbers, Told};
-use call::Answer;
-
-// What C is answered, in two registers. The refusal is 0 if the call is done.
-#[repr(C)]
-pub struct VskAnswer {
-    pub value: u64,
-    // the number of messages
-    pub count: u32,
-    pub refusal: u32,
-}
-
-fn refused(number: u32) -> VskAnswer
-    ensures { λ r. ⌜ r ≡ record { value = 0; count = 0; refusal = number } ⌝ }
-{
-    VskAnswer {
-        value: 0,
-        count: 0,
-        refusal: number,
-    }
-}
-
-fn numbers(answer: Answer) -> VskAnswer
-    ensures { λ r. ⌜ Numbers r answer ⌝ }
-{
-    match answer {
-        Answer::Done(value, count) => VskAnswer {
-            value: value,
-            count: count,
-            refusal: 0,
-        },
-        Answer::StateLength => refused(1),
-        Answer::LogLength => refused(2),
-        Answer::BrokenRule => refused(3),
-        Answer::NoSuch => refused(4),
-        Answer::BadAddress => refused(5),
-        Answer::IllegalSelect => refused(6),
-    }
-}
+ghost use Rattle.answer.specs.Told.{Told};
+use answer::VskAnswer;
+use answer::numbers;
 
 #[no_mangle]
 pub extern "C" fn vsk_reset(state: &mut [u32], log: &mut [u32]) -> VskAnswer

@@ -8,7 +8,7 @@ use Prim.Native.Nat.{ℕ}
 use Rattle.call.specs.declared.Answer.{Answer}
 use Rattle.call.specs.Answer.{numberOf, valueOf, countOf}
 use Rattle.call.specs.Outcome.{Outcome}
-use Rattle.monitor.specs.declared.VskAnswer.{VskAnswer}
+use Rattle.answer.specs.declared.VskAnswer.{VskAnswer}
 
 pub record Numbers (r : VskAnswer) (a : Answer) : Type 0 where
   pub refusal : r .refusal ≡ numberOf a

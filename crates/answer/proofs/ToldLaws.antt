@@ -1,0 +1,33 @@
+-- What C is told of a call that gives an outcome; and that this settles all that it is answered and left: what
+-- one outcome allows is equal. Assumes nothing.
+use Prim.Native.Nat.{ℕ}
+use mathlib.Core.Path.{_≡_, sym, _∙_}
+use mathlib.Core.List.{List}
+use Rattle.call.specs.declared.Answer.{Answer}
+use Rattle.call.specs.Outcome.{Outcome, Gives}
+use Rattle.answer.specs.declared.VskAnswer.{VskAnswer}
+use Rattle.answer.specs.Told.{Numbers, Told}
+
+-- the numbers of an answer, where the answer is the outcome's
+pub told-of : {o : Outcome} {r : VskAnswer} {a : Answer} {l g : List ℕ} → Numbers r a → Gives o a l g
+    → Told o r l g
+told-of n e =
+    record {
+      refusal = n .refusal ∙ e .number;
+      value = n .value ∙ e .value;
+      count = n .count ∙ e .count;
+      block = e .block;
+      log = e .log;
+    }
+
+answer-path : {r r′ : VskAnswer} → r .value ≡ r′ .value → r .count ≡ r′ .count → r .refusal ≡ r′ .refusal
+    → r ≡ r′
+answer-path v c n i = record { value = v i; count = c i; refusal = n i }
+
+pub told-one : (o : Outcome) (r r′ : VskAnswer) (l l′ g g′ : List ℕ) → Told o r l g → Told o r′ l′ g′
+    → (r ≡ r′) × (l ≡ l′) × (g ≡ g′)
+told-one o r r′ l l′ g g′ t u = (
+  answer-path (t .value ∙ sym (u .value)) (t .count ∙ sym (u .count)) (t .refusal ∙ sym (u .refusal)),
+  t .block ∙ sym (u .block),
+  t .log ∙ sym (u .log),
+)
