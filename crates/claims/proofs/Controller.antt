@@ -3,7 +3,7 @@ use Prim.Native.Nat.{ℕ, _≤_}
 use mathlib.Core.Path.{_≡_, refl, ap, _∙_}
 use mathlib.Core.Bool.{Bool, true, false}
 use mathlib.Core.List.{[], append-nil}
-use mathlib.Core.Logic.{_⊎_, inl, inr}
+use mathlib.Core.Logic.{inl, inr}
 use native.Mathlib.Omega.{arith}
 use Rattle.region.specs.declared.Word.{Word}
 use Rattle.region.specs.declared.Word.the-variants.{Genmsi}
@@ -13,11 +13,11 @@ use Rattle.genmsi.specs.Genmsi.{generatedSent}
 use Rattle.rules_laws.specs.Steady.{WiredSteady, WiredQuiet}
 use Rattle.rules_laws.proofs.SoundParts.{wired-sound-steady, wired-sound-quiet}
 use Rattle.controller.specs.Controller.{Out, flushed, isGenmsi, generatedBy, wireCall, writeCall, OneSends}
-use Rattle.controller.proofs.CallLaws.{one-wireSet, read-silent, genmsi-silent}
+use Rattle.controller.proofs.CallLaws.{one-wireSet, one-writtenIn, read-silent, genmsi-silent}
 use Rattle.controller_laws.proofs.OutEffects.{wire-count, wire-exists, write-count, write-exists}
 use Rattle.controller_laws.proofs.OutEffects.{wire-sound, read-sound, write-sound}
 use Rattle.claims.specs.Rules.{Sound}
-use Rattle.claims.specs.Controller.{Sends, Claim-76, Claim-77, Claim-78, Claim-79}
+use Rattle.claims.specs.Controller.{Sends, OneAtMost, Claim-76, Claim-77, Claim-78, Claim-79}
 
 pub claim-76 : Claim-76
 unfolding Claim-76
@@ -34,7 +34,7 @@ steady w (lists, sound) = wired-sound-steady w sound (lists .0) (lists .1) (list
 quiet : (w : Wired) → Sound w → WiredQuiet w
 quiet w (lists, sound) = wired-sound-quiet w sound
 
-one : (w : Wired) → OneSends w → (sent false (w .root) .messages ≡ []) ⊎ (sent true (w .child) .messages ≡ [])
+one : (w : Wired) → OneSends w → OneAtMost w
 one w (inl e) = inl e
 one w (inr e) = inr (ap (λ (s : Sent). s .messages) e)
 
@@ -59,7 +59,7 @@ claim-77 w s =
     let q = quiet w s in (
       (λ i l h level. ((refl, refl), one (wireSet w i level) (one-wireSet w a q i l (omega arith) level))),
       (λ c r. read-silent w a q c r),
-      (λ c r v e. change-alone w c r v e),
+      (λ c r b v e. (change-alone w c r v e, one (writtenIn w c r v) (one-writtenIn w a q c r b v))),
       (λ c v. genmsi-alone w c v (genmsi-silent w a q c Genmsi refl v)),
     )
 

@@ -47,17 +47,21 @@ Sends w o =
       child = sent true (w .child) .domain;
     })
 
--- the messages of a call: those of the change, machine domain first; after a wire one domain at most sends; a
+-- one of the two domains has nothing to send
+abbrev pub OneAtMost : Wired → Type 0
+OneAtMost w = (sent false (w .root) .messages ≡ []) ⊎ (sent true (w .child) .messages ≡ [])
+
+-- the messages of a call: those of the change, machine domain first, of which one domain at most sends; a
 -- read sends nothing; the message of a genmsi is the only one of its call
 unfoldable pub Claim-77 : Type 0
 Claim-77 =
     (w : Wired) → Sound w
     → ((i : ℕ) → 1 ≤ i → i ≤ 63 → (level : Bool)
     → Sends (wireSet w i level) (wireCall w i level)
-    × ((sent false (wireSet w i level .root) .messages ≡ [])
-    ⊎ (sent true (wireSet w i level .child) .messages ≡ [])))
+    × OneAtMost (wireSet w i level))
     × ((c : Bool) (r : Word) → readCall w c r ≡ record { wired = claimedIn w c r; messages = [] })
-    × ((c : Bool) (r : Word) (v : ℕ) → isGenmsi r ≡ false → Sends (writtenIn w c r v) (writeCall w c r v))
+    × ((c : Bool) (r : Word) → Within r → (v : ℕ) → isGenmsi r ≡ false
+    → Sends (writtenIn w c r v) (writeCall w c r v) × OneAtMost (writtenIn w c r v))
     × ((c : Bool) (v : ℕ)
     → writeCall w c Genmsi v
     ≡ record { wired = writtenIn w c Genmsi v; messages = generatedSent c (domainIn w c) v })
