@@ -1,5 +1,5 @@
--- What C is told of a call that gives an outcome; and that this settles all that it is answered and left: what
--- one outcome allows is equal. Assumes nothing.
+-- What C is told of a call that gives an outcome; and that this settles all that it is answered and left:
+-- what one outcome allows is equal. Assumes nothing.
 use Prim.Native.Nat.{ℕ}
 use mathlib.Core.Path.{_≡_, sym, _∙_}
 use mathlib.Core.List.{List}
