@@ -6,6 +6,7 @@ use Rattle.words.specs.Bits.{bitOf, hasBit}
 use Rattle.words.specs.Sets.{member}
 use Rattle.words.specs.Every.{every}
 use Rattle.words.specs.Parts.{fieldOf, packed}
+use Rattle.select.specs.Deliveries.{deliveryLegal}
 use Rattle.file.specs.Rules as file
 use Rattle.file_laws.proofs.Stored.{Long}
 use Rattle.files.specs.Files.{isGuest, theFile, soundAt, filesSound}
@@ -30,7 +31,7 @@ use Rattle.block_laws.specs.Shape.{BoardShaped}
 -- every rule computes
 start-files-sound : filesSound (startBoard .files) ≡ true
 unfolding startBoard startFilesFrom startFile filesSound every soundAt theFile isGuest file.fileSound
-    file.deliveryRule file.deliveryLegal file.thresholdRule file.zeroRule member hasBit bitOf
+    file.deliveryRule deliveryLegal file.thresholdRule file.zeroRule member hasBit bitOf
 start-files-sound = refl
 
 start-wired-sound : wiredSound (startBoard .wired) ≡ true

@@ -13,13 +13,13 @@ use mathlib.Core.Bool.{Bool, cond, _&&_, _||_}
 use mathlib.Core.List.{List, []}
 use lib.Dec.{eqb, ltb}
 use Rattle.words.specs.Bits.{putBit}
+use Rattle.select.specs.Size.{identities}
 use Rattle.file.specs.declared.File.{File}
 use Rattle.file.specs.declared.register.Access.{Access}
 use Rattle.file.specs.declared.register.Access.the-variants.{Read, Write, Set, Clear}
 use Rattle.file.specs.Answer.{valueOf}
 use Rattle.file.specs.Page.{pageWritten, pageRead}
 use Rattle.file.specs.Register.{accessed}
-use Rattle.file.specs.Size.{identities}
 use Rattle.file.specs.Top.{topOf, claimed, signals}
 use Rattle.files.specs.Files.{fileNumber, isGuest, theFile, withFile}
 use Rattle.region.specs.Region.{wordAt}

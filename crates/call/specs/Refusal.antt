@@ -15,7 +15,7 @@ use mathlib.Core.Bool.{Bool, true, false, cond, not, _&&_}
 use mathlib.Core.List.{List}
 use lib.Dec.{eqb, leb, ltb}
 use lib.ListN.{length}
-use Rattle.file.specs.Select.{selectLegal}
+use Rattle.select.specs.Select.{selectLegal}
 use Rattle.region.specs.Region.{addressLegal}
 use Rattle.block.specs.Block.{boardOf, boardSound}
 use Rattle.call.specs.declared.Call.{Call}

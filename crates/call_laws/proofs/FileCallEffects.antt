@@ -11,14 +11,14 @@ use lib.Dec.{ltb, leb}
 use lib.ListN.{length, take}
 use borrow.Author.Tests.{ltb-true}
 use Rattle.words.proofs.TestsLaws.{and-first, and-second}
+use Rattle.select.specs.Size.{identities}
+use Rattle.select.specs.Select.{selectLegal}
 use Rattle.file.specs.declared.File.{File}
 use Rattle.file.specs.declared.register.Access.{Access}
 use Rattle.file.specs.declared.register.Accessed.{Accessed}
 use Rattle.file.specs.Answer.{valueOf}
 use Rattle.file.specs.Page.{pageWritten, pageRead}
 use Rattle.file.specs.Register.{accessed}
-use Rattle.file.specs.Select.{selectLegal}
-use Rattle.file.specs.Size.{identities}
 use Rattle.file.specs.Top.{topOf, claimed}
 use Rattle.files.specs.Files.{fileNumber, isGuest, filesOf, theFile, withFile}
 use Rattle.block.specs.Block.{Board, boardOf, boardSound}

@@ -10,8 +10,8 @@ use lib.Dec.{eqb, ltb}
 use lib.ListN.{length, take, drop}
 use borrow.Author.Tests.{lt-ltb, le-ltb, eq-eqb, ne-eqb}
 use Rattle.words.specs.Bits.{putBit}
+use Rattle.select.specs.Size.{identities}
 use Rattle.file.specs.declared.File.{File}
-use Rattle.file.specs.Size.{identities}
 use Rattle.file.specs.Top.{signals}
 use Rattle.files.specs.Files.{fileNumber, theFile}
 use Rattle.direct.specs.Direct.{signalOf}

@@ -8,12 +8,12 @@ use native.Mathlib.Omega.{arith}
 use lib.Dec.{eqb, ltb}
 use lib.ListN.{length}
 use Rattle.words.proofs.TestsLaws.{and-first, and-both}
+use Rattle.select.specs.Size.{identities}
 use Rattle.file.specs.declared.File.{File}
 use Rattle.file.specs.Page.{pageWritten}
 use Rattle.file.specs.Register.{accessed}
 use Rattle.file.specs.Rules.{fileSound}
 use Rattle.file.specs.Shape.{Shaped}
-use Rattle.file.specs.Size.{identities}
 use Rattle.file.specs.Top.{claimed}
 use Rattle.file_laws.proofs.Keeps.{rules-of, sound-of, page-rules, claimed-rules, accessed-rules}
 use Rattle.files.specs.Files.{fileNumber, isGuest, theFile, withFile, filesSound, allReached}

@@ -8,9 +8,10 @@ use native.Mathlib.Omega.{arith}
 use lib.ListN.{length, replicate}
 use Rattle.words.specs.Bits.{bitOf, hasBit}
 use Rattle.words.specs.Every.{every}
+use Rattle.select.specs.Select.{selectLegal}
+use Rattle.select.specs.Deliveries.{deliveryLegal}
 use Rattle.file.specs.declared.File.{File}
 use Rattle.file.specs.Rules as rules
-use Rattle.file.specs.Select.{selectLegal}
 use Rattle.stored.specs.Stored.{fileAt}
 use Rattle.files.specs.Files.{filesOf, filesFrom, theFile, withFile, filesSound, soundAt, isGuest}
 use Rattle.files.proofs.FilesLaws.{theFile-withFile-other}
@@ -77,7 +78,7 @@ broken = 2 ∷ replicate 649 0
 
 broken-breaks : boardSound (boardOf broken) ≡ false
 unfolding boardSound boardOf filesOf filesFrom filesSound every soundAt theFile fileAt isGuest rules.fileSound
-    rules.deliveryRule rules.deliveryLegal
+    rules.deliveryRule deliveryLegal
 broken-breaks = refl
 
 given : (c : Call) (l g : List ℕ) (n : ℕ) → refusalOf c l g ≡ n → Given c n

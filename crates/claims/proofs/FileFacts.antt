@@ -10,15 +10,15 @@ use lib.ListN.{length}
 use borrow.Author.Tests.{eq-eqb, ne-eqb, eqb-true, eqb-false, ltb-true, lt-ltb, not-true, not-false}
 use Rattle.words.specs.Sets.{member}
 use Rattle.words.proofs.TestsLaws.{tested, not-same, and-first, and-second, and-both, or-cases}
+use Rattle.select.specs.Select.{selectLegal}
+use Rattle.select.proofs.SelectLaws.{legal-below, legal-above, legal-named, legal-words}
 use Rattle.file.specs.declared.File.{File}
 use Rattle.file.specs.Shape.{Shaped}
 use Rattle.file.specs.Top.{passes, qualifies, topIdentity, topOf, claimed, signals}
 use Rattle.file.specs.Register.{written}
-use Rattle.file.specs.Select.{selectLegal}
 use Rattle.file.proofs.TopLaws.{qualifies-pending, qualifies-enabled, qualifies-passes, qualifies-standing}
 use Rattle.file.proofs.TopLaws.{topOf-zero-1, topOf-zero-2, claimed-none}
 use Rattle.file.proofs.RegisterLaws.{accessed-illegal}
-use Rattle.file.proofs.SelectLaws.{legal-below, legal-above, legal-named, legal-words}
 use Rattle.file_laws.proofs.PageEffects.{arrived-pending, arrived-rest, arrived-delivery}
 use Rattle.file_laws.proofs.TopEffects.{top-zero-iff, top-is, top-qualifies, top-lowest, top-within}
 use Rattle.file_laws.proofs.TopEffects.{top-below-threshold, claimed-pending, claimed-rest}

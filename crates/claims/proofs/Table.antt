@@ -9,9 +9,9 @@ use Rattle.words.specs.Bits.{bitOf, hasBit, withBit, withoutBit}
 use Rattle.words.specs.Parts.{reversed, fieldOf, packed}
 use Rattle.words.specs.Sets.{member, insert, remove, put}
 use Rattle.words.proofs.TestsLaws.{and-first, and-second}
+use Rattle.select.specs.Select.{selectLegal, registerOf}
 use Rattle.file.specs.Page.{arrived, pageWritten}
 use Rattle.file.specs.Top.{passes, qualifies, lowest, topIdentity, topOf}
-use Rattle.file.specs.Select.{selectLegal, registerOf}
 use Rattle.file.specs.Register.{held, accessedAt, accessed}
 use Rattle.stored.specs.Stored.{fileWords}
 use Rattle.mode.specs.Mode.{isActive}

@@ -10,15 +10,16 @@ use mathlib.Core.Bool.{Bool}
 use mathlib.Core.List.{List}
 use contract.Lifetimes.{Lfts}
 use denote.Ref.{RefT, now}
+use Rattle.select.specs.declared.Register.{Register}
+use Rattle.select.specs.Select.{selectLegal, registerOf}
+use Rattle.select.specs.Deliveries.{deliveryLegal}
 use Rattle.file.specs.declared.File.{File}
-use Rattle.file.specs.declared.select.Register.{Register}
 use Rattle.file.specs.declared.register.Access.{Access}
 use Rattle.file.specs.declared.register.Accessed.{Accessed}
 use Rattle.file.specs.declared.top.Claimed.{Claimed}
 use Rattle.file.specs.Page.{arrived, pageWritten, pageRead}
 use Rattle.file.specs.Top.{topIdentity, topOf, claimed, signals}
-use Rattle.file.specs.Select.{selectLegal, registerOf}
-use Rattle.file.specs.Rules.{deliveryLegal, fileSound}
+use Rattle.file.specs.Rules.{fileSound}
 use Rattle.file.specs.Register.{accessed}
 use Rattle.stored.specs.Stored.{fileAt, putFile}
 use Rattle.file.proofs.File.arrive.Reads as arrive
@@ -28,9 +29,9 @@ use Rattle.file.proofs.File.top_identity.Reads as top-identity
 use Rattle.file.proofs.File.top.Reads as top
 use Rattle.file.proofs.File.claim.Reads as claim
 use Rattle.file.proofs.File.signals.Reads as signals-of
-use Rattle.file.proofs.select_legal.Reads as select-legal
-use Rattle.file.proofs.register_of.Reads as register-of
-use Rattle.file.proofs.delivery_legal.Reads as delivery-legal
+use Rattle.select.proofs.select_legal.Reads as select-legal
+use Rattle.select.proofs.register_of.Reads as register-of
+use Rattle.select.proofs.delivery_legal.Reads as delivery-legal
 use Rattle.file.proofs.File.access.Reads as access
 use Rattle.file.proofs.File.sound.Reads as sound
 use Rattle.stored.proofs.load.Reads as load

@@ -11,16 +11,17 @@ use lib.Dec.{eqb, leb}
 use lib.ListN.{length}
 use Rattle.words.specs.Bits.{hasBit, withoutBit}
 use Rattle.words.specs.Sets.{member, WordsFit}
+use Rattle.select.specs.declared.Register.the-variants.{Delivery, Threshold, Pending, Enable}
+use Rattle.select.specs.Select.{selectLegal}
+use Rattle.select.specs.Deliveries.{deliveryLegal}
 use Rattle.file.specs.declared.File.{File}
-use Rattle.file.specs.declared.select.Register.the-variants.{Delivery, Threshold, Pending, Enable}
 use Rattle.file.specs.declared.register.Access.{Access}
 use Rattle.file.specs.declared.register.Answer.the-variants.{Illegal}
 use Rattle.file.specs.Shape.{Shaped}
 use Rattle.file.specs.Parts.{withDelivery}
 use Rattle.file.specs.Page.{arrived, pageWritten}
 use Rattle.file.specs.Top.{topIdentity, topOf, claimed, signals}
-use Rattle.file.specs.Rules.{deliveryLegal, fileSound}
-use Rattle.file.specs.Select.{selectLegal}
+use Rattle.file.specs.Rules.{fileSound}
 use Rattle.file.specs.Register.{held, written, accessed}
 use Rattle.stored.specs.Stored.{fileAt, putFile}
 

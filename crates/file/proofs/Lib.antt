@@ -1,5 +1,4 @@
 -- The laws of a file's definitions, by topic. Assumes nothing.
-pub mod SelectLaws
 pub mod PageLaws
 pub mod TopLaws
 pub mod RegisterLaws

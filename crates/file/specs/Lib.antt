@@ -1,10 +1,8 @@
 -- One message file: what each of its operations means. 01, "One message file". Assumes nothing.
-pub mod Size
 pub mod Parts
 pub mod Shape
 pub mod Page
 pub mod Top
 pub mod Rules
-pub mod Select
 pub mod Answer
 pub mod Register

@@ -1,39 +1,23 @@
 -- What a file's registers hold, and an access to one. 01, "One message file", "Calls and their refusals".
 -- Assumes nothing.
---   doubleword ws j            words 2j and 2j+1 as one 64-bit number; past the last word, 0
---   putHalves ws j v           these two words replaced by v; past the last word, nothing
---   putDoubleword ws j v       the same, but that identity 0 stays 0
 --   held f r                   what register r of f reads
 --   written n g f r v          f after v was written to r; g says that f is a guest's file
 --   accessedAt n g f k r v     an access of kind k to register r: the answer and the file after it
 --   accessed n g f k s v       the same by select number s; an illegal one has an answer of its own
-use Prim.Native.Nat.{ℕ, _+_, _*_, _%_}
+use Prim.Native.Nat.{ℕ, _+_, _%_}
 use mathlib.Core.Bool.{Bool, cond}
-use mathlib.Core.List.{List}
-use lib.Dec.{eqb}
-use lib.ListN.{getD, set}
-use Rattle.words.specs.Bits.{union, without, withoutBit}
-use Rattle.words.specs.Parts.{low, high, joined}
+use Rattle.words.specs.Bits.{union, without}
+use Rattle.select.specs.declared.Register.{Register}
+use Rattle.select.specs.declared.Register.the-variants.{Delivery, Threshold, Pending, Enable, Unused}
+use Rattle.select.specs.Select.{selectLegal, registerOf}
+use Rattle.select.specs.Halves.{doubleword, putDoubleword}
+use Rattle.select.specs.Deliveries.{deliveryLegal}
 use Rattle.file.specs.declared.File.{File}
-use Rattle.file.specs.declared.select.Register.{Register}
-use Rattle.file.specs.declared.select.Register.the-variants.{Delivery, Threshold, Pending, Enable}
-use Rattle.file.specs.declared.select.Register.the-variants.{Unused}
 use Rattle.file.specs.declared.register.Access.{Access}
 use Rattle.file.specs.declared.register.Access.the-variants.{Read, Write, Set, Clear}
 use Rattle.file.specs.declared.register.Answer.the-variants.{Value, Illegal}
 use Rattle.file.specs.declared.register.Accessed.{Accessed}
 use Rattle.file.specs.Parts.{withDelivery, withThreshold, withPending, withEnable}
-use Rattle.file.specs.Rules.{deliveryLegal}
-use Rattle.file.specs.Select.{selectLegal, registerOf}
-
-unfoldable pub doubleword : List ℕ → ℕ → ℕ
-doubleword ws j = joined (getD ws (2 * j) 0) (getD ws (2 * j + 1) 0)
-
-unfoldable pub putHalves : List ℕ → ℕ → ℕ → List ℕ
-putHalves ws j v = set (set ws (2 * j) (low v)) (2 * j + 1) (high v)
-
-unfoldable pub putDoubleword : List ℕ → ℕ → ℕ → List ℕ
-putDoubleword ws j v = putHalves ws j (cond (eqb j 0) (withoutBit v 0) v)
 
 unfoldable pub held : File → Register → ℕ
 held f Delivery = f .delivery

@@ -2,16 +2,11 @@
 mod page;
 mod register;
 mod rules;
-mod select;
 mod top;
 
 pub use register::Access;
 pub use register::Accessed;
 pub use register::Answer;
-pub use rules::delivery_legal;
-pub use select::Register;
-pub use select::register_of;
-pub use select::select_legal;
 pub use top::Claimed;
 
 pub struct File {

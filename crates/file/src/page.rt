@@ -1,7 +1,7 @@
 // A file's page: what a message write does to the file, and what a read gives.
 ghost use mathlib.Core.Path.{_≡_};
 ghost use Rattle.file.specs.Page.{arrived, pageWritten, pageRead};
-ghost use Rattle.file.specs.Size.{identities};
+ghost use Rattle.select.specs.Size.{identities};
 use super::File;
 
 impl File {

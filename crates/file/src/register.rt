@@ -1,12 +1,14 @@
 // Access to a file's registers by select number: read, write, set bits, clear bits.
 ghost use mathlib.Core.Path.{_≡_};
-ghost use Rattle.file.specs.Register.{held, written, accessed, doubleword, putHalves, putDoubleword};
-ghost use Rattle.file.specs.Size.{identities};
+ghost use Rattle.file.specs.Register.{held, written, accessed};
+ghost use Rattle.select.specs.Size.{identities};
 use super::File;
-use super::rules::delivery_legal;
-use super::select::Register;
-use super::select::register_of;
-use super::select::select_legal;
+use select::Register;
+use select::delivery_legal;
+use select::doubleword;
+use select::put_doubleword;
+use select::register_of;
+use select::select_legal;
 
 pub enum Access {
     Read,
@@ -23,40 +25,6 @@ pub enum Answer {
 pub struct Accessed {
     pub answer: Answer,
     pub file: File,
-}
-
-// Words 2 j and 2 j + 1 as one number; past the last word, 0.
-fn doubleword(ws: [u32; 8], j: u64) -> u64
-    ensures { λ r. ⌜ r ≡ doubleword ws j ⌝ }
-{
-    if 3 < j {
-        return 0;
-    }
-    let at = (j * 2) as usize;
-    words::joined64(ws[at], ws[at + 1])
-}
-
-// The same two words replaced.
-fn put_halves(mut ws: [u32; 8], j: u64, value: u64) -> [u32; 8]
-    ensures { λ r. ⌜ r ≡ putHalves ws j value ⌝ }
-{
-    if 3 < j {
-        return ws;
-    }
-    let at = (j * 2) as usize;
-    ws[at] = words::low32(value);
-    ws[at + 1] = words::high32(value);
-    ws
-}
-
-// Identity 0 has no bit: what is written there is dropped.
-fn put_doubleword(ws: [u32; 8], j: u64, value: u64) -> [u32; 8]
-    ensures { λ r. ⌜ r ≡ putDoubleword ws j value ⌝ }
-{
-    if j == 0 {
-        return put_halves(ws, 0, words::without64(value, 1));
-    }
-    put_halves(ws, j, value)
 }
 
 impl File {

@@ -1,21 +1,9 @@
 // A file's own state rules.
 ghost use mathlib.Core.Path.{_≡_};
-ghost use Rattle.file.specs.Rules.{deliveryLegal, fileSound};
-ghost use Rattle.file.specs.Size.{identities};
+ghost use Rattle.file.specs.Rules.{fileSound};
+ghost use Rattle.select.specs.Size.{identities};
 use super::File;
-
-// A guest file never takes its signal from the wired controller.
-pub fn delivery_legal(guest: bool, value: u64) -> bool
-    ensures { λ r. ⌜ r ≡ deliveryLegal guest value ⌝ }
-{
-    if value < 2 {
-        return true;
-    }
-    if guest {
-        return false;
-    }
-    value == 0x40000000
-}
+use select::delivery_legal;
 
 impl File {
     pub fn sound(self, guest: bool) -> bool

@@ -1,7 +1,7 @@
 // A file's top interrupt, its claim, and its signal to the hart.
 ghost use mathlib.Core.Path.{_≡_};
 ghost use Prim.Native.Nat.{_<_};
-ghost use Rattle.file.specs.Size.{identities};
+ghost use Rattle.select.specs.Size.{identities};
 ghost use Rattle.file.specs.Top.{qualifies, topIdentity, topOf, claimed, signals};
 use super::File;
 

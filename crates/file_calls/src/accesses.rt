@@ -30,7 +30,7 @@ pub fn register(
     if !is_access(hart, file, kind) {
         return Answer::NoSuch;
     }
-    if !file::select_legal(select) {
+    if !select::select_legal(select) {
         return Answer::IllegalSelect;
     }
     let f = load_file(state, hart, file);

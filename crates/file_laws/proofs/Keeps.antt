@@ -20,21 +20,23 @@ use Rattle.words.proofs.BitsLaws.{withoutBit-le, union-lt, without-le}
 use Rattle.words.proofs.SetsLaws.{set-fit, length-insert, length-remove, insert-fit, remove-fit}
 use Rattle.words.proofs.SetsLaws.{member-insert-other, member-remove-other}
 use Rattle.words.proofs.TestsLaws.{tested, and-first, and-second, and-both}
+use Rattle.select.specs.declared.Register.{Register}
+use Rattle.select.specs.declared.Register.the-variants.{Delivery, Threshold, Pending, Enable, Unused}
+use Rattle.select.specs.Select.{selectLegal, registerOf}
+use Rattle.select.specs.Halves.{doubleword, putHalves, putDoubleword}
+use Rattle.select.specs.Deliveries.{deliveryLegal}
+use Rattle.select.proofs.HalvesLaws.{put-past}
+use Rattle.select.proofs.DeliveriesLaws.{legal-lt}
 use Rattle.file.specs.declared.File.{File}
-use Rattle.file.specs.declared.select.Register.{Register}
-use Rattle.file.specs.declared.select.Register.the-variants.{Delivery, Threshold, Pending, Enable, Unused}
 use Rattle.file.specs.declared.register.Access.{Access}
 use Rattle.file.specs.declared.register.Access.the-variants.{Read, Write, Set, Clear}
 use Rattle.file.specs.Shape.{Shaped}
 use Rattle.file.specs.Parts.{withDelivery, withThreshold, withPending, withEnable}
 use Rattle.file.specs.Page.{arrived, pageWritten}
 use Rattle.file.specs.Top.{topIdentity, claimed}
-use Rattle.file.specs.Rules.{deliveryLegal, deliveryRule, thresholdRule, zeroRule, fileSound}
+use Rattle.file.specs.Rules.{deliveryRule, thresholdRule, zeroRule, fileSound}
 use Rattle.file.proofs.TopLaws.{claimed-none, claimed-some}
-use Rattle.file.specs.Register.{doubleword, putHalves, putDoubleword, held, written, accessedAt, accessed}
-use Rattle.file.specs.Select.{selectLegal, registerOf}
-use Rattle.file.proofs.RegisterLaws.{put-past}
-use Rattle.file.proofs.RulesLaws.{legal-lt}
+use Rattle.file.specs.Register.{held, written, accessedAt, accessed}
 use Rattle.file_laws.proofs.RegisterEffects.{member-put-zero}
 
 -- ---- the rules apart and together

@@ -9,8 +9,8 @@ use native.Mathlib.Omega.{arith}
 use lib.Dec.{leb}
 use lib.ListN.{length, take, length-set}
 use lib.Seq.{getD-set-same, getD-set-other, ext-getD}
+use Rattle.select.specs.Size.{identities}
 use Rattle.file.specs.declared.File.{File}
-use Rattle.file.specs.Size.{identities}
 use Rattle.file.specs.Page.{arrived}
 use Rattle.file.specs.Rules.{fileSound}
 use Rattle.file_laws.proofs.PageEffects.{arrived-length, arrived-rest}

@@ -18,8 +18,8 @@ use mathlib.Core.List.{List, [], _∷_, _++_}
 use lib.Dec.{leb}
 use lib.ListN.{getD, set, replicate}
 use Rattle.words.specs.Every.{every}
+use Rattle.select.specs.Size.{identities}
 use Rattle.file.specs.declared.File.{File}
-use Rattle.file.specs.Size.{identities}
 use Rattle.file.specs.Page.{arrived}
 use Rattle.file.specs.Rules.{fileSound}
 use Rattle.stored.specs.Stored.{fileWords, fileAt}

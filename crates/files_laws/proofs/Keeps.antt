@@ -9,8 +9,8 @@ use native.Mathlib.Omega.{arith}
 use lib.ListN.{length}
 use Rattle.words.specs.Sets.{WordsFit}
 use Rattle.words.proofs.EveryLaws.{every-each, every-of}
+use Rattle.select.specs.Size.{identities}
 use Rattle.file.specs.declared.File.{File}
-use Rattle.file.specs.Size.{identities}
 use Rattle.file.specs.Shape.{Shaped}
 use Rattle.file.specs.Page.{arrived}
 use Rattle.file.specs.Rules.{fileSound}

@@ -14,8 +14,8 @@ use borrow.Author.Tests.{eq-eqb, ne-eqb, eqb-false, le-leb}
 use Rattle.words.specs.Sets.{member}
 use Rattle.words.proofs.SetsLaws.{member-insert-other}
 use Rattle.words.proofs.TestsLaws.{tested}
+use Rattle.select.specs.Size.{identities}
 use Rattle.file.specs.declared.File.{File}
-use Rattle.file.specs.Size.{identities}
 use Rattle.file.specs.Page.{arrived}
 use Rattle.file_laws.proofs.PageEffects.{arrived-ignored, arrived-pending, arrived-rest}
 use Rattle.file_laws.proofs.Stored.{Long}

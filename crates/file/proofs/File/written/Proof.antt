@@ -1,10 +1,10 @@
 -- `file::File::written` meets its contract: each register by its case. Assumes nothing.
 use mathlib.Core.Path.{ap, sym, _∙_}
 use native.Mathlib.Nat.{mod-eq-of-lt}
-use Rattle.file.specs.declared.select.Register.{Register}
+use Rattle.select.specs.declared.Register.{Register}
+use Rattle.select.proofs.DeliveriesLaws.{legal-lt}
 use Rattle.file.specs.Parts.{withDelivery, withPending, withEnable}
 use Rattle.file.specs.Register.{written}
-use Rattle.file.proofs.RulesLaws.{legal-lt}
 use Rattle.file.proofs.RegisterLaws.{written-legal, written-illegal}
 use borrow.Author.Needs.{needs}
 use Rattle.file.proofs.File.written.Statement.{statement}

@@ -1,0 +1,16 @@
+// The deliveries that a file may store.
+ghost use mathlib.Core.Path.{_≡_};
+ghost use Rattle.select.specs.Deliveries.{deliveryLegal};
+
+// A guest file never takes its signal from the wired controller.
+pub fn delivery_legal(guest: bool, value: u64) -> bool
+    ensures { λ r. ⌜ r ≡ deliveryLegal guest value ⌝ }
+{
+    if value < 2 {
+        return true;
+    }
+    if guest {
+        return false;
+    }
+    value == 0x40000000
+}

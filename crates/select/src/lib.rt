@@ -1,0 +1,22 @@
+// The leaves of a message file's registers: which select numbers there are and what each names, the two words
+// behind one of them, and the deliveries that a file may store. 01, "One message file".
+mod deliveries;
+mod halves;
+mod names;
+
+pub use deliveries::delivery_legal;
+pub use halves::doubleword;
+pub use halves::put_doubleword;
+pub use halves::put_halves;
+pub use names::register_of;
+pub use names::select_legal;
+
+pub enum Register {
+    Delivery,
+    Threshold,
+    // the pending bits, or the enable bits, of identities 64 j to 64 j + 63
+    Pending(u64),
+    Enable(u64),
+    // reads 0 and ignores writes
+    Unused,
+}
