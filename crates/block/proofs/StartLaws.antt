@@ -15,7 +15,7 @@ use Rattle.files.proofs.FilesLaws.{theFile-first, theFile-next, files-same, len
 use Rattle.files.proofs.FilesLaws.{theFile-withFile-same, theFile-withFile-other}
 use Rattle.domain_laws.proofs.ZeroEffects.{domainOf-zeros}
 use Rattle.wired.specs.Wired.{wiredOf}
-use Rattle.wired.proofs.WiredLaws.{wired-path, wires-read, root-part, child-part}
+use Rattle.wires.proofs.WiresLaws.{wired-path, wires-read, root-part, child-part}
 use Rattle.block.specs.Start.{startFile, startFilesFrom, startDomain, startBoard}
 
 -- ---- the files

@@ -15,7 +15,7 @@ use Rattle.files_laws.proofs.BlockBack.{words-back, files-back}
 use Rattle.files_laws.proofs.Keeps.{filesOf-long}
 use Rattle.domain_laws.proofs.SlotEffects.{domainOf-shaped}
 use Rattle.wired.specs.Wired.{wiredOf}
-use Rattle.wired.proofs.WiredLaws.{root-long, child-long}
+use Rattle.wires.proofs.WiresLaws.{root-long, child-long}
 use Rattle.block.specs.Block.{Board, boardOf, blockOf, wiredWords}
 use Rattle.block.proofs.BlockLaws.{board-path, files-long, wired-long}
 use Rattle.block_laws.specs.Shape.{BoardShaped}

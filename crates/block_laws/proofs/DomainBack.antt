@@ -10,7 +10,7 @@ use Rattle.domain.specs.Domain.{Domain, domainOf}
 use Rattle.domain.proofs.DomainLaws.{domain-path}
 use Rattle.domain_laws.specs.Shape.{Shaped}
 use Rattle.wired.specs.Wired.{Wired, wiredOf}
-use Rattle.wired.proofs.WiredLaws.{wired-path, root-long, child-long}
+use Rattle.wires.proofs.WiresLaws.{wired-path, root-long, child-long}
 use Rattle.block.specs.Block.{domainWords, wiredWords}
 
 -- the stretch of k words behind n others

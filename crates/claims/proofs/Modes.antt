@@ -20,7 +20,7 @@ use Rattle.domain.specs.Slot.{sourceAt, withSource}
 use Rattle.domain_laws.specs.Shape.{Shaped}
 use Rattle.domain_laws.proofs.SlotEffects.{sourceAt-withSource-same, sourceAt-withSource-other}
 use Rattle.wired.specs.Wired.{Wired, isDelegated, rootWritten}
-use Rattle.wired.proofs.WiredLaws.{root-stays, root-moves}
+use Rattle.wires.proofs.DelegationLaws.{root-stays, root-moves}
 use Rattle.claims.specs.Modes.{Remoded, Claim-94, Claim-95}
 
 -- ---- the source

@@ -19,7 +19,7 @@ use Rattle.domain.specs.Structure.{structureAt}
 use Rattle.domain_laws.specs.Shape.{Shaped}
 use Rattle.domain_laws.proofs.SlotEffects.{domainOf-shaped}
 use Rattle.wired.specs.Wired.{Wired, wiredOf, isDelegated}
-use Rattle.wired.proofs.WiredLaws.{root-long, child-long}
+use Rattle.wires.proofs.WiresLaws.{root-long, child-long}
 use Rattle.source_laws.proofs.ModeEffects.{active-delegated}
 use Rattle.rules.specs.Rules.{configRange, generatedRange, structureRange, zeroRule, generatedRule}
 use Rattle.rules.specs.Rules.{delegatedRule, wiredSound}

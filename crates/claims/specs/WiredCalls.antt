@@ -27,7 +27,7 @@ use Rattle.direct.proofs.signal.Reads as signal
 use Rattle.sending.proofs.send.Reads as send
 use Rattle.sending.proofs.deliver.Reads as deliver
 use Rattle.genmsi.proofs.send_generated.Reads as send-generated
-use Rattle.wired.proofs.set_wire.Reads as set-wire
+use Rattle.wires.proofs.set_wire.Reads as set-wire
 use Rattle.wired.proofs.read.Reads as wired-read
 use Rattle.wired.proofs.write.Reads as wired-write
 

@@ -16,8 +16,8 @@ use Rattle.domain.specs.Domain.{Domain}
 use Rattle.domain_laws.specs.Shape.{Shaped}
 use Rattle.domain_laws.proofs.SlotEffects.{domainOf-shaped}
 use Rattle.wired.specs.Wired.{Wired, wiredOf, wireSet, writtenIn, claimedIn}
-use Rattle.wired.proofs.WiredLaws.{domain-root, domain-child, root-part, child-part, root-long, child-long}
-use Rattle.wired.proofs.WiredLaws.{wires-read}
+use Rattle.wires.proofs.WiresLaws.{root-part, child-part, root-long, child-long, wires-read}
+use Rattle.wired.proofs.WiredLaws.{domain-root, domain-child}
 use Rattle.rules.specs.Rules.{wiredSound}
 use Rattle.sending.specs.Sending.{Sent, sent, sentNothing}
 use Rattle.rules_laws.specs.Steady.{Quiet, WiredSteady, WiredQuiet}

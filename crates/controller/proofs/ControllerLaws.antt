@@ -10,7 +10,7 @@ use lib.ListN.{length}
 use Rattle.words.proofs.TestsLaws.{tested}
 use Rattle.domain.specs.Domain.{Domain}
 use Rattle.wired.specs.Wired.{Wired, domainIn, writtenIn}
-use Rattle.wired.proofs.WiredLaws.{wired-path}
+use Rattle.wires.proofs.WiresLaws.{wired-path}
 use Rattle.sending.specs.Sending.{Sent, sent, sentNothing, logged}
 use Rattle.sending.proofs.SendingLaws.{logged-none}
 use Rattle.genmsi.specs.Genmsi.{generatedSent}

@@ -20,7 +20,7 @@ pub fn set_wire(w: &mut [u32], log: &mut [u32], i: usize, level: bool) -> usize
     ensures { λ r. ⌜ Leaves (wireCall (wiredOf (now (w .entry))) i level) (wiredOf (now (w .exit)))
         (now (log .entry)) (now (log .exit)) r ⌝ }
 {
-    wired::set_wire(w, i, level);
+    wires::set_wire(w, i, level);
     flush(w, log)
 }
 

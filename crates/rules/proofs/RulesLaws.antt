@@ -13,7 +13,7 @@ use Rattle.domain.specs.Domain.{Domain, isEnabled, byMessages, generatedAt}
 use Rattle.domain.specs.Slot.{sourceAt}
 use Rattle.domain.proofs.SlotLaws.{pending-word, enable-word}
 use Rattle.wired.specs.Wired.{Wired}
-use Rattle.wired.proofs.WiredLaws.{delegated-mode}
+use Rattle.wires.proofs.DelegationLaws.{delegated-mode}
 use Rattle.source_rules.specs.SourceRules.{sourceSound}
 use Rattle.words.specs.Every.{every}
 use Rattle.rules.specs.Rules.{configRange, generatedRange, structureRange, zeroRule, generatedRule}

@@ -75,7 +75,7 @@ pub fn sound(w: &[u32]) -> bool
     requires { ⌜ length (now w) ≡ 290 ⌝ }
     ensures { λ r. ⌜ r ≡ wiredSound (wiredOf (now (w .entry))) ⌝ }
 {
-    let wires = wired::wires(w);
+    let wires = wires::wires(w);
     !words::has_bit(wires[0], 0)
         & domain_rules(&w[2..146], false, wires)
         & domain_rules(&w[146..290], true, wires)

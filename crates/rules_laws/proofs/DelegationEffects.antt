@@ -20,8 +20,8 @@ use Rattle.domain.specs.Slot.{sourceAt, withSource}
 use Rattle.domain_laws.proofs.SlotEffects.{sourceAt-withSource-same, sourceAt-withSource-other}
 use Rattle.wired.specs.Wired.{Wired, isDelegated, sourceModed, childWritten, rootWritten, sourceWritten}
 use Rattle.wired.specs.Wired.{sourceOf, writtenIn}
-use Rattle.wired.proofs.WiredLaws.{root-stays, root-moves, written-child, written-root, source-below}
-use Rattle.wired.proofs.WiredLaws.{written-part, written-source}
+use Rattle.wires.proofs.DelegationLaws.{root-stays, root-moves, written-child, written-root}
+use Rattle.wired.proofs.WiredLaws.{source-below, written-part, written-source}
 use Rattle.rules.specs.Rules.{delegatedRule}
 use Rattle.rules_laws.specs.Steady.{Steady, WiredSteady}
 use Rattle.rules_laws.proofs.SourceEffects.{steady-sourceModed-word, steady-started}

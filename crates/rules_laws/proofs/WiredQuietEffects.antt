@@ -22,7 +22,8 @@ use Rattle.registers.specs.Read.{claimedBy}
 use Rattle.registers.specs.Write.{registerWritten}
 use Rattle.wired.specs.Wired.{Wired, domainIn, withDomain, claimedIn, partWritten, wireSet, isDelegated}
 use Rattle.wired.specs.Wired.{childWritten, rootWritten, sourceWritten, sourceOf, writtenIn}
-use Rattle.wired.proofs.WiredLaws.{root-stays, root-moves, source-below, written-part, written-source}
+use Rattle.wires.proofs.DelegationLaws.{root-stays, root-moves}
+use Rattle.wired.proofs.WiredLaws.{source-below, written-part, written-source}
 use Rattle.rules.specs.Rules.{delegatedRule}
 use Rattle.rules_laws.specs.Steady.{Quiet, WiredSteady, WiredQuiet}
 use Rattle.rules_laws.proofs.QuietEffects.{quiet-started}

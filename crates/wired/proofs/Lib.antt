@@ -1,2 +1,2 @@
--- The laws of the wired controller's words. Assumes nothing.
+-- The laws of the wired controller. Assumes nothing.
 pub mod WiredLaws

@@ -1,2 +1,2 @@
--- The wired controller: the wires and two domains. Assumes nothing.
+-- The wired controller: the registers of its two domains. Assumes nothing.
 pub mod Wired

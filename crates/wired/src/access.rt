@@ -7,13 +7,7 @@ ghost use Rattle.domain.specs.Domain.{configOf};
 ghost use Rattle.direct.specs.Direct.{signalOf};
 ghost use Rattle.wired.specs.Wired.{wiredOf, domainIn, readIn, claimedIn, partWritten};
 use region::Word;
-
-pub fn wires(w: &[u32]) -> [u32; 2]
-    requires { ⌜ length (now w) ≡ 290 ⌝ }
-    ensures { λ r. ⌜ r ≡ wiredOf (now (w .entry)) .wires ⌝ }
-{
-    [w[0], w[1]]
-}
+use wires::wires;
 
 pub fn read(w: &mut [u32], child: bool, word: Word) -> u32
     requires { ⌜ (length (now w) ≡ 290) × (configOf (domainIn (wiredOf (now w)) child) < 0x80000000)

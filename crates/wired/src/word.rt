@@ -4,8 +4,8 @@ ghost use lib.ListN.{length};
 ghost use Rattle.region.specs.Region.{Within};
 ghost use Rattle.wired.specs.Wired.{wiredOf, sourceOf, writtenIn};
 use super::access::write_part;
-use super::change::write_source;
 use region::Word;
+use wires::write_source;
 
 // The source whose sourcecfg the register is, or 0.
 fn source_of(word: Word) -> u64

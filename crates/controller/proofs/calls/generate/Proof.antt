@@ -4,7 +4,8 @@ use mathlib.Core.Path.{sym, _∙_}
 use mathlib.Core.Bool.{true, false}
 use borrow.Author.Tests.{not-true, not-false}
 use Rattle.wired.specs.Wired.{wiredOf}
-use Rattle.wired.proofs.WiredLaws.{root-part, child-part, domain-root, domain-child}
+use Rattle.wires.proofs.WiresLaws.{root-part, child-part}
+use Rattle.wired.proofs.WiredLaws.{domain-root, domain-child}
 use Rattle.controller.proofs.ControllerLaws.{answered-else, answered-genmsi}
 use borrow.Author.Needs.{needs}
 use Rattle.controller.proofs.calls.generate.Statement.{statement}

@@ -4,8 +4,8 @@ use mathlib.Core.Bool.{true, false}
 use mathlib.Core.List.{_++_}
 use lib.ListN.{take, drop}
 use Rattle.wired.specs.Wired.{wiredOf}
-use Rattle.wired.proofs.WiredLaws.{root-part, root-long, child-long, put-root, put-long, both-put}
-use Rattle.wired.proofs.WiredLaws.{second-part}
+use Rattle.wires.proofs.WiresLaws.{root-part, root-long, child-long, put-root, put-long, both-put}
+use Rattle.wires.proofs.WiresLaws.{second-part}
 use Rattle.controller.proofs.ControllerLaws.{answers-of, answered-first, answered-second}
 use borrow.Author.Needs.{needs}
 use Rattle.controller.proofs.pass.flush.Statement.{statement}

@@ -8,7 +8,7 @@ use Rattle.words.specs.Sets.{member}
 use Rattle.words.proofs.SetsLaws.{member-word}
 use Rattle.domain.specs.Domain.{Domain}
 use Rattle.wired.specs.Wired.{wiredOf}
-use Rattle.wired.proofs.WiredLaws.{root-part, child-part}
+use Rattle.wires.proofs.WiresLaws.{root-part, child-part}
 use Rattle.rules.specs.Rules.{domainSound}
 use Rattle.rules.proofs.RulesLaws.{wired-sound-read}
 use borrow.Author.Needs.{needs}

@@ -5,8 +5,8 @@ use Rattle.domain.specs.Domain.{Domain}
 use Rattle.registers.specs.Read.{valueOf, claimedBy}
 use mathlib.Core.Path.{ap, ap₂, sym, _∙_}
 use Rattle.wired.specs.Wired.{wiredOf}
-use Rattle.wired.proofs.WiredLaws.{domain-child, domain-root, child-long, root-long, child-part}
-use Rattle.wired.proofs.WiredLaws.{root-part, with-child, with-root, put-child, put-root}
+use Rattle.wires.proofs.WiresLaws.{child-long, root-long, child-part, root-part, put-child, put-root}
+use Rattle.wired.proofs.WiredLaws.{domain-child, domain-root, with-child, with-root}
 use borrow.Author.Needs.{needs}
 use Rattle.wired.proofs.access.read.Statement.{statement}
 use Rattle.wired.proofs.access.read.Tie as tie

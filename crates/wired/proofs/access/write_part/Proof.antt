@@ -6,8 +6,8 @@ use mathlib.Core.List.{List}
 use Rattle.domain.specs.Domain.{Domain}
 use Rattle.registers.specs.Write.{registerWritten}
 use Rattle.wired.specs.Wired.{wiredOf, domainIn}
-use Rattle.wired.proofs.WiredLaws.{child-long, root-long, child-part, root-part, domain-child}
-use Rattle.wired.proofs.WiredLaws.{domain-root, with-child, with-root, put-child, put-root}
+use Rattle.wires.proofs.WiresLaws.{child-long, root-long, child-part, root-part, put-child, put-root}
+use Rattle.wired.proofs.WiredLaws.{domain-child, domain-root, with-child, with-root}
 use borrow.Author.Needs.{needs}
 use Rattle.wired.proofs.access.write_part.Statement.{statement}
 use Rattle.wired.proofs.access.write_part.Tie as tie

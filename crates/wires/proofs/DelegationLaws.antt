@@ -1,0 +1,48 @@
+-- Laws of specs/Delegation.antt: what a written sourcecfg leaves, case by case. No contract cites this file.
+-- Assumes nothing.
+use Prim.Native.Nat.{ℕ}
+use mathlib.Core.Path.{_≡_, refl}
+use mathlib.Core.Bool.{Bool, true, false, Bool·beq}
+use lib.Dec.{leb}
+use Rattle.words.specs.Sets.{member}
+use Rattle.mode.specs.Mode.{sourceWord}
+use Rattle.source.specs.Pending.{inactive}
+use Rattle.domain.specs.Slot.{sourceAt, withSource}
+use Rattle.wires.specs.Wires.{Wired}
+use Rattle.wires.specs.Delegation.{sourceModed, isDelegated, childWritten, rootWritten, sourceWritten}
+
+pub delegated-mode : (w : Wired) (i : ℕ) → isDelegated w i ≡ leb 1024 (sourceAt (w .root) i .mode)
+unfolding isDelegated
+delegated-mode w i = refl
+
+module _ (w : Wired) (i v : ℕ) where
+  abbrev moves : Bool
+  moves = Bool·beq (isDelegated w i) (leb 1024 (sourceWord false false v))
+
+  pub root-stays : moves ≡ true
+      → rootWritten w i v
+      ≡ record {
+        wires = w .wires;
+        root = sourceModed (w .root) i (sourceWord false false v) (member (w .wires) i);
+        child = w .child;
+      }
+  unfolding rootWritten
+  root-stays e = simp e
+
+  pub root-moves : moves ≡ false
+      → rootWritten w i v
+      ≡ record {
+        wires = w .wires;
+        root = sourceModed (w .root) i (sourceWord false false v) (member (w .wires) i);
+        child = withSource (w .child) i (inactive 0);
+      }
+  unfolding rootWritten
+  root-moves e = simp e
+
+  pub written-child : (c : Bool) → c ≡ true → sourceWritten w c i v ≡ childWritten w i v
+  unfolding sourceWritten
+  written-child c e = simp e
+
+  pub written-root : (c : Bool) → c ≡ false → sourceWritten w c i v ≡ rootWritten w i v
+  unfolding sourceWritten
+  written-root c e = simp e

@@ -1,0 +1,31 @@
+-- `wires::delegation::write_source` meets its contract: the child or the machine domain. Assumes nothing.
+use mathlib.Core.Path.{sym, _∙_}
+use Rattle.wires.proofs.DelegationLaws.{written-child, written-root}
+use borrow.Author.Needs.{needs}
+use Rattle.wires.proofs.delegation.write_source.Statement.{statement}
+use Rattle.wires.proofs.delegation.write_source.Tie as tie
+
+write-child-requires : tie.Need-write-child-requires
+write-child-requires c κs = search needs
+
+same-length : tie.Need-same-length
+same-length c = search needs
+
+returns : tie.Need-returns
+returns c = c .before .before .write-child .ensures
+    ∙ sym (written-child _ _ _ _ (c .before .before .before .before .if1 .taken))
+
+write-root-requires : tie.Need-write-root-requires
+write-root-requires c κs = search needs
+
+same-length-2 : tie.Need-same-length-2
+same-length-2 c = search needs
+
+returns-2 : tie.Need-returns-2
+returns-2 c = c .before .before .write-root .ensures
+    ∙ sym (written-root _ _ _ _ (c .before .before .before .before .if1 .left))
+
+pub write-source-spec : {M : Type 1} → statement M
+write-source-spec =
+    tie.close
+    (tie.spec write-child-requires same-length returns write-root-requires same-length-2 returns-2)

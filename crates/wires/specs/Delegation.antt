@@ -1,0 +1,45 @@
+-- A sourcecfg that is written, with delegation and taking back. 01, "The wired controller"; the standard
+-- 4.5.2. Assumes nothing.
+--   isDelegated w i          source i is delegated: the machine domain's sourcecfg says so
+--   sourceModed d i m wire   d after the sourcecfg word of source i became m
+--   childWritten, rootWritten, sourceWritten w c i v
+--                            w after v was written to sourcecfg[i] of a domain
+-- Where the delegation of a source changes, the child's source starts anew. Nothing is sent here: that comes
+-- after.
+use Prim.Native.Nat.{ℕ}
+use mathlib.Core.Bool.{Bool, true, false, Bool·beq, cond}
+use lib.Dec.{leb}
+use Rattle.words.specs.Sets.{member}
+use Rattle.mode.specs.Mode.{sourceWord}
+use Rattle.source.specs.Pending.{inactive, moded}
+use Rattle.domain.specs.Domain.{Domain, byMessages}
+use Rattle.domain.specs.Slot.{sourceAt, withSource}
+use Rattle.wires.specs.Wires.{Wired}
+
+unfoldable pub isDelegated : Wired → ℕ → Bool
+isDelegated w i = leb 1024 (sourceAt (w .root) i .mode)
+
+-- the source with a new sourcecfg word
+unfoldable pub sourceModed : Domain → ℕ → ℕ → Bool → Domain
+sourceModed d i mode wire = withSource d i (moded (sourceAt d i) (byMessages d) mode wire)
+
+unfoldable pub childWritten : Wired → ℕ → ℕ → Wired
+childWritten w i v =
+    record {
+      wires = w .wires;
+      root = w .root;
+      child = sourceModed (w .child) i (sourceWord true (isDelegated w i) v) (member (w .wires) i);
+    }
+
+unfoldable pub rootWritten : Wired → ℕ → ℕ → Wired
+rootWritten w i v =
+    record {
+      wires = w .wires;
+      root = sourceModed (w .root) i (sourceWord false false v) (member (w .wires) i);
+      child =
+          cond (Bool·beq (isDelegated w i) (leb 1024 (sourceWord false false v))) (w .child)
+          (withSource (w .child) i (inactive 0));
+    }
+
+unfoldable pub sourceWritten : Wired → Bool → ℕ → ℕ → Wired
+sourceWritten w c i v = cond c (childWritten w i v) (rootWritten w i v)

@@ -1,0 +1,84 @@
+// A sourcecfg that is written: the machine domain's word says who has the source.
+ghost use mathlib.Core.Path.{_≡_};
+ghost use Prim.Native.Nat.{_≤_, _<_};
+ghost use mathlib.Core.Bool.{true, false};
+ghost use lib.ListN.{length};
+ghost use Rattle.source.specs.Pending.{inactive};
+ghost use Rattle.domain.specs.Domain.{domainOf};
+ghost use Rattle.domain.specs.Slot.{withSource};
+ghost use Rattle.wires.specs.Wires.{wiredOf};
+ghost use Rattle.wires.specs.Delegation.{sourceModed, isDelegated, childWritten, rootWritten};
+ghost use Rattle.wires.specs.Delegation.{sourceWritten};
+use super::wire::wires;
+use source::Source;
+
+fn mode_source(part: &mut [u32], i: usize, mode: u32, wire: bool)
+    requires { ⌜ (length (now part) ≡ 144) × (i < 64) ⌝ }
+    ensures { λ r. ⌜ domainOf (now (part .exit)) ≡ sourceModed (domainOf (now (part .entry))) i mode wire ⌝ }
+{
+    let messages = domain::by_messages(part);
+    let s = domain::load(part, i);
+    domain::store(part, i, s.moded(messages, mode, wire));
+}
+
+fn clear_source(part: &mut [u32], i: usize)
+    requires { ⌜ (length (now part) ≡ 144) × (i < 64) ⌝ }
+    ensures { λ r. ⌜ domainOf (now (part .exit))
+        ≡ withSource (domainOf (now (part .entry))) i (inactive 0) ⌝ }
+{
+    let none = Source {
+        mode: 0,
+        target: 0,
+        pending: false,
+        enabled: false,
+    };
+    domain::store(part, i, none);
+}
+
+fn delegated(w: &[u32], i: usize) -> bool
+    requires { ⌜ (length (now w) ≡ 290) × (i < 64) ⌝ }
+    ensures { λ r. ⌜ r ≡ isDelegated (wiredOf (now (w .entry))) i ⌝ }
+{
+    let s = domain::load(&w[2..146], i);
+    1024 <= s.mode
+}
+
+fn write_child(w: &mut [u32], i: usize, value: u32)
+    requires { ⌜ (length (now w) ≡ 290) × (i < 64) ⌝ }
+    ensures { λ r. ⌜ wiredOf (now (w .exit)) ≡ childWritten (wiredOf (now (w .entry))) i value ⌝ }
+{
+    let wire = writes::wire_at(wires(w), i);
+    let has = delegated(w, i);
+    mode_source(
+        &mut w[146..290],
+        i,
+        mode::source_word(true, has, value),
+        wire,
+    );
+}
+
+fn write_root(w: &mut [u32], i: usize, value: u32)
+    requires { ⌜ (length (now w) ≡ 290) × (i < 64) ⌝ }
+    ensures { λ r. ⌜ wiredOf (now (w .exit)) ≡ rootWritten (wiredOf (now (w .entry))) i value ⌝ }
+{
+    let wire = writes::wire_at(wires(w), i);
+    let had = delegated(w, i);
+    let mode = mode::source_word(false, false, value);
+    mode_source(&mut w[2..146], i, mode, wire);
+    let has = 1024 <= mode;
+    if had == has {
+        return;
+    }
+    clear_source(&mut w[146..290], i);
+}
+
+pub fn write_source(w: &mut [u32], child: bool, i: usize, value: u32)
+    requires { ⌜ (length (now w) ≡ 290) × (1 ≤ i) × (i < 64) ⌝ }
+    ensures { λ r. ⌜ wiredOf (now (w .exit)) ≡ sourceWritten (wiredOf (now (w .entry))) child i value ⌝ }
+{
+    if child {
+        write_child(w, i, value);
+        return;
+    }
+    write_root(w, i, value);
+}
