@@ -6,10 +6,10 @@ ghost use Rattle.region.specs.Region.{Within};
 ghost use Rattle.domain.specs.Domain.{domainOf, configOf};
 ghost use Rattle.registers.specs.Read.{valueOf, claimHart, claimedBy};
 ghost use Rattle.registers.specs.Write.{registerWritten};
-use super::values::value_of;
 use direct::Setting;
 use region::Word;
 use source::Change;
+use values::value_of;
 
 // The hart whose claimi the register is, or 4.
 fn claim_hart(word: Word) -> u64

@@ -1,8 +1,6 @@
-// The registers of one domain's region: what a read gives and does, and what a write does before anything is
-// sent. A sourcecfg is written elsewhere: that concerns both domains.
+// The registers of one domain's region: what a read does, and what a write does before anything is sent. A
+// sourcecfg is written elsewhere: that concerns both domains.
 mod access;
-mod values;
 
 pub use access::read;
 pub use access::write;
-pub use values::value_of;

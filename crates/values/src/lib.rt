@@ -1,11 +1,11 @@
-// What a read of a register gives.
+// What a read of a register of one domain gives. What a read does besides is not here.
 ghost use mathlib.Core.Path.{_≡_};
 ghost use Prim.Native.Nat.{_+_, _<_};
 ghost use lib.ListN.{length};
 ghost use Rattle.region.specs.Region.{Within};
 ghost use Rattle.domain.specs.Domain.{domainOf, configOf};
 ghost use Rattle.domain.specs.Slot.{sourceAt};
-ghost use Rattle.registers.specs.Read.{generatedRead, valueOf};
+ghost use Rattle.values.specs.Values.{generatedRead, valueOf};
 use direct::Setting;
 use region::Word;
 

@@ -1,9 +1,9 @@
--- `registers::values::source_word` meets its contract: the mode of the source. Assumes nothing.
+-- `values::source_word` meets its contract: the mode of the source. Assumes nothing.
 use mathlib.Core.Path.{ap}
 use Rattle.source.specs.declared.Source.{Source}
 use borrow.Author.Needs.{needs}
-use Rattle.registers.proofs.values.source_word.Statement.{statement}
-use Rattle.registers.proofs.values.source_word.Tie as tie
+use Rattle.values.proofs.source_word.Statement.{statement}
+use Rattle.values.proofs.source_word.Tie as tie
 
 load-requires : tie.Need-load-requires
 load-requires c κs = search needs

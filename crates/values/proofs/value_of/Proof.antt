@@ -1,11 +1,11 @@
--- `registers::values::value_of` meets its contract: register by register. Assumes nothing.
+-- `values::value_of` meets its contract: register by register. Assumes nothing.
 use mathlib.Core.Path.{ap, sym, subst, _∙_}
 use native.Mathlib.Omega.{arith}
 use Rattle.region.specs.Region.{Within}
-use Rattle.registers.specs.Read.{valueOf}
+use Rattle.values.specs.Values.{valueOf}
 use borrow.Author.Needs.{needs}
-use Rattle.registers.proofs.values.value_of.Statement.{statement}
-use Rattle.registers.proofs.values.value_of.Tie as tie
+use Rattle.values.proofs.value_of.Statement.{statement}
+use Rattle.values.proofs.value_of.Tie as tie
 
 enum-told : tie.Need-enum-told
 enum-told c = search needs

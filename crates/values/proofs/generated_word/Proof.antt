@@ -1,9 +1,9 @@
--- `registers::values::generated_word` meets its contract: 0 in direct mode. Assumes nothing.
+-- `values::generated_word` meets its contract: 0 in direct mode. Assumes nothing.
 use mathlib.Core.Path.{sym, _∙_}
-use Rattle.registers.specs.Read.{generatedRead}
+use Rattle.values.specs.Values.{generatedRead}
 use borrow.Author.Needs.{needs}
-use Rattle.registers.proofs.values.generated_word.Statement.{statement}
-use Rattle.registers.proofs.values.generated_word.Tie as tie
+use Rattle.values.proofs.generated_word.Statement.{statement}
+use Rattle.values.proofs.generated_word.Tie as tie
 
 by-messages-requires : tie.Need-by-messages-requires
 by-messages-requires c κs = search needs

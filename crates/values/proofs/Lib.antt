@@ -1,0 +1,2 @@
+-- The laws of what a register reads. Assumes nothing.
+pub mod ValuesLaws

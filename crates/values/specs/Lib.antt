@@ -1,0 +1,2 @@
+-- What the registers of one domain read. Assumes nothing.
+pub mod Values
