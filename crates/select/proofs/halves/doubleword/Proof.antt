@@ -13,7 +13,7 @@ use Rattle.select.proofs.halves.doubleword.Statement.{statement}
 use Rattle.select.proofs.halves.doubleword.Tie as tie
 
 returns : tie.Need-returns
-returns c = sym (doubleword-past _ _ (omega arith))
+returns c = sym (doubleword-past (c .before .args .t1) (c .before .args .j) (omega arith))
 
 mul-at : tie.Need-mul-at
 mul-at c = search needs
