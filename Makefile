@@ -1,7 +1,7 @@
 # make proves and builds what there is, runs the example in C and prints the table cases; make test is the whole
 # gate; see make help.
 .DEFAULT_GOAL := all
-.PHONY: all test check example fmt style clean help toolchain
+.PHONY: all test check example tools fmt style clean help toolchain
 
 # rt check runs each program once it is proved, and keeps what it wrote
 all: check
@@ -18,9 +18,12 @@ test: toolchain
 check: toolchain
 	@rt check
 
-# a monitor in C on the proved archive; it is skipped, and says so, where gcc is not there
+# a monitor in C on the proved archive; it is skipped, and says so, where a tool that it needs is not there
 example: toolchain
 	@scripts/example
+
+tools:
+	@scripts/example-tools
 
 fmt: toolchain
 	@rt fmt
@@ -36,10 +39,11 @@ help:
 	@echo "make test     the whole gate: style, layout, then rt ci, from nothing; its last line is the verdict"
 	@echo "make check    prove what changed since it was last proved, and run the programs"
 	@echo "make example  prove what the C functions need, build examples/station.c on them, run and compare it"
+	@echo "make tools    install what the example needs (Debian, as root): a C compiler, an emulator off x86-64"
 	@echo "make fmt      bring every source file under crates/ into the layout"
 	@echo "make style    what the checker does not see: width, headers, holes, contracts, edits, names, paths"
 	@echo "make clean    remove target/, where all that is built lies"
-	@echo "All but style, clean and help need rt, the command of the Rattle toolchain, on PATH."
+	@echo "All but tools, style, clean and help need rt, the command of the Rattle toolchain, on PATH."
 
 toolchain:
 	@command -v rt >/dev/null 2>&1 || { \
