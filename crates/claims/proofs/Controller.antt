@@ -1,23 +1,28 @@
--- Claims 76 to 79, by the laws of the wired controller's calls. Assumes nothing.
+-- Claims 76 to 79 and 96, by the laws of the wired controller's calls. Assumes nothing.
 use Prim.Native.Nat.{ℕ, _≤_}
 use mathlib.Core.Path.{_≡_, refl, ap, _∙_}
 use mathlib.Core.Bool.{Bool, true, false}
 use mathlib.Core.List.{[], append-nil}
-use mathlib.Core.Logic.{inl, inr}
+use mathlib.Core.Logic.{_≢_, inl, inr}
+use native.Mathlib.Decide.{ℕ-discrete}
 use native.Mathlib.Omega.{arith}
+use Rattle.words.specs.Sets.{member}
 use Rattle.region.specs.declared.Word.{Word}
 use Rattle.region.specs.declared.Word.the-variants.{Genmsi}
-use Rattle.wired.specs.Wired.{Wired, domainIn, writtenIn, wireSet}
+use Rattle.domain.specs.Slot.{sourceAt}
+use Rattle.domain_laws.proofs.SlotEffects.{sourceAt-withSource-other}
+use Rattle.wired.specs.Wired.{Wired, domainIn, writtenIn, wireSet, sourceWired}
 use Rattle.sending.specs.Sending.{Sent, sent}
 use Rattle.genmsi.specs.Genmsi.{generatedSent}
 use Rattle.rules_laws.specs.Steady.{WiredSteady, WiredQuiet}
 use Rattle.rules_laws.proofs.SoundParts.{wired-sound-steady, wired-sound-quiet}
+use Rattle.rules_laws.proofs.WiredSameEffects.{wireSet-same}
 use Rattle.controller.specs.Controller.{Out, flushed, isGenmsi, generatedBy, wireCall, writeCall, OneSends}
 use Rattle.controller.proofs.CallLaws.{one-wireSet, one-writtenIn, read-silent, genmsi-silent}
 use Rattle.controller_laws.proofs.OutEffects.{wire-count, wire-exists, write-count, write-exists}
 use Rattle.controller_laws.proofs.OutEffects.{wire-sound, read-sound, write-sound}
 use Rattle.claims.specs.Rules.{Sound}
-use Rattle.claims.specs.Controller.{Sends, OneAtMost, Claim-76, Claim-77, Claim-78, Claim-79}
+use Rattle.claims.specs.Controller.{Sends, OneAtMost, Claim-76, Claim-77, Claim-78, Claim-79, Claim-96}
 
 pub claim-76 : Claim-76
 unfolding Claim-76
@@ -62,6 +67,23 @@ claim-77 w s =
       (λ c r b v e. (change-alone w c r v e, one (writtenIn w c r v) (one-writtenIn w a q c r b v))),
       (λ c v. genmsi-alone w c v (genmsi-silent w a q c Genmsi refl v)),
     )
+
+-- another wire's source is another place in both domains
+other-stays : (w : Wired) (j : ℕ) (level : Bool) (i : ℕ) → i ≢ j → (c : Bool)
+    → sourceAt (domainIn (wireSet w j level) c) i ≡ sourceAt (domainIn w c) i
+unfolding domainIn wireSet sourceWired
+other-stays w j level i n true = sourceAt-withSource-other (w .child) j _ i n
+other-stays w j level i n false = sourceAt-withSource-other (w .root) j _ i n
+
+pub claim-96 : Claim-96
+unfolding Claim-96
+claim-96 w s j l h level i stays c = at (ℕ-discrete i j)
+  where
+    at : Dec (i ≡ j) → sourceAt (domainIn (wireSet w j level) c) i ≡ sourceAt (domainIn w c) i
+    at (yes e) =
+        ap (λ (x : Wired). sourceAt (domainIn x c) i)
+        (ap (wireSet w j) (stays e ∙ ap (member (w .wires)) e) ∙ wireSet-same w (steady w s) j l (omega arith))
+    at (no n) = other-stays w j level i n c
 
 pub claim-78 : Claim-78
 unfolding Claim-78

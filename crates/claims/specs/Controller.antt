@@ -1,4 +1,4 @@
--- Claims 76 to 79, on the calls of the wired controller with what they send: what each leaves, which messages
+-- Claims 76 to 79 and 96, on the calls of the wired controller with what they send: what each leaves, which messages
 -- it sends, that the log has room for them, and that the state rules hold again. 01, "The wired controller".
 -- Assumes nothing.
 use Prim.Native.Nat.{ℕ, _≤_, _<_}
@@ -9,9 +9,11 @@ use mathlib.Core.Logic.{_⊎_}
 use lib.ListN.{length, getD}
 use contract.Lifetimes.{Lfts}
 use denote.Ref.{RefT, now}
+use Rattle.words.specs.Sets.{member}
 use Rattle.region.specs.Region.{Within}
 use Rattle.region.specs.declared.Word.{Word}
 use Rattle.region.specs.declared.Word.the-variants.{Genmsi}
+use Rattle.domain.specs.Slot.{sourceAt}
 use Rattle.wired.specs.Wired.{Wired, wiredOf, domainIn, readIn, claimedIn, writtenIn, wireSet}
 use Rattle.rules.specs.Rules.{wiredSound}
 use Rattle.sending.specs.Sending.{sent, logged}
@@ -65,6 +67,14 @@ Claim-77 =
     × ((c : Bool) (v : ℕ)
     → writeCall w c Genmsi v
     ≡ record { wired = writtenIn w c Genmsi v; messages = generatedSent c (domainIn w c) v })
+
+-- a wire is set, and wire i stays at its level: source i is what it was when the messages are sent. So a level
+-- source that was sent is not sent again by itself while its wire stays high
+unfoldable pub Claim-96 : Type 0
+Claim-96 =
+    (w : Wired) → Sound w → (j : ℕ) → 1 ≤ j → j ≤ 63 → (level : Bool)
+    → (i : ℕ) → (i ≡ j → level ≡ member (w .wires) i)
+    → (c : Bool) → sourceAt (domainIn (wireSet w j level) c) i ≡ sourceAt (domainIn w c) i
 
 -- 63 log words suffice for every call, and every message names a file that there is
 unfoldable pub Claim-78 : Type 0
