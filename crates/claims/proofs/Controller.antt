@@ -12,10 +12,11 @@ use Rattle.region.specs.declared.Word.the-variants.{Genmsi}
 use Rattle.domain.specs.Slot.{sourceAt}
 use Rattle.domain_laws.proofs.SlotEffects.{sourceAt-withSource-other}
 use Rattle.wired.specs.Wired.{Wired, domainIn, writtenIn, wireSet, sourceWired}
-use Rattle.sending.specs.Sending.{Sent, sent}
+use Rattle.sending.specs.Sending.{candidate, Sent, sent}
 use Rattle.genmsi.specs.Genmsi.{generatedSent}
-use Rattle.rules_laws.specs.Steady.{WiredSteady, WiredQuiet}
+use Rattle.rules_laws.specs.Steady.{Quiet, WiredSteady, WiredQuiet}
 use Rattle.rules_laws.proofs.SoundParts.{wired-sound-steady, wired-sound-quiet}
+use Rattle.rules_laws.proofs.PassEffects.{quiet-candidate}
 use Rattle.rules_laws.proofs.WiredSameEffects.{wireSet-same}
 use Rattle.controller.specs.Controller.{Out, flushed, isGenmsi, generatedBy, wireCall, writeCall, OneSends}
 use Rattle.controller.proofs.CallLaws.{one-wireSet, one-writtenIn, read-silent, genmsi-silent}
@@ -75,15 +76,30 @@ unfolding domainIn wireSet sourceWired
 other-stays w j level i n true = sourceAt-withSource-other (w .child) j _ i n
 other-stays w j level i n false = sourceAt-withSource-other (w .root) j _ i n
 
-pub claim-96 : Claim-96
-unfolding Claim-96
-claim-96 w s j l h level i stays c = at (ℕ-discrete i j)
+wire-stays : (w : Wired) → Sound w → (j : ℕ) → 1 ≤ j → j ≤ 63 → (level : Bool)
+    → (i : ℕ) → (i ≡ j → level ≡ member (w .wires) i)
+    → (c : Bool) → sourceAt (domainIn (wireSet w j level) c) i ≡ sourceAt (domainIn w c) i
+wire-stays w s j l h level i stays c = at (ℕ-discrete i j)
   where
     at : Dec (i ≡ j) → sourceAt (domainIn (wireSet w j level) c) i ≡ sourceAt (domainIn w c) i
     at (yes e) =
+        let same = wireSet-same w (steady w s) j l (omega arith) in
         ap (λ (x : Wired). sourceAt (domainIn x c) i)
-        (ap (wireSet w j) (stays e ∙ ap (member (w .wires)) e) ∙ wireSet-same w (steady w s) j l (omega arith))
+        (ap (wireSet w j) (stays e ∙ ap (member (w .wires)) e) ∙ same)
     at (no n) = other-stays w j level i n c
+
+quiet-in : (w : Wired) → Sound w → (c : Bool) → Quiet (domainIn w c)
+unfolding domainIn
+quiet-in w s true = quiet w s .child
+quiet-in w s false = quiet w s .root
+
+pub claim-96 : Claim-96
+unfolding Claim-96
+claim-96 w s j l h level i k m stays c =
+    let same = wire-stays w s j l h level i stays c in (
+      same,
+      (λ t. ap candidate same ∙ quiet-candidate c (domainIn w c) (quiet-in w s c) t i k (omega arith)),
+    )
 
 pub claim-78 : Claim-78
 unfolding Claim-78

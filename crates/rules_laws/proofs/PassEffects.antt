@@ -2,7 +2,7 @@
 -- already it changes nothing and sends nothing. No contract cites this file. Assumes nothing.
 use Prim.Native.Nat.{ℕ, _≤_, _<_}
 use mathlib.Core.Path.{_≡_, refl, ap, _∙_}
-use mathlib.Core.Bool.{Bool, true, cond, not}
+use mathlib.Core.Bool.{Bool, true, false, cond, not}
 use mathlib.Core.List.{List}
 use native.Mathlib.Omega.{arith}
 use lib.ListN.{getD}
@@ -112,9 +112,8 @@ module _ (c : Bool) (d : Domain) where
       (tested (sends d) (λ t. rw (t, rule-candidate, sent-quiet c d t i l h))
       (λ f. rw f (unfold sentRule in refl)))
 
+  pub quiet-candidate : Quiet d → sends d ≡ true → (i : ℕ) → 1 ≤ i → i < 64 → candidate (sourceAt d i) ≡ false
+  quiet-candidate q t i l h = not-true (candidate (sourceAt d i)) (rw (t, rule-candidate) at (q i l h))
+
   pub sent-again : Quiet d → sent c d ≡ sentNothing d
-  sent-again q =
-      tested (sends d)
-      (λ t. sent-none c d
-      (λ j l h. not-true (candidate (sourceAt d j)) (rw (t, rule-candidate) at (q j l h))))
-      (sent-off c d)
+  sent-again q = tested (sends d) (λ t. sent-none c d (quiet-candidate q t)) (sent-off c d)
