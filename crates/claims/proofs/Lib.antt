@@ -11,6 +11,7 @@ pub mod Rules
 pub mod Writes
 pub mod Operations
 pub mod Controller
+pub mod OneSource
 pub mod BoardCalls
 pub mod BoardFacts
 pub mod Modes

@@ -1,23 +1,20 @@
--- Claims 76 to 79 and 96, on the calls of the wired controller with what they send: what each leaves, which
--- messages it sends, that the log has room for them, and that the state rules hold again. 01, "The wired
--- controller". Assumes nothing.
+-- Claims 76 to 79, on the calls of the wired controller with what they send: what each leaves, which messages
+-- it sends, that the log has room for them, and that the state rules hold again. 01, "The wired controller".
+-- Assumes nothing.
 use Prim.Native.Nat.{ℕ, _≤_, _<_}
 use mathlib.Core.Path.{_≡_}
-use mathlib.Core.Bool.{Bool, true, false, _&&_}
+use mathlib.Core.Bool.{Bool, true, false}
 use mathlib.Core.List.{List, [], _++_}
 use mathlib.Core.Logic.{_⊎_}
 use lib.ListN.{length, getD}
 use contract.Lifetimes.{Lfts}
 use denote.Ref.{RefT, now}
-use Rattle.words.specs.Sets.{member}
 use Rattle.region.specs.Region.{Within}
 use Rattle.region.specs.declared.Word.{Word}
 use Rattle.region.specs.declared.Word.the-variants.{Genmsi}
-use Rattle.domain.specs.Domain.{isEnabled, byMessages}
-use Rattle.domain.specs.Slot.{sourceAt}
 use Rattle.wired.specs.Wired.{Wired, wiredOf, domainIn, readIn, claimedIn, writtenIn, wireSet}
 use Rattle.rules.specs.Rules.{wiredSound}
-use Rattle.sending.specs.Sending.{candidate, sent, logged}
+use Rattle.sending.specs.Sending.{sent, logged}
 use Rattle.sending.specs.Delivered.{fileIn}
 use Rattle.genmsi.specs.Genmsi.{generatedSent}
 use Rattle.controller.specs.Controller.{Out, isGenmsi, wireCall, readCall, writeCall, Leaves}
@@ -68,16 +65,6 @@ Claim-77 =
     × ((c : Bool) (v : ℕ)
     → writeCall w c Genmsi v
     ≡ record { wired = writtenIn w c Genmsi v; messages = generatedSent c (domainIn w c) v })
-
--- a wire is set, and wire i stays at its level: source i stays as it was, and in a domain that sends it is
--- not to be sent. So a level source that was sent is not sent again by itself while its wire stays high
-unfoldable pub Claim-96 : Type 0
-Claim-96 =
-    (w : Wired) → Sound w → (j : ℕ) → 1 ≤ j → j ≤ 63 → (level : Bool)
-    → (i : ℕ) → 1 ≤ i → i ≤ 63 → (i ≡ j → level ≡ member (w .wires) i)
-    → (c : Bool) → let after = sourceAt (domainIn (wireSet w j level) c) i in
-    let d = domainIn w c in
-    (after ≡ sourceAt d i) × ((isEnabled d && byMessages d) ≡ true → candidate after ≡ false)
 
 -- 63 log words suffice for every call, and every message names a file that there is
 unfoldable pub Claim-78 : Type 0

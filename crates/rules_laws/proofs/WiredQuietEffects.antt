@@ -1,6 +1,6 @@
 -- What can be sent after a change to a controller that has sent all: a wire changes one domain at most, a
--- write leaves the other domain with all sent, and a read or a write to genmsi leaves both so. No contract
--- cites this file. Assumes nothing.
+-- write leaves the other domain with all sent, and a read or a write to genmsi or a target leaves both so. No
+-- contract cites this file. Assumes nothing.
 use Prim.Native.Nat.{ℕ, _≤_, _<_}
 use mathlib.Core.Path.{_≡_, refl, sym, subst}
 use mathlib.Core.Bool.{Bool, true, false, Bool·beq, not}
@@ -15,9 +15,12 @@ use Rattle.mode.specs.Mode.{sourceWord}
 use Rattle.mode.proofs.ModeLaws.{active-zero}
 use Rattle.region.specs.Region.{Within}
 use Rattle.region.specs.declared.Word.{Word}
-use Rattle.region.specs.declared.Word.the-variants.{Genmsi}
-use Rattle.domain.specs.Domain.{Domain}
+use Rattle.region.specs.declared.Word.the-variants.{Genmsi, Target}
+use Rattle.source.specs.Pending.{retargeted}
+use Rattle.source_laws.proofs.SentEffects.{sent-retargeted}
+use Rattle.domain.specs.Domain.{Domain, byMessages}
 use Rattle.domain.specs.Slot.{sourceAt}
+use Rattle.writes.specs.Writes.{targetWritten}
 use Rattle.registers.specs.Read.{claimedBy}
 use Rattle.registers.specs.Write.{registerWritten}
 use Rattle.wired.specs.Wired.{Wired, domainIn, withDomain, claimedIn, partWritten, wireSet, isDelegated}
@@ -25,8 +28,8 @@ use Rattle.wired.specs.Wired.{childWritten, rootWritten, sourceWritten, sourceO
 use Rattle.wires.proofs.DelegationLaws.{root-stays, root-moves}
 use Rattle.wired.proofs.WiredLaws.{source-below, written-part, written-source}
 use Rattle.rules.specs.Rules.{delegatedRule}
-use Rattle.rules_laws.specs.Steady.{Quiet, WiredSteady, WiredQuiet}
-use Rattle.rules_laws.proofs.QuietEffects.{quiet-started}
+use Rattle.rules_laws.specs.Steady.{sends, Quiet, WiredSteady, WiredQuiet}
+use Rattle.rules_laws.proofs.QuietEffects.{quiet-started, quiet-withSource}
 use Rattle.rules_laws.proofs.ConfigEffects.{quiet-generatedWritten}
 use Rattle.rules_laws.proofs.ReadEffects.{quiet-claimedBy}
 use Rattle.rules_laws.proofs.SourceEffects.{active-high, sourceWired-inactive}
@@ -87,6 +90,18 @@ module _ (w : Wired) (q : WiredQuiet w) where
     pub quiet-writtenIn-genmsi : (c : Bool) (v : ℕ) → WiredQuiet (writtenIn w c Genmsi v)
     unfolding sourceOf
     quiet-writtenIn-genmsi c v = subst WiredQuiet (sym (written-part w c Genmsi v refl)) (quiet-genmsi c v)
+
+    -- a target: what is pending and enabled stays
+    pub quiet-target : (c : Bool) (i : ℕ) → 1 ≤ i → i < 64 → (v : ℕ) → WiredQuiet (writtenIn w c (Target i) v)
+    unfolding sourceOf registerWritten targetWritten
+    quiet-target c i l h v =
+        let d = domainIn w c in
+        let q′ = quiet-domainIn c in
+        let x = retargeted (sourceAt d i) c (byMessages d) v in
+        let e = sent-retargeted (sends d) (sourceAt d i) (q′ i l h) c (byMessages d) v in
+        subst WiredQuiet (sym (written-part w c (Target i) v refl))
+        (quiet-withDomain c (targetWritten c d i v)
+        (quiet-withSource d q′ i x e (steady-domainIn w s c .shaped) l h))
 
     -- ---- a write: the other domain
 

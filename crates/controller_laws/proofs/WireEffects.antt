@@ -1,0 +1,134 @@
+-- A wire that is set, with what is then sent, in a controller that keeps the rules: it changes its own source
+-- alone, and sends that source's message or none. No contract cites this file. Assumes nothing.
+--   wireSet-..    before anything is sent
+--   wire-..       after the messages: -other of any other source, -own of its own
+use Prim.Native.Nat.{ℕ, _≤_, _<_}
+use mathlib.Core.Path.{_≡_, refl, sym, ap, ap₂, _∙_}
+use mathlib.Core.Bool.{Bool, true, false, cond}
+use mathlib.Core.List.{[], _∷_, _++_, append-nil}
+use mathlib.Core.Logic.{_≢_, _⊎_, inl, inr, ⊎-elim}
+use Rattle.words.specs.Sets.{member}
+use Rattle.words.proofs.TestsLaws.{tested}
+use Rattle.target.specs.Target.{messageOf}
+use Rattle.source.specs.declared.Source.{Source}
+use Rattle.source.specs.Pending.{settled, wireChanged}
+use Rattle.domain.specs.Domain.{Domain, byMessages}
+use Rattle.domain.specs.Slot.{sourceAt}
+use Rattle.domain_laws.specs.Shape.{Shaped}
+use Rattle.domain_laws.proofs.OwnEffects.{configOf-withSource}
+use Rattle.domain_laws.proofs.SlotEffects.{sourceAt-withSource-same, sourceAt-withSource-other}
+use Rattle.wired.specs.Wired.{Wired, domainIn, wireSet, sourceWired}
+use Rattle.sending.specs.Sending.{candidate, Sent, sent, messagesAt}
+use Rattle.sending.proofs.SendingLaws.{messages-hit, messages-miss, sent-off}
+use Rattle.sending_laws.specs.Candidates.{messageAt, spent}
+use Rattle.sending_laws.proofs.SendingEffects.{sent-source}
+use Rattle.sending_laws.proofs.OneEffects.{sent-one, sent-one-other}
+use Rattle.rules_laws.specs.Steady.{sends, WiredSteady, WiredQuiet}
+use Rattle.rules_laws.proofs.QuietEffects.{sends-same}
+use Rattle.rules_laws.proofs.PassEffects.{quiet-candidate}
+use Rattle.rules_laws.proofs.WiredQuietEffects.{quiet-domainIn}
+use Rattle.controller.specs.Controller.{flushed, wireCall}
+use Rattle.controller.proofs.CallLaws.{one-wireSet}
+
+-- ---- before anything is sent
+
+wire-domain : (w : Wired) (i : ℕ) (level c : Bool)
+    → domainIn (wireSet w i level) c ≡ sourceWired (domainIn w c) i (member (w .wires) i) level
+unfolding domainIn wireSet
+wire-domain w i level true = refl
+wire-domain w i level false = refl
+
+call-domain : (w : Wired) (i : ℕ) (level c : Bool)
+    → domainIn (wireCall w i level .wired) c ≡ sent c (domainIn (wireSet w i level) c) .domain
+unfolding domainIn wireCall flushed
+call-domain w i level true = refl
+call-domain w i level false = refl
+
+module _ (w : Wired) (i : ℕ) (level c : Bool) where
+  abbrev before : Domain
+  before = domainIn w c
+
+  abbrev after : Domain
+  after = domainIn (wireSet w i level) c
+
+  abbrev changed : Source
+  changed = wireChanged (sourceAt before i) (byMessages before) (member (w .wires) i) level
+
+  pub wireSet-other : (j : ℕ) → j ≢ i → sourceAt after j ≡ sourceAt before j
+  unfolding sourceWired
+  wireSet-other j n =
+      ap (λ (d : Domain). sourceAt d j) (wire-domain w i level c)
+      ∙ sourceAt-withSource-other before i changed j n
+
+  pub wireSet-own : Shaped before → i < 64 → sourceAt after i ≡ changed
+  unfolding sourceWired
+  wireSet-own shaped h =
+      ap (λ (d : Domain). sourceAt d i) (wire-domain w i level c)
+      ∙ sourceAt-withSource-same before i changed shaped h
+
+  pub wireSet-sends : 1 ≤ i → sends after ≡ sends before
+  unfolding sourceWired
+  wireSet-sends l =
+      ap sends (wire-domain w i level c) ∙ sends-same before _ (configOf-withSource before i changed l)
+
+  -- its message goes where it would have gone
+  pub wireSet-target : Shaped before → i < 64 → sourceAt after i .target ≡ sourceAt before i .target
+  unfolding wireChanged settled
+  wireSet-target shaped h = ap (λ (s : Source). s .target) (wireSet-own shaped h)
+
+-- ---- after the messages
+
+module _ (w : Wired) (q : WiredQuiet w) (i : ℕ) (l : 1 ≤ i) (h : i < 64) (level c : Bool) where
+  -- all had been sent, so nothing but source i can be to be sent
+  wire-one : sends (domainIn (wireSet w i level) c) ≡ true → (j : ℕ) → j ≢ i → 1 ≤ j → j < 64
+      → candidate (sourceAt (domainIn (wireSet w i level) c) j) ≡ false
+  wire-one t j n a b =
+      ap candidate (wireSet-other w i level c j n)
+      ∙ quiet-candidate c (domainIn w c) (quiet-domainIn w q c) (sym (wireSet-sends w i level c l) ∙ t) j a b
+
+  pub wire-other : (j : ℕ) → j ≢ i → 1 ≤ j → j < 64
+      → sourceAt (domainIn (wireCall w i level .wired) c) j ≡ sourceAt (domainIn w c) j
+  wire-other j n a b =
+      ap (λ (d : Domain). sourceAt d j) (call-domain w i level c)
+      ∙ sent-one-other c (domainIn (wireSet w i level) c) i wire-one j n a b ∙ wireSet-other w i level c j n
+
+  pub wire-own : Shaped (domainIn w c)
+      → let s = changed w i level c in
+      sourceAt (domainIn (wireCall w i level .wired) c) i ≡ cond (sends (domainIn w c)) (spent s) s
+  wire-own shaped =
+      let d = domainIn (wireSet w i level) c in
+      let same = wireSet-sends w i level c l in
+      let own = wireSet-own w i level c shaped h in
+      ap (λ (x : Domain). sourceAt x i) (call-domain w i level c)
+      ∙ tested (sends d)
+      (λ t. sent-source c d t i l h ∙ ap spent own ∙ rw (sym same ∙ t))
+      (λ f. ap (λ (r : Sent). sourceAt (r .domain) i) (sent-off c d f) ∙ own ∙ rw (sym same ∙ f))
+
+  wire-sent : Shaped (domainIn w c)
+      → (sent c (domainIn (wireSet w i level) c) .messages ≡ [])
+      ⊎ (sent c (domainIn (wireSet w i level) c) .messages ≡ messageAt c (domainIn w c) i ∷ [])
+  wire-sent shaped =
+      let d = domainIn (wireSet w i level) c in
+      let one = sent-one c d i wire-one l h in
+      let target = wireSet-target w i level c shaped h in
+      tested (sends d)
+      (λ t. tested (candidate (sourceAt d i))
+      (λ y. inr (one ∙ rw t (messages-hit c d i y) ∙ ap (λ (x : ℕ). messageOf c x ∷ []) target))
+      (λ n. inl (one ∙ rw t (messages-miss c d i n))))
+      (λ f. inl (one ∙ rw f))
+
+-- the message of source i in one of the two domains, or none
+pub wire-messages : (w : Wired) → WiredSteady w → WiredQuiet w → (i : ℕ) → 1 ≤ i → i < 64 → (level : Bool)
+    → let ms = wireCall w i level .messages in
+    (ms ≡ []) ⊎ (ms ≡ messageAt false (w .root) i ∷ []) ⊎ (ms ≡ messageAt true (w .child) i ∷ [])
+unfolding domainIn wireCall flushed
+wire-messages w s q i l h level =
+    let first = sent false (wireSet w i level .root) .messages in
+    let second = sent true (wireSet w i level .child) .messages in
+    ⊎-elim
+    (λ e. ⊎-elim (λ z. inl (ap₂ _++_ e z)) (λ z. inr (inr (ap₂ _++_ e z)))
+    (wire-sent w q i l h level true (s .child .shaped)))
+    (λ e. let none : second ≡ [] = ap (λ (r : Sent). r .messages) e in
+    ⊎-elim (λ z. inl (ap₂ _++_ z none)) (λ z. inr (inl (ap₂ _++_ z none)))
+    (wire-sent w q i l h level false (s .root .shaped)))
+    (one-wireSet w s q i l h level)
