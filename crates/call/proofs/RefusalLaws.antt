@@ -1,7 +1,7 @@
 -- Laws of specs/Refusal.antt: which number each failed test gives, and what holds where none fails. No
 -- contract cites this file. Assumes nothing.
 use Prim.Native.Nat.{ℕ, _≤_}
-use mathlib.Core.Path.{_≡_, refl, sym, ap, _∙_}
+use mathlib.Core.Path.{_≡_, refl, sym, _∙_}
 use mathlib.Core.Bool.{Bool, true, false, not, _&&_}
 use mathlib.Core.List.{List}
 use mathlib.Core.Logic.{_≢_}

@@ -1,9 +1,8 @@
 -- An accepted call on a board that keeps the state rules leaves one that keeps them, and sends 63 messages at
 -- most. No contract cites this file. Assumes nothing.
 use Prim.Native.Nat.{ℕ, _^_, _≤_, _<_}
-use mathlib.Core.Path.{_≡_, refl, sym, ap, subst, _∙_}
-use mathlib.Core.Bool.{Bool, true, _&&_}
-use mathlib.Core.List.{List, []}
+use mathlib.Core.Path.{_≡_, sym, ap, subst}
+use mathlib.Core.Bool.{true}
 use native.Mathlib.Omega.{arith}
 use lib.Dec.{eqb, ltb}
 use lib.ListN.{length}
@@ -28,7 +27,6 @@ use Rattle.controller.specs.Controller.{Out, wireCall, readCall, writeCall}
 use Rattle.controller_laws.proofs.OutEffects.{wire-sound, read-sound, write-sound, wire-count, write-count}
 use Rattle.controller.proofs.CallLaws.{read-silent}
 use Rattle.block.specs.Block.{Board, boardSound}
-use Rattle.block.specs.Start.{startBoard}
 use Rattle.block_laws.specs.Shape.{BoardShaped}
 use Rattle.block_laws.proofs.StartEffects.{start-sound}
 use Rattle.call.specs.declared.Call.{Call}

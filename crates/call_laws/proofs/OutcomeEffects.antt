@@ -2,14 +2,12 @@
 -- file. Assumes nothing.
 use Prim.Native.Nat.{ℕ, zero, suc, _≤_}
 use mathlib.Core.Path.{_≡_, refl, sym, ap, subst, _∙_}
-use mathlib.Core.Bool.{Bool, true, false, _&&_, not}
-use mathlib.Core.List.{List, []}
+use mathlib.Core.Bool.{true, false}
+use mathlib.Core.List.{List}
 use mathlib.Core.Logic.{_≢_}
 use native.Mathlib.Omega.{arith}
-use lib.Dec.{eqb}
 use lib.ListN.{length}
-use borrow.Author.Tests.{eq-eqb, ne-eqb, eqb-true, eqb-false}
-use Rattle.words.proofs.TestsLaws.{tested}
+use borrow.Author.Tests.{eq-eqb, ne-eqb}
 use Rattle.sending.specs.Sending.{logged}
 use Rattle.block.specs.Block.{boardOf, blockOf}
 use Rattle.block_laws.proofs.BlockBack.{block-back}

@@ -2,9 +2,9 @@
 -- messages at their files; one on a file or on nothing sends nothing. No contract cites this file. Assumes
 -- nothing.
 use Prim.Native.Nat.{ℕ}
-use mathlib.Core.Path.{_≡_, refl, ap, _∙_}
-use mathlib.Core.Bool.{Bool, true}
-use mathlib.Core.List.{List, []}
+use mathlib.Core.Path.{_≡_, refl}
+use mathlib.Core.Bool.{true}
+use mathlib.Core.List.{[]}
 use lib.Dec.{eqb}
 use Rattle.words.proofs.TestsLaws.{and-first, and-second}
 use Rattle.file.specs.declared.File.{File}
@@ -14,7 +14,7 @@ use Rattle.wired.specs.Wired.{readIn}
 use Rattle.rules.specs.Rules.{wiredSound}
 use Rattle.rules_laws.specs.Steady.{WiredQuiet}
 use Rattle.rules_laws.proofs.SoundParts.{wired-sound-quiet}
-use Rattle.controller.specs.Controller.{Out, flushed, wireCall, readCall, writeCall}
+use Rattle.controller.specs.Controller.{Out, wireCall, readCall, writeCall}
 use Rattle.controller.proofs.CallLaws.{flushed-quiet}
 use Rattle.block.specs.Block.{Board, boardSound}
 use Rattle.block.specs.Start.{startBoard}

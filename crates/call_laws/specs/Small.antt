@@ -1,6 +1,6 @@
 -- The number of a call that a program can hold: a value of 64 bits. Assumes nothing.
 --   Small c   the value of a register access has 64 bits; no other number of a call needs a bound
-use Prim.Native.Nat.{ℕ, _^_, _<_}
+use Prim.Native.Nat.{_^_, _<_}
 use Rattle.call.specs.declared.Call.{Call}
 use Rattle.call.specs.declared.Call.the-variants.{Reset, Wire, DomainRead, DomainWrite, PageRead, PageWrite}
 use Rattle.call.specs.declared.Call.the-variants.{Register, Top, Claim, Signals}

@@ -1,19 +1,17 @@
 -- Claims 91 to 93. Where nothing is refused the block is that of a board after a reset. Assumes nothing.
 use Prim.Native.Nat.{ℕ}
-use mathlib.Core.Path.{_≡_, refl, sym, ap, _∙_}
+use mathlib.Core.Path.{_≡_, refl, ap, _∙_}
 use mathlib.Core.Bool.{true, false}
 use mathlib.Core.List.{List, [], _∷_}
-use mathlib.Core.Logic.{_≢_}
 use native.Mathlib.Omega.{arith}
 use lib.ListN.{length, replicate}
-use Rattle.words.specs.Bits.{bitOf, hasBit}
 use Rattle.words.specs.Every.{every}
 use Rattle.select.specs.Select.{selectLegal}
 use Rattle.select.specs.Deliveries.{deliveryLegal}
 use Rattle.file.specs.declared.File.{File}
 use Rattle.file.specs.Rules as rules
 use Rattle.stored.specs.Stored.{fileAt}
-use Rattle.files.specs.Files.{filesOf, filesFrom, theFile, withFile, filesSound, soundAt, isGuest}
+use Rattle.files.specs.Files.{filesOf, filesFrom, theFile, filesSound, soundAt, isGuest}
 use Rattle.files.proofs.FilesLaws.{theFile-withFile-other}
 use Rattle.region.specs.Region.{addressLegal}
 use Rattle.block.specs.Block.{Board, boardOf, blockOf, boardSound}

@@ -1,12 +1,10 @@
 -- Claims 40 to 42: the table of causes holds, computed row by row; it is whole; and it is about every source.
 -- Assumes nothing.
-use mathlib.Core.Path.{_≡_, refl, sym, ap, _∙_}
-use mathlib.Core.Bool.{Bool, true, false}
+use mathlib.Core.Path.{refl}
 use Rattle.mode.specs.Mode.{isActive, isLevel, isRectified}
 use Rattle.words.proofs.TestsLaws.{tested}
-use Rattle.source.specs.declared.Source.{Source}
 use Rattle.source.specs.Pending.{settled, wireChanged, pended, cleared}
-use Rattle.claims.specs.Causes.{Cause, happens, bitAfter, table, every, sourceOf, rowHolds, Claim-40}
+use Rattle.claims.specs.Causes.{happens, bitAfter, table, every, sourceOf, rowHolds, Claim-40}
 use Rattle.claims.specs.Causes.{sameCause, count, rowsOf, Claim-41, Claim-42}
 use Rattle.claims.specs.Causes.Cause.{wire, setip, clrip, claim, sent}
 

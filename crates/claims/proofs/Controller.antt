@@ -1,18 +1,18 @@
 -- Claims 76 to 79, by the laws of the wired controller's calls. Assumes nothing.
-use Prim.Native.Nat.{ℕ, _≤_}
-use mathlib.Core.Path.{_≡_, refl, ap, _∙_}
-use mathlib.Core.Bool.{Bool, true, false}
+use Prim.Native.Nat.{ℕ}
+use mathlib.Core.Path.{_≡_, refl, ap}
+use mathlib.Core.Bool.{Bool, false}
 use mathlib.Core.List.{[], append-nil}
 use mathlib.Core.Logic.{inl, inr}
 use native.Mathlib.Omega.{arith}
 use Rattle.region.specs.declared.Word.{Word}
 use Rattle.region.specs.declared.Word.the-variants.{Genmsi}
 use Rattle.wired.specs.Wired.{Wired, domainIn, writtenIn, wireSet}
-use Rattle.sending.specs.Sending.{Sent, sent}
+use Rattle.sending.specs.Sending.{Sent}
 use Rattle.genmsi.specs.Genmsi.{generatedSent}
 use Rattle.rules_laws.specs.Steady.{WiredSteady, WiredQuiet}
 use Rattle.rules_laws.proofs.SoundParts.{wired-sound-steady, wired-sound-quiet}
-use Rattle.controller.specs.Controller.{Out, flushed, isGenmsi, generatedBy, wireCall, writeCall, OneSends}
+use Rattle.controller.specs.Controller.{flushed, isGenmsi, generatedBy, wireCall, writeCall, OneSends}
 use Rattle.controller.proofs.CallLaws.{one-wireSet, one-writtenIn, read-silent, genmsi-silent}
 use Rattle.controller_laws.proofs.OutEffects.{wire-count, wire-exists, write-count, write-exists}
 use Rattle.controller_laws.proofs.OutEffects.{wire-sound, read-sound, write-sound}

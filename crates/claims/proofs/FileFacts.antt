@@ -1,8 +1,8 @@
 -- Claims 20 to 34, from the laws of one message file. Assumes nothing.
 use Prim.Native.Nat.{ℕ, _+_, _*_, _%_, _≤_, _<_}
-use mathlib.Core.Path.{_≡_, refl, sym, ap, _∙_}
+use mathlib.Core.Path.{_≡_, sym, ap, _∙_}
 use mathlib.Core.Bool.{Bool, true, false, not, _&&_, or-true}
-use mathlib.Core.Logic.{_≢_, _↔_, _⊎_, inl, inr, ⊎-elim}
+use mathlib.Core.Logic.{_≢_, _⊎_, inl, inr, ⊎-elim}
 use native.Mathlib.Decide.{decLt, ℕ-discrete}
 use native.Mathlib.Omega.{arith}
 use lib.Dec.{eqb, ltb}
@@ -13,8 +13,7 @@ use Rattle.words.proofs.TestsLaws.{tested, not-same, and-first, and-second, and
 use Rattle.select.specs.Select.{selectLegal}
 use Rattle.select.proofs.SelectLaws.{legal-below, legal-above, legal-named, legal-words}
 use Rattle.file.specs.declared.File.{File}
-use Rattle.file.specs.Shape.{Shaped}
-use Rattle.file.specs.Top.{passes, qualifies, topIdentity, topOf, claimed, signals}
+use Rattle.file.specs.Top.{passes, qualifies, topIdentity, topOf, signals}
 use Rattle.file.specs.Register.{written}
 use Rattle.file.proofs.TopLaws.{qualifies-pending, qualifies-enabled, qualifies-passes, qualifies-standing}
 use Rattle.file.proofs.TopLaws.{topOf-zero-1, topOf-zero-2, claimed-none}
@@ -28,7 +27,7 @@ use Rattle.file_laws.proofs.Keeps.{rules-of, sound-of, page-rules, claimed-rule
 use Rattle.file_laws.proofs.Stored.{file-back, block-back, file-apart, loaded-shaped}
 use Rattle.claims.specs.FileFacts.{Stands, Claim-20, Claim-21, Claim-22, Claim-23, Claim-24, Claim-25}
 use Rattle.claims.specs.FileFacts.{Claim-26, Claim-27, Claim-28, Claim-29, Claim-30, Claim-31}
-use Rattle.claims.specs.FileFacts.{KeepsRules, Claim-32, Claim-33, RoundTrips, Claim-34}
+use Rattle.claims.specs.FileFacts.{Claim-32, Claim-33, Claim-34}
 
 -- ---- what qualifies, in the claim's words
 

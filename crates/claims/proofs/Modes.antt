@@ -1,27 +1,24 @@
 -- Claims 94 and 95, case by case. Assumes nothing.
 use Prim.Native.Nat.{ℕ, _<_}
 use mathlib.Core.Path.{_≡_, refl, sym, ap, _∙_}
-use mathlib.Core.Bool.{Bool, true, false, Bool·beq, _||_}
-use native.Mathlib.Decide.{ℕ-discrete}
+use mathlib.Core.Bool.{false, Bool·beq, _||_}
 use native.Mathlib.Omega.{arith}
 use lib.Dec.{eqb, leb}
-use borrow.Author.Tests.{le-leb, lt-leb}
+use borrow.Author.Tests.{lt-leb}
 use Rattle.words.specs.Bits.{hasBit}
 use Rattle.words.specs.Parts.{fieldOf}
 use Rattle.words.proofs.PartsLaws.{fieldOf-lt}
 use Rattle.words.proofs.TestsLaws.{tested, beq-same, beq-differs}
-use Rattle.mode.specs.Mode.{isActive, isLevel, keptMode, sourceWord}
+use Rattle.mode.specs.Mode.{isActive, keptMode, sourceWord}
 use Rattle.mode.proofs.ModeLaws.{word-delegated, word-machine}
 use Rattle.target.specs.Target.{startTarget}
-use Rattle.source.specs.declared.Source.{Source}
 use Rattle.source.specs.Pending.{inactive, settled, moded}
 use Rattle.domain.specs.Domain.{Domain}
-use Rattle.domain.specs.Slot.{sourceAt, withSource}
-use Rattle.domain_laws.specs.Shape.{Shaped}
+use Rattle.domain.specs.Slot.{sourceAt}
 use Rattle.domain_laws.proofs.SlotEffects.{sourceAt-withSource-same, sourceAt-withSource-other}
-use Rattle.wired.specs.Wired.{Wired, isDelegated, rootWritten}
+use Rattle.wired.specs.Wired.{Wired, isDelegated}
 use Rattle.wires.proofs.DelegationLaws.{root-stays, root-moves}
-use Rattle.claims.specs.Modes.{Remoded, Claim-94, Claim-95}
+use Rattle.claims.specs.Modes.{Claim-94, Claim-95}
 
 -- ---- the source
 

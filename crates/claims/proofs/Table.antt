@@ -27,7 +27,7 @@ use Rattle.registers.specs.Read.{valueOf as readOf}
 use Rattle.region.specs.Region.{wordAt, wordIn, nameIn, registers, addressLegal}
 use Rattle.registers.specs.Read.{claimHart}
 use Rattle.call.specs.Refusal.{nameRefusal, named, addressed, selected}
-use Rattle.claims.specs.Table.{Row, table, same, holds}
+use Rattle.claims.specs.Table.{table, same, holds}
 
 pub table-holds : holds table ≡ true
 unfolding holds table same topOf topIdentity lowest qualifies passes member hasBit bitOf pageWritten arrived

@@ -1,7 +1,7 @@
 -- Claims 55 to 58, from the laws of writes and of the wired controller. Assumes nothing.
 use Prim.Native.Nat.{ℕ, _≤_, _<_}
 use mathlib.Core.Path.{_≡_, refl, sym, ap, _∙_}
-use mathlib.Core.Bool.{Bool, true, false, Bool·beq, true≢false, false≢true, or-false}
+use mathlib.Core.Bool.{Bool, true, false, true≢false, false≢true, or-false}
 use mathlib.Core.List.{List}
 use mathlib.Core.Logic.{_≢_}
 use native.Mathlib.Omega.{arith}

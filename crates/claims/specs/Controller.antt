@@ -14,7 +14,7 @@ use Rattle.region.specs.declared.Word.{Word}
 use Rattle.region.specs.declared.Word.the-variants.{Genmsi}
 use Rattle.wired.specs.Wired.{Wired, wiredOf, domainIn, readIn, claimedIn, writtenIn, wireSet}
 use Rattle.rules.specs.Rules.{wiredSound}
-use Rattle.sending.specs.Sending.{sent, logged}
+use Rattle.sending.specs.Sending.{sent}
 use Rattle.sending.specs.Delivered.{fileIn}
 use Rattle.genmsi.specs.Genmsi.{generatedSent}
 use Rattle.controller.specs.Controller.{Out, isGenmsi, wireCall, readCall, writeCall, Leaves}

@@ -20,7 +20,7 @@ use Rattle.file.specs.declared.register.Answer.the-variants.{Illegal}
 use Rattle.file.specs.Shape.{Shaped}
 use Rattle.file.specs.Parts.{withDelivery}
 use Rattle.file.specs.Page.{arrived, pageWritten}
-use Rattle.file.specs.Top.{topIdentity, topOf, claimed, signals}
+use Rattle.file.specs.Top.{topOf, claimed, signals}
 use Rattle.file.specs.Rules.{fileSound}
 use Rattle.file.specs.Register.{held, written, accessed}
 use Rattle.stored.specs.Stored.{fileAt, putFile}

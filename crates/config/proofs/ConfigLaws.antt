@@ -1,7 +1,7 @@
 -- Laws of specs/Config.antt. No contract cites this file. Assumes nothing.
 use Prim.Native.Nat.{ℕ, suc, _+_, _-_, _≤_, _<_}
 use mathlib.Core.Path.{_≡_, ap, _∙_}
-use mathlib.Core.Bool.{Bool, Bool·beq, true, false}
+use mathlib.Core.Bool.{Bool·beq, true, false}
 use mathlib.Core.List.{List}
 use native.Mathlib.Omega.{arith}
 use Rattle.target.specs.Target.{keptGenerated}

@@ -7,7 +7,7 @@
 --   generatedWritten d v        d after v was written to genmsi, which only counts by messages
 -- A change of DM sets genmsi to 0 and each active source's target to its start value in the new mode.
 use Prim.Native.Nat.{ℕ, zero, suc}
-use mathlib.Core.Bool.{Bool, Bool·beq, cond}
+use mathlib.Core.Bool.{Bool·beq, cond}
 use mathlib.Core.List.{List}
 use Rattle.words.specs.Parts.{fieldOf, packed}
 use Rattle.words.specs.Sets.{member}

@@ -1,8 +1,8 @@
 -- What is to be sent after each change of a controller that keeps the rules: nothing by one domain at least.
 -- No contract cites this file. Assumes nothing.
 use Prim.Native.Nat.{ℕ, _≤_, _<_}
-use mathlib.Core.Path.{_≡_, refl, sym, ap, subst, _∙_}
-use mathlib.Core.Bool.{Bool, true, false, not, false≢true}
+use mathlib.Core.Path.{_≡_, refl, sym, ap, subst}
+use mathlib.Core.Bool.{Bool, true, false, false≢true}
 use mathlib.Core.List.{List, [], _++_}
 use mathlib.Core.Logic.{_⊎_, inl, inr}
 use lib.ListN.{length, take, drop}
@@ -12,20 +12,19 @@ use Rattle.region.specs.declared.Word.the-variants.{Domaincfg, Sourcecfg, Setip
 use Rattle.region.specs.declared.Word.the-variants.{Setie, Setienum, Clrie, Clrienum, SetipnumLe, SetipnumBe}
 use Rattle.region.specs.declared.Word.the-variants.{Genmsi, Target, Idelivery, Iforce, Ithreshold, Topi}
 use Rattle.region.specs.declared.Word.the-variants.{Claimi, Unused}
-use Rattle.domain.specs.Domain.{Domain}
 use Rattle.domain_laws.specs.Shape.{Shaped}
 use Rattle.domain_laws.proofs.SlotEffects.{domainOf-shaped}
 use Rattle.wired.specs.Wired.{Wired, wiredOf, wireSet, writtenIn, claimedIn}
 use Rattle.wires.proofs.WiresLaws.{root-part, child-part, root-long, child-long, wires-read}
 use Rattle.wired.proofs.WiredLaws.{domain-root, domain-child}
 use Rattle.rules.specs.Rules.{wiredSound}
-use Rattle.sending.specs.Sending.{Sent, sent, sentNothing}
+use Rattle.sending.specs.Sending.{Sent}
 use Rattle.rules_laws.specs.Steady.{Quiet, WiredSteady, WiredQuiet}
 use Rattle.rules_laws.proofs.SoundParts.{wired-sound-steady, wired-sound-quiet}
 use Rattle.rules_laws.proofs.PassEffects.{sent-again}
 use Rattle.rules_laws.proofs.WiredQuietEffects.{wireSet-one, quiet-claimedIn, quiet-writtenIn-genmsi}
 use Rattle.rules_laws.proofs.WiredQuietEffects.{quiet-other}
-use Rattle.controller.specs.Controller.{Out, flushed, isGenmsi, readCall, OneSends}
+use Rattle.controller.specs.Controller.{flushed, isGenmsi, readCall, OneSends}
 
 -- 290 words that keep the rules
 module _ (l : List ℕ) (long : length l ≡ 290) (sound : wiredSound (wiredOf l) ≡ true) where

@@ -1,10 +1,10 @@
 -- The calls of the wired controller, on one that keeps the rules: every message names a file that exists, the
 -- log's 63 words suffice, and the rules hold again. No contract cites this file. Assumes nothing.
 use Prim.Native.Nat.{ℕ, _≤_, _<_}
-use mathlib.Core.Path.{_≡_, refl, sym, ap, _∙_}
+use mathlib.Core.Path.{_≡_}
 use mathlib.Core.Bool.{Bool, true, false}
-use mathlib.Core.List.{List, [], _∷_, _++_, append-nil}
-use mathlib.Core.Logic.{_⊎_, inl, inr}
+use mathlib.Core.List.{[], append-nil}
+use mathlib.Core.Logic.{inl, inr}
 use native.Mathlib.Omega.{arith}
 use lib.ListN.{length}
 use Rattle.words.proofs.TestsLaws.{tested}
@@ -14,17 +14,16 @@ use Rattle.region.specs.declared.Word.{Word}
 use Rattle.domain.specs.Domain.{Domain, byMessages}
 use Rattle.wired.specs.Wired.{Wired, domainIn, wireSet, writtenIn, claimedIn}
 use Rattle.rules.specs.Rules.{wiredSound}
-use Rattle.sending.specs.Sending.{Sent, sent, sentNothing}
+use Rattle.sending.specs.Sending.{sent}
 use Rattle.sending.specs.Delivered.{fileIn}
 use Rattle.sending_laws.proofs.MessageEffects.{Every, every-none, every-one, every-append, sent-named}
 use Rattle.sending_laws.proofs.MessageEffects.{generated-names}
 use Rattle.sending_laws.proofs.SendingEffects.{sent-count}
-use Rattle.genmsi.specs.Genmsi.{generatedSent}
 use Rattle.genmsi.proofs.GenmsiLaws.{generated-on, generated-off}
 use Rattle.rules_laws.specs.Steady.{WiredSteady, WiredQuiet}
 use Rattle.rules_laws.proofs.WiredEffects.{steady-wireSet, steady-claimedIn, sound-passed}
 use Rattle.rules_laws.proofs.DelegationEffects.{steady-writtenIn}
-use Rattle.controller.specs.Controller.{Out, flushed, isGenmsi, generatedBy, wireCall, readCall, writeCall}
+use Rattle.controller.specs.Controller.{flushed, isGenmsi, generatedBy, wireCall, readCall, writeCall}
 use Rattle.controller.specs.Controller.{OneSends}
 use Rattle.controller.proofs.CallLaws.{one-wireSet, one-writtenIn, genmsi-silent}
 

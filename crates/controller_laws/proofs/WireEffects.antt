@@ -5,7 +5,7 @@
 use Prim.Native.Nat.{ℕ, _≤_, _<_}
 use mathlib.Core.Path.{_≡_, refl, sym, ap, ap₂, _∙_}
 use mathlib.Core.Bool.{Bool, true, false, cond}
-use mathlib.Core.List.{[], _∷_, _++_, append-nil}
+use mathlib.Core.List.{[], _∷_, _++_}
 use mathlib.Core.Logic.{_≢_, _⊎_, inl, inr, ⊎-elim}
 use Rattle.words.specs.Sets.{member}
 use Rattle.words.proofs.TestsLaws.{tested}
@@ -18,7 +18,7 @@ use Rattle.domain_laws.specs.Shape.{Shaped}
 use Rattle.domain_laws.proofs.OwnEffects.{configOf-withSource}
 use Rattle.domain_laws.proofs.SlotEffects.{sourceAt-withSource-same, sourceAt-withSource-other}
 use Rattle.wired.specs.Wired.{Wired, domainIn, wireSet, sourceWired}
-use Rattle.sending.specs.Sending.{candidate, Sent, sent, messagesAt}
+use Rattle.sending.specs.Sending.{candidate, Sent, sent}
 use Rattle.sending.proofs.SendingLaws.{messages-hit, messages-miss, sent-off}
 use Rattle.sending_laws.specs.Candidates.{messageAt, spent}
 use Rattle.sending_laws.proofs.SendingEffects.{sent-source}

@@ -1,19 +1,16 @@
 -- Laws of specs/Direct.antt but for the search: topi, a claim, the signal and the settable numbers, case by
 -- case. No contract cites this file. Assumes nothing.
-use Prim.Native.Nat.{ℕ, _+_, _*_}
+use Prim.Native.Nat.{ℕ}
 use mathlib.Core.Path.{_≡_, _∙_}
-use mathlib.Core.Bool.{Bool, true, false, cond}
+use mathlib.Core.Bool.{Bool, true, false}
 use mathlib.Core.Logic.{_≢_, inr}
 use native.Mathlib.Omega.{arith}
-use lib.Dec.{eqb}
 use borrow.Author.Tests.{eq-eqb, ne-eqb}
 use Rattle.words.proofs.TestsLaws.{tested, not-same}
-use Rattle.target.specs.Target.{numberOf}
 use Rattle.delivery.specs.declared.Delivery.{Delivery}
 use Rattle.delivery.specs.Delivery.{signals}
 use Rattle.delivery.proofs.DeliveryLaws.{signals-iff}
 use Rattle.domain.specs.Domain.{Domain, isEnabled, byMessages}
-use Rattle.domain.specs.Slot.{sourceAt}
 use Rattle.domain.specs.Structure.{structureAt, withStructure}
 use Rattle.direct.specs.declared.Setting.{Setting}
 use Rattle.direct.specs.Direct.{topSource, topiOf, unforced, released, claimed, signalOf}

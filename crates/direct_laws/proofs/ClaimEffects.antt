@@ -5,7 +5,6 @@ use mathlib.Core.Path.{_≡_, refl, sym, ap, _∙_}
 use mathlib.Core.Bool.{true, false}
 use mathlib.Core.Logic.{_≢_, _↔_, _⊎_}
 use native.Mathlib.Decide.{ℕ-discrete}
-use native.Mathlib.Omega.{arith}
 use Rattle.words.proofs.TestsLaws.{tested, not-same}
 use Rattle.mode.specs.Mode.{isLevel}
 use Rattle.source.specs.Pending.{withPending, cleared}

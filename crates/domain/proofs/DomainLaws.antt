@@ -1,10 +1,10 @@
 -- Laws of specs/Domain.antt: one word stored is one part replaced, and each word is read from its part.
 -- No contract cites this file. Assumes nothing.
-use Prim.Native.Nat.{ℕ, _+_, _≤_, _<_}
-use mathlib.Core.Path.{_≡_, refl, sym, ap, _∙_}
+use Prim.Native.Nat.{ℕ, _+_, _<_}
+use mathlib.Core.Path.{_≡_, sym}
 use mathlib.Core.List.{List}
 use native.Mathlib.Omega.{arith}
-use lib.ListN.{length, getD, take, drop, set}
+use lib.ListN.{getD, set}
 use lib.Seq.{take-set-lt, take-set-le, getD-take}
 use Rattle.domain.specs.Domain.{Domain, domainOf, withSources, withTargets, withPendings, withEnables}
 use Rattle.domain.specs.Domain.{withDeliveries}

@@ -4,14 +4,12 @@ use Prim.Native.Nat.{ℕ, _+_, _/_, _%_, _<_}
 use mathlib.Core.Path.{_≡_, refl, ap, _∙_}
 use mathlib.Core.Bool.{Bool}
 use mathlib.Core.List.{List}
-use mathlib.Core.Logic.{_≢_}
 use native.Mathlib.Omega.{arith}
-use lib.ListN.{length, getD, set}
-use lib.Seq.{getD-set-same, getD-set-other}
+use lib.ListN.{getD, set}
 use Rattle.words.specs.Bits.{hasBit, putBit}
-use Rattle.words.proofs.SetsLaws.{member-word, put-word, member-put-same, member-put-other}
+use Rattle.words.proofs.SetsLaws.{member-word, put-word}
 use Rattle.source.specs.declared.Source.{Source}
-use Rattle.domain.specs.Domain.{Domain, domainOf, withSources, withTargets, withPendings, withEnables}
+use Rattle.domain.specs.Domain.{Domain, domainOf, withTargets, withPendings, withEnables}
 use Rattle.domain.specs.Slot.{sourceAt, withSource}
 use Rattle.domain.proofs.DomainLaws.{domain-path, store-source, store-target, store-pending}
 use Rattle.domain.proofs.DomainLaws.{store-enable}

@@ -1,7 +1,7 @@
 -- The domain of 144 words that are 0. No contract cites this file. Assumes nothing.
 use mathlib.Core.Path.{_≡_, refl}
 use lib.ListN.{replicate}
-use Rattle.domain.specs.Domain.{Domain, domainOf}
+use Rattle.domain.specs.Domain.{domainOf}
 
 pub domainOf-zeros : domainOf (replicate 144 0)
     ≡ record {

@@ -13,7 +13,7 @@ use native.Mathlib.Omega.{arith}
 use lib.Dec.{eqb, ltb}
 use borrow.Author.Tests.{eq-eqb, ne-eqb, eqb-true, eqb-false, le-ltb}
 use Rattle.words.specs.Sets.{member, remove}
-use Rattle.words.proofs.TestsLaws.{tested, not-same, and-first, and-second, from-next}
+use Rattle.words.proofs.TestsLaws.{tested, and-first, and-second, from-next}
 use Rattle.file.specs.declared.File.{File}
 use Rattle.file.specs.Parts.{withPending}
 use Rattle.file.specs.Top.{passes, qualifies, lowest, topIdentity, topOf, claimed, signals}

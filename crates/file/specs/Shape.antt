@@ -1,6 +1,6 @@
 -- What every file has that a program can hold: eight words of 32 bits in each set, and two numbers of 32
 -- bits. Assumes nothing.
-use Prim.Native.Nat.{ℕ, _^_, _<_}
+use Prim.Native.Nat.{_^_, _<_}
 use mathlib.Core.Path.{_≡_}
 use lib.ListN.{length}
 use Rattle.words.specs.Sets.{WordsFit}

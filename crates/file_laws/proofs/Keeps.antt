@@ -2,7 +2,7 @@
 --   ..-shaped    the shape that every file has
 --   ..-sound     the state rules
 use Prim.Native.Nat.{ℕ, _+_, _*_, _%_, _^_, _≤_, _<_}
-use mathlib.Core.Path.{_≡_, sym, ap, _∙_, subst}
+use mathlib.Core.Path.{_≡_, sym, ap, _∙_}
 use mathlib.Core.Bool.{Bool, true, false, cond, not, _&&_}
 use mathlib.Core.List.{List}
 use native.Mathlib.Decide.{ℕ-discrete, decLt}
@@ -10,7 +10,6 @@ use native.Mathlib.Nat.{mod-lt, lt-of-le-of-lt}
 use native.Mathlib.Omega.{arith}
 use lib.Dec.{eqb, leb}
 use lib.ListN.{length, getD, set, length-set}
-use lib.Seq.{getD-set-same, getD-set-other, set-out}
 use borrow.Author.Tests.{leb-true, le-leb, not-true}
 use Rattle.words.specs.Bits.{withoutBit, union, without}
 use Rattle.words.specs.Parts.{low, high, reversed}
@@ -19,7 +18,7 @@ use Rattle.words.proofs.PartsLaws.{low-lt, high-lt, joined-lt}
 use Rattle.words.proofs.BitsLaws.{withoutBit-le, union-lt, without-le}
 use Rattle.words.proofs.SetsLaws.{set-fit, length-insert, length-remove, insert-fit, remove-fit}
 use Rattle.words.proofs.SetsLaws.{member-insert-other, member-remove-other}
-use Rattle.words.proofs.TestsLaws.{tested, and-first, and-second, and-both}
+use Rattle.words.proofs.TestsLaws.{tested, and-first, and-second}
 use Rattle.select.specs.declared.Register.{Register}
 use Rattle.select.specs.declared.Register.the-variants.{Delivery, Threshold, Pending, Enable, Unused}
 use Rattle.select.specs.Select.{selectLegal, registerOf}

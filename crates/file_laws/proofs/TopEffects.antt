@@ -1,20 +1,18 @@
 -- What the top is, and what a claim takes: the paper's sentences on the top as theorems. No contract cites
 -- this file. Assumes nothing.
-use Prim.Native.Nat.{ℕ, suc, _+_, _*_, _/_, _≤_, _<_}
+use Prim.Native.Nat.{ℕ, _+_, _*_, _/_, _≤_, _<_}
 use mathlib.Core.Path.{_≡_, refl, sym, ap, _∙_}
-use mathlib.Core.Bool.{Bool, true, false, not, _&&_, and-true, and-false}
+use mathlib.Core.Bool.{true, false, not, _&&_, and-true, and-false}
 use mathlib.Core.Logic.{_≢_, _↔_}
 use native.Mathlib.Decide.{ℕ-discrete}
 use native.Mathlib.Omega.{arith}
-use lib.Dec.{eqb, ltb}
+use lib.Dec.{eqb}
 use lib.ListN.{length}
 use borrow.Author.Tests.{eq-eqb, ne-eqb, ltb-true}
 use Rattle.words.specs.Sets.{member, remove}
 use Rattle.words.proofs.SetsLaws.{member-remove-same, member-remove-other}
-use Rattle.words.proofs.TestsLaws.{not-same}
 use Rattle.file.specs.declared.File.{File}
-use Rattle.file.specs.Parts.{withPending}
-use Rattle.file.specs.Top.{passes, qualifies, lowest, topIdentity, topOf, claimed}
+use Rattle.file.specs.Top.{qualifies, topIdentity, topOf, claimed}
 use Rattle.file.proofs.TopLaws.{lowest-ge, lowest-found, lowest-first, lowest-none-1, lowest-none-2}
 use Rattle.file.proofs.TopLaws.{topIdentity-le, topOf-zero-1, topOf-zero-2, claimed-none, claimed-some}
 use Rattle.file.proofs.TopLaws.{qualifies-passes, passes-below}

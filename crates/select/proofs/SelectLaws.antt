@@ -1,5 +1,5 @@
 -- Laws of specs/Select.antt, by the ranges of a select number. No contract cites this file. Assumes nothing.
-use Prim.Native.Nat.{ℕ, _+_, _-_, _*_, _/_, _%_, _≤_, _<_}
+use Prim.Native.Nat.{ℕ, _-_, _/_, _%_, _≤_, _<_}
 use mathlib.Core.Path.{_≡_}
 use mathlib.Core.Bool.{true, false, not}
 use native.Mathlib.Omega.{arith}

@@ -11,7 +11,7 @@ use Rattle.words.proofs.TestsLaws.{tested}
 use Rattle.domain.specs.Domain.{Domain, isEnabled, byMessages}
 use Rattle.domain.specs.Slot.{sourceAt}
 use Rattle.sending.specs.Sending.{candidate, Sent, sent, messagesAt}
-use Rattle.sending.proofs.SendingLaws.{messages-hit, messages-miss, sent-off}
+use Rattle.sending.proofs.SendingLaws.{sent-off}
 use Rattle.sending_laws.specs.Candidates.{numbersFrom, thoseWith, candidates, messageAt}
 use Rattle.sending_laws.proofs.SendingEffects.{spent-miss, sent-source, sent-messages}
 

@@ -1,15 +1,15 @@
 -- Laws of specs/Stored.antt: a file stored is loaded again, and stands apart from every other. No contract
 -- cites this file. Assumes nothing.
-use Prim.Native.Nat.{ℕ, zero, suc, _+_, _-_, _*_, _≤_, _<_}
+use Prim.Native.Nat.{ℕ, zero, suc, _+_, _-_, _≤_}
 use mathlib.Core.Path.{_≡_, refl, sym, ap, ap₂, _∙_}
 use mathlib.Core.List.{List, [], _∷_, _++_}
-use native.Mathlib.Nat.{add-zero, add-suc, suc-add, add-assoc}
+use native.Mathlib.Nat.{add-zero}
 use native.Mathlib.Numerals.{add-one, towards-suc}
 use native.Mathlib.Omega.{arith}
-use lib.ListN.{length, getD, take, drop, set, length-append, length-set, length-take, length-drop}
-use lib.Seq.{drop-cons, take-all, sets, length-sets, sets-eq}
+use lib.ListN.{length, getD, take, drop, set}
+use lib.Seq.{drop-cons, take-all, sets}
 use Rattle.file.specs.declared.File.{File}
-use Rattle.stored.specs.Stored.{fileWords, fileAt, putFile}
+use Rattle.stored.specs.Stored.{fileWords, putFile}
 
 -- ---- n words from a place on, one by one
 

@@ -1,6 +1,6 @@
 -- Laws of specs/Target.antt. No contract cites this file. Assumes nothing.
-use Prim.Native.Nat.{ℕ, _+_, _*_, _^_, _<_}
-use mathlib.Core.Path.{_≡_, refl, ap, _∙_}
+use Prim.Native.Nat.{ℕ, _+_, _^_, _<_}
+use mathlib.Core.Path.{_≡_}
 use mathlib.Core.Bool.{Bool, true, false}
 use mathlib.Core.Logic.{_≢_}
 use native.Mathlib.Omega.{arith}
@@ -8,7 +8,7 @@ use borrow.Author.Tests.{eq-eqb, ne-eqb}
 use Rattle.words.specs.Parts.{packed}
 use Rattle.words.proofs.PartsLaws.{fieldOf-lt, packed-is}
 use Rattle.target.specs.Target.{hartOf, guestOf, numberOf, priorityOf, receiverOf, keptTarget, logWord}
-use Rattle.target.specs.Target.{messageOf, generatedOf, keptGenerated}
+use Rattle.target.specs.Target.{messageOf, generatedOf}
 
 module _ (t : ℕ) where
   pub hartOf-lt : hartOf t < 4

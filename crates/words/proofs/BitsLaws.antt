@@ -5,18 +5,18 @@
 --   bits-ext           two words of n bits are equal if their bits are
 --   ..-or, ..-and      what the code's `|`, `&` and `!` give
 use Prim.Native.Nat.{ℕ, zero, suc, _+_, _-_, _*_, _/_, _%_, _^_, _≤_, _<_, min, max}
-use mathlib.Core.Path.{_≡_, refl, sym, ap, ap₂, _∙_, subst}
+use mathlib.Core.Path.{_≡_, refl, sym, ap, ap₂, _∙_}
 use mathlib.Core.Bool.{Bool, true, false, not, _&&_, _||_, true≢false, false≢true}
 use mathlib.Core.Logic.{_≢_}
-use native.Mathlib.Nat.{mod-lt, div-add-mod', mod-eq-of-lt, div-eq-of-lt, add-mul-div-right}
-use native.Mathlib.Nat.{mul-add-mod-self-right, pow-suc, zero-lt-suc, lt-of-le-of-lt, zero-add, le-of-eq}
+use native.Mathlib.Nat.{mod-lt, div-add-mod', mod-eq-of-lt, div-eq-of-lt}
+use native.Mathlib.Nat.{pow-suc, zero-lt-suc, zero-add}
 use native.Mathlib.Omega.{arith}
 use lib.Arith.{lt-one}
 use lib.Dec.{eqb}
 use lib.Pow.{pow-pos, pow-lt, shr-shr}
 use lib.Bits.{bitAnd, bitOr, and-step, or-step, or-shr, or-mod, and-shr, and-mod, and-le-l, or-lt, or-zero-r}
 use lib.Bits.{and-zero-r}
-use borrow.Author.Tests.{eq-eqb, ne-eqb, eqb-true}
+use borrow.Author.Tests.{eq-eqb, ne-eqb}
 use Rattle.words.specs.Bits.{bitOf, hasBit, withBit, withoutBit, putBit, union, without}
 
 -- ---- a bit as a number

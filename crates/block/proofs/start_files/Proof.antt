@@ -3,7 +3,6 @@ use Prim.Native.Nat.{ℕ, _-_, _≤_, _<_}
 use mathlib.Core.Path.{_≡_, ap, _∙_}
 use native.Mathlib.Omega.{arith}
 use lib.ListN.{length}
-use Rattle.file.specs.declared.File.{File}
 use Rattle.files.specs.Files.{filesOf, theFile, withFile}
 use Rattle.files.proofs.FilesLaws.{length-filesOf}
 use Rattle.block.specs.Start.{startFile}

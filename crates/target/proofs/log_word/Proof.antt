@@ -4,7 +4,6 @@ use native.Mathlib.Omega.{arith}
 use Rattle.words.specs.Parts.{packed}
 use Rattle.words.proofs.PartsLaws.{packed-is}
 use Rattle.target.proofs.TargetLaws.{logWord-packed}
-use borrow.Author.Needs.{needs}
 use Rattle.target.proofs.log_word.Statement.{statement}
 use Rattle.target.proofs.log_word.Tie as tie
 

@@ -5,7 +5,7 @@ use borrow.Author.Tests.{not-true, not-false}
 use Rattle.file.proofs.TopLaws.{unpending, disabled, qualifies-standing, passes-zero, passes-below}
 use mathlib.Core.Path.{sym, _∙_, ap}
 use Rattle.words.proofs.SetsLaws.{member-word}
-use Rattle.file.specs.Top.{qualifies, passes}
+use Rattle.file.specs.Top.{passes}
 use borrow.Author.Needs.{needs}
 use Rattle.file.proofs.File.qualifies.Statement.{statement}
 use Rattle.file.proofs.File.qualifies.Tie as tie

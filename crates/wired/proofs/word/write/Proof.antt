@@ -3,7 +3,7 @@
 use Prim.Native.Nat.{ℕ}
 use mathlib.Core.Path.{sym, ap, _∙_}
 use native.Mathlib.Omega.{arith}
-use Rattle.wired.specs.Wired.{sourceOf, wiredOf, sourceWritten}
+use Rattle.wired.specs.Wired.{wiredOf, sourceWritten}
 use Rattle.wired.proofs.WiredLaws.{source-below, written-part, written-source}
 use borrow.Author.Needs.{needs}
 use Rattle.wired.proofs.word.write.Statement.{statement}

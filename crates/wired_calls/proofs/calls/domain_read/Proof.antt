@@ -3,7 +3,7 @@ use mathlib.Core.Path.{refl, sym, _∙_}
 use mathlib.Core.Bool.{true}
 use native.Mathlib.Omega.{arith}
 use borrow.Author.Tests.{not-true, not-false, lt-ltb, le-ltb}
-use Rattle.call.proofs.RefusalLaws.{passed-state, passed-log, passed-rules}
+use Rattle.call.proofs.RefusalLaws.{passed-state, passed-rules}
 use mathlib.Core.Path.{ap, subst}
 use Rattle.region.specs.Region.{Within}
 use Rattle.region.specs.declared.Word.{Word}
@@ -12,7 +12,7 @@ use lib.Dec.{eqb}
 use Rattle.region.specs.Region.{wordAt}
 use Rattle.wired.specs.Wired.{readIn}
 use Rattle.controller.specs.Controller.{readCall}
-use Rattle.block.specs.Block.{Board, boardOf}
+use Rattle.block.specs.Block.{boardOf}
 use Rattle.wired_calls.proofs.DoneLaws.{read-none}
 use Rattle.call_laws.proofs.CallTests.{tests-blocks, tests-name, tests-address}
 use Rattle.call_laws.proofs.WiredCallEffects.{tests-domainRead, domainRead-done}

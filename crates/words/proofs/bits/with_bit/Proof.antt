@@ -1,6 +1,5 @@
 -- `words::with_bit` meets its contract: `1 << k` is 2 ^ k. Assumes nothing.
 use borrow.Author.Needs.{needs}
-use Prim.Native.Nat.{ℕ}
 use mathlib.Core.Path.{ap, _∙_}
 use lib.Bits.{bitOr}
 use Rattle.words.proofs.BitsLaws.{withBit-or}

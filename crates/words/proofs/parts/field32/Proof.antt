@@ -1,6 +1,5 @@
 -- `words::field32` meets its contract: the mask is a remainder. Assumes nothing.
 use borrow.Author.Needs.{needs}
-use native.Mathlib.Omega.{arith}
 use lib.Pow.{pow-pos}
 use Rattle.words.proofs.PartsLaws.{one-shl, fieldOf-and}
 use Rattle.words.proofs.parts.field32.Statement.{statement}
