@@ -17,7 +17,8 @@ use Rattle.rules_laws.proofs.WiredEffects.{steady-domainIn}
 use Rattle.rules_laws.proofs.WiredQuietEffects.{quiet-domainIn}
 use Rattle.rules_laws.proofs.WiredSameEffects.{wireSet-same}
 use Rattle.controller.specs.Controller.{Out, wireCall}
-use Rattle.controller_laws.proofs.WireEffects.{wireSet-other, wire-other, wire-own, wire-messages}
+use Rattle.controller_laws.proofs.WireEffects.{wireSet-other, wire-other, wire-own, wire-message}
+use Rattle.controller_laws.proofs.WireEffects.{wire-silent, wire-messages}
 use Rattle.controller_laws.proofs.TargetEffects.{target-call, target-wires, target-not, target-own}
 use Rattle.controller_laws.proofs.TargetEffects.{target-other}
 use Rattle.files.specs.Files.{allReached}
@@ -57,7 +58,8 @@ claim-97 w s i l h level =
     wire-own w q i l (omega arith) level c (steady-domainIn w (steady w s) c .shaped) in (
       (λ c j n a b. wire-other w q i l (omega arith) level c j n a (omega arith)),
       (λ c. ((λ t. own c ∙ rw t), (λ f. own c ∙ rw f))),
-      wire-messages w (steady w s) q i l (omega arith) level,
+      (λ c t y. wire-message w (steady w s) q i l (omega arith) level c t y),
+      (λ f. wire-silent w (steady w s) q i l (omega arith) level f),
     )
 
 -- ---- a target
@@ -99,6 +101,7 @@ pub claim-99 : Claim-99
 unfolding Claim-99 domainIn
 claim-99 b s i l h level = (
   ap (λ (x : Stepped). x .board .wired) (step-wire b i level),
+  step-messages b i level,
   ⊎-elim (λ e. inl (none b i level e))
       (⊎-elim (λ e. inr (inl (one b i level false e))) (λ e. inr (inr (one b i level true e))))
       (wire-messages (b .wired) (steady (b .wired) s) (quiet (b .wired) s) i l (omega arith) (eqb level 1)),

@@ -35,7 +35,8 @@ Claim-96 =
     (after ≡ sourceAt d i) × ((isEnabled d && byMessages d) ≡ true → candidate after ≡ false)
 
 -- the call on wire i, with its messages: no other source changes, in either domain; source i is what the wire
--- makes of it, and where the domain sends it is then sent if it is to be; its message or none is sent
+-- makes of it, and where the domain sends it is then sent if it is to be. Its message is sent exactly then,
+-- and no other
 unfoldable pub Claim-97 : Type 0
 Claim-97 =
     (w : Wired) → Sound w → (i : ℕ) → 1 ≤ i → i ≤ 63 → (level : Bool)
@@ -46,8 +47,12 @@ Claim-97 =
     let s = wireChanged (sourceAt d i) (byMessages d) (member (w .wires) i) level in
     ((isEnabled d && byMessages d) ≡ true → sourceAt (domainIn (after .wired) c) i ≡ spent s)
     × ((isEnabled d && byMessages d) ≡ false → sourceAt (domainIn (after .wired) c) i ≡ s))
-    × ((after .messages ≡ []) ⊎ (after .messages ≡ messageAt false (w .root) i ∷ [])
-    ⊎ (after .messages ≡ messageAt true (w .child) i ∷ []))
+    × ((c : Bool) → let d = domainIn w c in
+    let s = wireChanged (sourceAt d i) (byMessages d) (member (w .wires) i) level in
+    (isEnabled d && byMessages d) ≡ true → candidate s ≡ true → after .messages ≡ messageAt c d i ∷ [])
+    × (((c : Bool) → let d = domainIn w c in
+    let s = wireChanged (sourceAt d i) (byMessages d) (member (w .wires) i) level in
+    (isEnabled d && byMessages d && candidate s) ≡ false) → after .messages ≡ [])
 
 -- a write to a target sends nothing, and changes its own source's target alone: neither the wires, nor the
 -- other domain, nor any other source of its own
@@ -71,10 +76,12 @@ pub record SentOne (c : Bool) (i : ℕ) (b : Board) (x : Stepped) : Type 0 where
   pub messages : x .messages ≡ messageAt c (domainIn (b .wired) c) i ∷ []
   pub files : x .board .files ≡ reached (b .files) (messageAt c (domainIn (b .wired) c) i)
 
--- a wire reaches no file, or the one that its source's target names, with that target's identity, once
+-- a wire reaches no file, or the one that its source's target names, with that target's identity, once; which
+-- of these it is, Claim-97 says
 unfoldable pub Claim-99 : Type 0
 Claim-99 =
     (b : Board) → Sound (b .wired) → (i : ℕ) → 1 ≤ i → i ≤ 63 → (level : ℕ)
     → let x = step (Wire i level) b in
-    (x .board .wired ≡ wireCall (b .wired) i (eqb level 1) .wired)
+    let after = wireCall (b .wired) i (eqb level 1) in
+    (x .board .wired ≡ after .wired) × (x .messages ≡ after .messages)
     × (SentNone b x ⊎ SentOne false i b x ⊎ SentOne true i b x)

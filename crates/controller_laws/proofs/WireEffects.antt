@@ -4,11 +4,13 @@
 --   wire-..       after the messages: -other of any other source, -own of its own
 use Prim.Native.Nat.{ℕ, _≤_, _<_}
 use mathlib.Core.Path.{_≡_, refl, sym, ap, ap₂, _∙_}
-use mathlib.Core.Bool.{Bool, true, false, cond}
+use mathlib.Core.Bool.{Bool, true, false, cond, _&&_}
 use mathlib.Core.List.{[], _∷_, _++_}
 use mathlib.Core.Logic.{_≢_, _⊎_, inl, inr, ⊎-elim}
+use native.Mathlib.Omega.{arith}
+use lib.ListN.{length}
 use Rattle.words.specs.Sets.{member}
-use Rattle.words.proofs.TestsLaws.{tested}
+use Rattle.words.proofs.TestsLaws.{tested, and-first, and-second}
 use Rattle.target.specs.Target.{messageOf}
 use Rattle.source.specs.declared.Source.{Source}
 use Rattle.source.specs.Pending.{settled, wireChanged}
@@ -104,18 +106,58 @@ module _ (w : Wired) (q : WiredQuiet w) (i : ℕ) (l : 1 ≤ i) (h : i < 64) (le
       (λ t. sent-source c d t i l h ∙ ap spent own ∙ rw (sym same ∙ t))
       (λ f. ap (λ (r : Sent). sourceAt (r .domain) i) (sent-off c d f) ∙ own ∙ rw (sym same ∙ f))
 
+  wire-hit : Shaped (domainIn w c) → sends (domainIn w c) ≡ true → candidate (changed w i level c) ≡ true
+      → sent c (domainIn (wireSet w i level) c) .messages ≡ messageAt c (domainIn w c) i ∷ []
+  wire-hit shaped t y =
+      let d = domainIn (wireSet w i level) c in
+      let hit = messages-hit c d i (ap candidate (wireSet-own w i level c shaped h) ∙ y) in
+      sent-one c d i wire-one l h ∙ rw (wireSet-sends w i level c l ∙ t) hit
+      ∙ ap (λ (x : ℕ). messageOf c x ∷ []) (wireSet-target w i level c shaped h)
+
+  wire-miss : Shaped (domainIn w c) → (sends (domainIn w c) && candidate (changed w i level c)) ≡ false
+      → sent c (domainIn (wireSet w i level) c) .messages ≡ []
+  wire-miss shaped f =
+      let d = domainIn (wireSet w i level) c in
+      let one = sent-one c d i wire-one l h in
+      let own = ap candidate (wireSet-own w i level c shaped h) in
+      tested (sends d)
+      (λ t. one ∙ rw t (messages-miss c d i (own ∙ rw (sym (wireSet-sends w i level c l) ∙ t) at f)))
+      (λ n. one ∙ rw n)
+
   wire-sent : Shaped (domainIn w c)
       → (sent c (domainIn (wireSet w i level) c) .messages ≡ [])
       ⊎ (sent c (domainIn (wireSet w i level) c) .messages ≡ messageAt c (domainIn w c) i ∷ [])
   wire-sent shaped =
-      let d = domainIn (wireSet w i level) c in
-      let one = sent-one c d i wire-one l h in
-      let target = wireSet-target w i level c shaped h in
-      tested (sends d)
-      (λ t. tested (candidate (sourceAt d i))
-      (λ y. inr (one ∙ rw t (messages-hit c d i y) ∙ ap (λ (x : ℕ). messageOf c x ∷ []) target))
-      (λ n. inl (one ∙ rw t (messages-miss c d i n))))
-      (λ f. inl (one ∙ rw f))
+      let on = sends (domainIn w c) in
+      let due = candidate (changed w i level c) in
+      tested (on && due)
+      (λ t. inr (wire-hit shaped (and-first on due t) (and-second on due t))) (λ f. inl (wire-miss shaped f))
+
+-- ---- the messages of the call
+
+module _ (w : Wired) (s : WiredSteady w) (q : WiredQuiet w) (i : ℕ) (l : 1 ≤ i) (h : i < 64)
+    (level : Bool) where
+  -- where the source is to be sent it is, and nothing else
+  pub wire-message : (c : Bool) → sends (domainIn w c) ≡ true → candidate (changed w i level c) ≡ true
+      → wireCall w i level .messages ≡ messageAt c (domainIn w c) i ∷ []
+  unfolding domainIn wireCall flushed
+  wire-message true t y =
+      let own = wire-hit w q i l h level true (s .child .shaped) t y in
+      ⊎-elim (λ e. ap₂ _++_ e own)
+      (λ e. let z : 0 ≡ 1 = ap length (sym (ap (λ (r : Sent). r .messages) e) ∙ own) in
+      absurd (omega (arith, z)))
+      (one-wireSet w s q i l h level)
+  wire-message false t y =
+      let own = wire-hit w q i l h level false (s .root .shaped) t y in
+      ⊎-elim (λ e. let z : 0 ≡ 1 = ap length (sym e ∙ own) in absurd (omega (arith, z)))
+      (λ e. ap₂ _++_ own (ap (λ (r : Sent). r .messages) e)) (one-wireSet w s q i l h level)
+
+  pub wire-silent : ((c : Bool) → (sends (domainIn w c) && candidate (changed w i level c)) ≡ false)
+      → wireCall w i level .messages ≡ []
+  unfolding domainIn wireCall flushed
+  wire-silent f =
+      ap₂ _++_ (wire-miss w q i l h level false (s .root .shaped) (f false))
+      (wire-miss w q i l h level true (s .child .shaped) (f true))
 
 -- the message of source i in one of the two domains, or none
 pub wire-messages : (w : Wired) → WiredSteady w → WiredQuiet w → (i : ℕ) → 1 ≤ i → i < 64 → (level : Bool)
