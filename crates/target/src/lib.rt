@@ -11,7 +11,7 @@ pub fn hart_of(target: u32) -> u32
     words::field32(target, 18, 2)
 }
 
-fn guest_of(target: u32) -> u32
+pub fn guest_of(target: u32) -> u32
     ensures { λ r. ⌜ (r ≡ guestOf target) × (r < 4) ⌝ }
 {
     words::field32(target, 12, 2)

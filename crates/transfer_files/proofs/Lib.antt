@@ -1,0 +1,9 @@
+-- What the accesses of a move and the messages between them do to the files. Assumes nothing.
+pub mod ActedLaws
+pub mod WrittenEffects
+pub mod SharedEffects
+pub mod NotedEffects
+pub mod RestoredEffects
+pub mod AccessEffects
+pub mod RelatedEffects
+pub mod TableLaws

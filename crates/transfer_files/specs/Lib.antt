@@ -1,0 +1,2 @@
+-- What the laws of the files of a move speak of. Assumes nothing.
+pub mod Related

@@ -1,0 +1,2 @@
+-- The laws of the accesses of a move. Assumes nothing.
+pub mod StepsLaws
