@@ -9,13 +9,15 @@ use file_calls::register;
 use file_calls::top;
 use hart_calls::reset;
 use hart_calls::signals;
+use transfer::make_access;
 use wired_calls::domain_read;
 use wired_calls::domain_write;
 use wired_calls::set_wire;
 
-pub fn apply(state: &mut [u32], log: &mut [u32], call: Call) -> Answer
-    ensures { λ r. ⌜ Gives (outcome call (now (state .entry)) (now (log .entry))) r (now (state .exit))
-        (now (log .exit)) ⌝ }
+// Only a move reads or writes the record.
+pub fn apply(state: &mut [u32], log: &mut [u32], saved: &mut [u64; 10], call: Call) -> Answer
+    ensures { λ r. ⌜ Gives (outcome call (now (state .entry)) (now (log .entry)) (now (saved .entry))) r
+        (now (state .exit)) (now (log .exit)) (now (saved .exit)) ⌝ }
 {
     match call {
         Call::Reset => reset(state, log),
@@ -28,15 +30,8 @@ pub fn apply(state: &mut [u32], log: &mut [u32], call: Call) -> Answer
             address,
             value,
         ),
-        Call::PageRead(hart, file, offset) => page_read(state, log, hart, file, offset),
-        Call::PageWrite(hart, file, offset, value) => page_write(
-            state,
-            log,
-            hart,
-            file,
-            offset,
-            value,
-        ),
+        Call::PageRead(hart, file, at) => page_read(state, log, hart, file, at),
+        Call::PageWrite(hart, file, at, value) => page_write(state, log, hart, file, at, value),
         Call::Register(hart, file, kind, select, value) => register(
             state,
             log,
@@ -49,5 +44,15 @@ pub fn apply(state: &mut [u32], log: &mut [u32], call: Call) -> Answer
         Call::Top(hart, file) => top(state, log, hart, file),
         Call::Claim(hart, file) => claim(state, log, hart, file),
         Call::Signals(hart) => signals(state, log, hart),
+        Call::Move(oldhart, oldfile, newhart, newfile, access) => make_access(
+            state,
+            log,
+            saved,
+            oldhart,
+            oldfile,
+            newhart,
+            newfile,
+            access,
+        ),
     }
 }

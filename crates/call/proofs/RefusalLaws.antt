@@ -11,7 +11,7 @@ use lib.Dec.{eqb}
 use lib.ListN.{length}
 use borrow.Author.Tests.{eq-eqb, ne-eqb}
 use Rattle.words.proofs.TestsLaws.{tested}
-use Rattle.block.specs.Block.{boardOf, boardSound}
+use Rattle.block.specs.Block.{Board, boardOf, boardSound}
 use Rattle.call.specs.declared.Call.{Call}
 use Rattle.call.specs.Refusal.{testsRules, named, addressed, selected, blockRefusal, nameRefusal}
 use Rattle.call.specs.Refusal.{refusalOf}
@@ -88,22 +88,22 @@ module _ (t : Bool) (l g : List ℕ) (z : blockRefusal t l g ≡ 0) where
 
 -- ---- of the numbers
 
-module _ (c : Call) where
-  pub refused-name : named c ≡ false → nameRefusal c ≡ 4
+module _ (c : Call) (b : Board) where
+  pub refused-name : named c b ≡ false → nameRefusal c b ≡ 4
   unfolding nameRefusal
   refused-name n = simp n
 
-  module _ (n : named c ≡ true) where
-    pub refused-address : addressed c ≡ false → nameRefusal c ≡ 5
+  module _ (n : named c b ≡ true) where
+    pub refused-address : addressed c ≡ false → nameRefusal c b ≡ 5
     unfolding nameRefusal
     refused-address a = simp (n, a)
 
     module _ (a : addressed c ≡ true) where
-      pub refused-select : selected c ≡ false → nameRefusal c ≡ 6
+      pub refused-select : selected c ≡ false → nameRefusal c b ≡ 6
       unfolding nameRefusal
       refused-select s = simp (n, a, s)
 
-      pub numbers-name : selected c ≡ true → nameRefusal c ≡ 0
+      pub numbers-name : selected c ≡ true → nameRefusal c b ≡ 0
       unfolding nameRefusal
       numbers-name s = simp (n, a, s)
 
@@ -115,6 +115,6 @@ module _ (c : Call) (l g : List ℕ) where
   refused-blocks k e h = simp (ne-eqb (blockRefusal (testsRules c) l g) 0 (λ z. h (e ∙ z))) (sym e)
 
   pub refused-numbers : (k : ℕ) → k ≡ blockRefusal (testsRules c) l g → k ≡ 0
-      → refusalOf c l g ≡ nameRefusal c
+      → refusalOf c l g ≡ nameRefusal c (boardOf l)
   unfolding refusalOf
   refused-numbers k e z = simp (eq-eqb (blockRefusal (testsRules c) l g) 0 (sym e ∙ z))

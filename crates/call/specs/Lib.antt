@@ -1,5 +1,6 @@
 -- The calls of the board: their answers and refusals, and what each does. Assumes nothing.
 pub mod Answer
 pub mod Refusal
+pub mod Move
 pub mod Change
 pub mod Outcome

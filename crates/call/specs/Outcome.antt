@@ -1,11 +1,12 @@
 -- What a call does, all in all. 01, "Calls and their refusals", "The wired controller". Assumes nothing.
---   Stepped           the board after a call, its value, and the messages that it sent, in order
+--   Stepped           the board after a call, its value, the messages that it sent, in order, and the record
 --   settled x         x, then each domain sends what is to be sent, and every message reaches its file
---   step c b          what an accepted call does: its change, settled
---   Outcome           refusal, value and count, the block and the log after the call
---   outcome c l g     what the call c does with the block l and the log g: refused, it answers 0 and 0 and
---                     changes nothing
---   Gives o r l g     a call that answers r and leaves the block l and the log g does as o says
+--   step c b s        what an accepted call does: its change, settled; s is the record of a move
+--   Outcome           refusal, value and count, the block, the log and the record after the call
+--   outcome c l g s   what the call c does with the block l, the log g and the record s: refused, it answers
+--                     0 and 0 and changes nothing
+--   Gives o r l g s   a call that answers r and leaves the block l, the log g and the record s does as o says
+--   Does c l g r l′ g′   the same of a call that is lent no record: any record stays as it is
 use Prim.Native.Nat.{ℕ}
 use mathlib.Core.Path.{_≡_}
 use mathlib.Core.Bool.{cond}
@@ -26,6 +27,7 @@ pub record Stepped : Type 0 where
   pub board : Board
   pub value : ℕ
   pub messages : List ℕ
+  pub saved : List ℕ
 
 unfoldable pub settled : Changed → Stepped
 settled x =
@@ -35,10 +37,11 @@ settled x =
       board = record { files = allReached (x .board .files) ms; wired = after .wired };
       value = x .value;
       messages = ms;
+      saved = x .saved;
     }
 
-unfoldable pub step : Call → Board → Stepped
-step c b = settled (change c b)
+unfoldable pub step : Call → Board → List ℕ → Stepped
+step c b s = settled (change c b s)
 
 pub record Outcome : Type 0 where
   pub number : ℕ
@@ -46,27 +49,33 @@ pub record Outcome : Type 0 where
   pub count : ℕ
   pub block : List ℕ
   pub log : List ℕ
+  pub saved : List ℕ
 
-abbrev pub refusedAs : ℕ → List ℕ → List ℕ → Outcome
-refusedAs n l g = record { number = n; value = 0; count = 0; block = l; log = g }
+abbrev pub refusedAs : ℕ → List ℕ → List ℕ → List ℕ → Outcome
+refusedAs n l g s = record { number = n; value = 0; count = 0; block = l; log = g; saved = s }
 
 abbrev pub doneAs : Stepped → List ℕ → Outcome
-doneAs s g =
+doneAs x g =
     record {
       number = 0;
-      value = s .value;
-      count = length (s .messages);
-      block = blockOf (s .board);
-      log = logged g (s .messages);
+      value = x .value;
+      count = length (x .messages);
+      block = blockOf (x .board);
+      log = logged g (x .messages);
+      saved = x .saved;
     }
 
-unfoldable pub outcome : Call → List ℕ → List ℕ → Outcome
-outcome c l g =
-    let n = refusalOf c l g in cond (eqb n 0) (doneAs (step c (boardOf l)) g) (refusedAs n l g)
+unfoldable pub outcome : Call → List ℕ → List ℕ → List ℕ → Outcome
+outcome c l g s =
+    let n = refusalOf c l g in cond (eqb n 0) (doneAs (step c (boardOf l) s) g) (refusedAs n l g s)
 
-pub record Gives (o : Outcome) (r : Answer) (l g : List ℕ) : Type 0 where
+pub record Gives (o : Outcome) (r : Answer) (l g s : List ℕ) : Type 0 where
   pub number : numberOf r ≡ o .number
   pub value : valueOf r ≡ o .value
   pub count : countOf r ≡ o .count
   pub block : l ≡ o .block
   pub log : g ≡ o .log
+  pub saved : s ≡ o .saved
+
+abbrev pub Does : Call → List ℕ → List ℕ → Answer → List ℕ → List ℕ → Type 0
+Does c l g r l′ g′ = (s : List ℕ) → Gives (outcome c l g s) r l′ g′ s

@@ -1,14 +1,19 @@
 -- When a call is refused, and with which number. 01, "Calls and their refusals". Assumes nothing.
 --   isWire w level       there is such a wire, 1 to 63, and such a level, 0 or 1
 --   isFile h f           there is such a hart, 0 to 3, and such a file, 0 to 4
+--   isGuestFile h f      there is such a hart, and f is a guest's file, 2 to 4
+--   isMove .. n          old and new, each a hart and a file, are two different guest files, and there is an
+--                        access n, 1 to 89
 --   isPageAddress a      a is a multiple of 4 in a page of 4,096 bytes
 --   testsRules c         the call tests the state rules: every one but reset
---   named c              every hart, file, domain, wire, wire level and kind of access that c names is there
+--   named c b            every hart, file, domain, wire, wire level and kind of access that c names is there;
+--                        and an access of a move is not barred, as each is while the child domain of the
+--                        board b is in direct mode
 --   addressed c          its address is a multiple of 4 in its region or page
 --   selected c           its select number is legal
 --   blockRefusal t l g   1: the block l has the wrong length; 2: so has the log g; 3: l breaks a state rule,
 --                        where t says that this is tested; the lowest that applies, or 0
---   nameRefusal c        4: not named; 5: not addressed; 6: not selected; the lowest that applies, or 0
+--   nameRefusal c b      4: not named; 5: not addressed; 6: not selected; the lowest that applies, or 0
 --   refusalOf c l g      the lowest that applies of 1 to 6, or 0
 use Prim.Native.Nat.{ℕ, _%_}
 use mathlib.Core.Bool.{Bool, true, false, cond, not, _&&_}
@@ -17,16 +22,25 @@ use lib.Dec.{eqb, leb, ltb}
 use lib.ListN.{length}
 use Rattle.select.specs.Select.{selectLegal}
 use Rattle.region.specs.Region.{addressLegal}
-use Rattle.block.specs.Block.{boardOf, boardSound}
+use Rattle.domain.specs.Domain.{byMessages}
+use Rattle.transfer_steps.specs.Steps.{accesses}
+use Rattle.block.specs.Block.{Board, boardOf, boardSound}
 use Rattle.call.specs.declared.Call.{Call}
 use Rattle.call.specs.declared.Call.the-variants.{Reset, Wire, DomainRead, DomainWrite, PageRead}
-use Rattle.call.specs.declared.Call.the-variants.{PageWrite, Register, Top, Claim, Signals}
+use Rattle.call.specs.declared.Call.the-variants.{PageWrite, Register, Top, Claim, Signals, Move}
 
 unfoldable pub isWire : ℕ → ℕ → Bool
 isWire w level = leb 1 w && leb w 63 && leb level 1
 
 unfoldable pub isFile : ℕ → ℕ → Bool
 isFile h f = ltb h 4 && ltb f 5
+
+unfoldable pub isGuestFile : ℕ → ℕ → Bool
+isGuestFile h f = ltb h 4 && leb 2 f && ltb f 5
+
+unfoldable pub isMove : ℕ → ℕ → ℕ → ℕ → ℕ → Bool
+isMove oh of nh nf n =
+    isGuestFile oh of && isGuestFile nh nf && not (eqb oh nh && eqb of nf) && leb 1 n && leb n accesses
 
 unfoldable pub isPageAddress : ℕ → Bool
 isPageAddress a = eqb (a % 4) 0 && ltb a 4096
@@ -42,18 +56,20 @@ testsRules (Register h f k s v) = true
 testsRules (Top h f) = true
 testsRules (Claim h f) = true
 testsRules (Signals h) = true
+testsRules (Move oh of nh nf n) = true
 
-unfoldable pub named : Call → Bool
-named Reset = true
-named (Wire w level) = isWire w level
-named (DomainRead d a) = ltb d 2
-named (DomainWrite d a v) = ltb d 2
-named (PageRead h f a) = isFile h f
-named (PageWrite h f a v) = isFile h f
-named (Register h f k s v) = isFile h f && ltb k 4
-named (Top h f) = isFile h f
-named (Claim h f) = isFile h f
-named (Signals h) = ltb h 4
+unfoldable pub named : Call → Board → Bool
+named Reset b = true
+named (Wire w level) b = isWire w level
+named (DomainRead d a) b = ltb d 2
+named (DomainWrite d a v) b = ltb d 2
+named (PageRead h f a) b = isFile h f
+named (PageWrite h f a v) b = isFile h f
+named (Register h f k s v) b = isFile h f && ltb k 4
+named (Top h f) b = isFile h f
+named (Claim h f) b = isFile h f
+named (Signals h) b = ltb h 4
+named (Move oh of nh nf n) b = isMove oh of nh nf n && byMessages (b .wired .child)
 
 unfoldable pub addressed : Call → Bool
 addressed Reset = true
@@ -66,6 +82,7 @@ addressed (Register h f k s v) = true
 addressed (Top h f) = true
 addressed (Claim h f) = true
 addressed (Signals h) = true
+addressed (Move oh of nh nf n) = true
 
 unfoldable pub selected : Call → Bool
 selected Reset = true
@@ -78,15 +95,16 @@ selected (Register h f k s v) = selectLegal s
 selected (Top h f) = true
 selected (Claim h f) = true
 selected (Signals h) = true
+selected (Move oh of nh nf n) = true
 
 unfoldable pub blockRefusal : Bool → List ℕ → List ℕ → ℕ
 blockRefusal t l g =
     cond (not (eqb (length l) 650)) 1
     (cond (not (eqb (length g) 63)) 2 (cond (t && not (boardSound (boardOf l))) 3 0))
 
-unfoldable pub nameRefusal : Call → ℕ
-nameRefusal c = cond (not (named c)) 4 (cond (not (addressed c)) 5 (cond (not (selected c)) 6 0))
+unfoldable pub nameRefusal : Call → Board → ℕ
+nameRefusal c b = cond (not (named c b)) 4 (cond (not (addressed c)) 5 (cond (not (selected c)) 6 0))
 
 unfoldable pub refusalOf : Call → List ℕ → List ℕ → ℕ
 refusalOf c l g =
-    let n = blockRefusal (testsRules c) l g in cond (eqb n 0) (nameRefusal c) n
+    let n = blockRefusal (testsRules c) l g in cond (eqb n 0) (nameRefusal c (boardOf l)) n

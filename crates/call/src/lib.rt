@@ -5,6 +5,7 @@ mod numbers;
 pub use blocks::check;
 pub use blocks::lengths;
 pub use numbers::is_file;
+pub use numbers::is_move;
 pub use numbers::is_page_address;
 pub use numbers::is_wire;
 pub use numbers::kind_of;
@@ -31,6 +32,8 @@ pub enum Call {
     Claim(u64, u64),
     // hart
     Signals(u64),
+    // hart and file of old, hart and file of new, access
+    Move(u64, u64, u64, u64, u64),
 }
 
 pub enum Answer {

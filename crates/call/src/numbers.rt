@@ -1,6 +1,6 @@
 // Which numbers name something, and the answer of a refusal by its number.
 ghost use mathlib.Core.Path.{_≡_};
-ghost use Rattle.call.specs.Refusal.{isWire, isFile, isPageAddress};
+ghost use Rattle.call.specs.Refusal.{isWire, isFile, isGuestFile, isMove, isPageAddress};
 ghost use Rattle.call.specs.Change.{kindOf};
 ghost use Rattle.call.specs.Answer.{refusalCase};
 use super::Answer;
@@ -38,6 +38,24 @@ pub fn is_file(hart: u64, file: u64) -> bool
     ensures { λ r. ⌜ r ≡ isFile hart file ⌝ }
 {
     (hart < 4) & (file < 5)
+}
+
+// Files 2 to 4 are the guests'.
+fn is_guest_file(hart: u64, file: u64) -> bool
+    ensures { λ r. ⌜ r ≡ isGuestFile hart file ⌝ }
+{
+    (hart < 4) & (2 <= file) & (file < 5)
+}
+
+// Two different guest files, and one of the 89 accesses.
+pub fn is_move(oldhart: u64, oldfile: u64, newhart: u64, newfile: u64, access: u64) -> bool
+    ensures { λ r. ⌜ r ≡ isMove oldhart oldfile newhart newfile access ⌝ }
+{
+    is_guest_file(oldhart, oldfile)
+        & is_guest_file(newhart, newfile)
+        & !((oldhart == newhart) & (oldfile == newfile))
+        & (1 <= access)
+        & (access <= 89)
 }
 
 // A file's page has 4,096 bytes.

@@ -27,7 +27,7 @@ use Rattle.call.specs.declared.Answer.the-variants.{Done}
 use Rattle.call.specs.declared.Call.the-variants.{PageRead, PageWrite, Register, Top, Claim}
 use Rattle.call.specs.Change.{kindOf, change}
 use Rattle.call.specs.Refusal.{testsRules, named, addressed, selected, isFile, isPageAddress, blockRefusal}
-use Rattle.call.specs.Outcome.{step, outcome, Gives}
+use Rattle.call.specs.Outcome.{step, Does}
 use Rattle.call_laws.proofs.StepEffects.{step-onFile, step-answering}
 use Rattle.call_laws.proofs.CallTests.{Tests, quiet, checked-long, checked-sound, tests-done}
 
@@ -83,66 +83,69 @@ module _ (l : List ℕ) (long : length l ≡ 650) (h f : ℕ) (x : File) where
 -- ---- what each call tests
 
 module _ (h f : ℕ) where
-  pub tests-pageRead : (a : ℕ) → Tests (PageRead h f a) (isFile h f) (isPageAddress a) true
+  pub tests-pageRead : (a : ℕ) → Tests (PageRead h f a) (λ b. isFile h f) (isPageAddress a) true
   unfolding testsRules named addressed selected
-  tests-pageRead a = record { rules = refl; names = refl; addresses = refl; selects = refl }
+  tests-pageRead a = record { rules = refl; names = λ b. refl; addresses = refl; selects = refl }
 
-  pub tests-pageWrite : (a v : ℕ) → Tests (PageWrite h f a v) (isFile h f) (isPageAddress a) true
+  pub tests-pageWrite : (a v : ℕ) → Tests (PageWrite h f a v) (λ b. isFile h f) (isPageAddress a) true
   unfolding testsRules named addressed selected
-  tests-pageWrite a v = record { rules = refl; names = refl; addresses = refl; selects = refl }
+  tests-pageWrite a v = record { rules = refl; names = λ b. refl; addresses = refl; selects = refl }
 
-  pub tests-register : (k s v : ℕ) → Tests (Register h f k s v) (isFile h f && ltb k 4) true (selectLegal s)
+  pub tests-register : (k s v : ℕ) → Tests (Register h f k s v) (λ b. isFile h f && ltb k 4) true
+      (selectLegal s)
   unfolding testsRules named addressed selected
-  tests-register k s v = record { rules = refl; names = refl; addresses = refl; selects = refl }
+  tests-register k s v = record { rules = refl; names = λ b. refl; addresses = refl; selects = refl }
 
-  pub tests-top : Tests (Top h f) (isFile h f) true true
+  pub tests-top : Tests (Top h f) (λ b. isFile h f) true true
   unfolding testsRules named addressed selected
-  tests-top = record { rules = refl; names = refl; addresses = refl; selects = refl }
+  tests-top = record { rules = refl; names = λ b. refl; addresses = refl; selects = refl }
 
-  pub tests-claim : Tests (Claim h f) (isFile h f) true true
+  pub tests-claim : Tests (Claim h f) (λ b. isFile h f) true true
   unfolding testsRules named addressed selected
-  tests-claim = record { rules = refl; names = refl; addresses = refl; selects = refl }
+  tests-claim = record { rules = refl; names = λ b. refl; addresses = refl; selects = refl }
 
 -- ---- what each call does to a sound board, where x is its file
 
 module _ (b : Board) (sound : boardSound b ≡ true) (h f : ℕ) (x : File)
     (here : x ≡ theFile (b .files) (fileNumber h f)) where
-  pub step-pageRead : (a : ℕ) → step (PageRead h f a) b ≡ quiet b (pageRead x a)
+  pub step-pageRead : (a : ℕ) (u : List ℕ) → step (PageRead h f a) b u ≡ quiet b (pageRead x a) u
   unfolding step change
-  step-pageRead a = rw here (step-answering b sound _)
+  step-pageRead a u = rw here (step-answering b sound _ u)
 
-  pub step-pageWrite : (a v : ℕ)
-      → step (PageWrite h f a v) b ≡ quiet (onlyFile b (fileNumber h f) (pageWritten identities x a v)) 0
+  pub step-pageWrite : (a v : ℕ) (u : List ℕ)
+      → step (PageWrite h f a v) b u
+      ≡ quiet (onlyFile b (fileNumber h f) (pageWritten identities x a v)) 0 u
   unfolding step change
-  step-pageWrite a v = rw here (step-onFile b sound _ _ _)
+  step-pageWrite a v u = rw here (step-onFile b sound _ _ _ u)
 
   pub step-register : (k s v : ℕ) (r : Accessed)
-      → r ≡ accessed identities (isGuest (fileNumber h f)) x (kindOf k) s v
-      → step (Register h f k s v) b ≡ quiet (onlyFile b (fileNumber h f) (r .file)) (valueOf (r .answer))
+      → r ≡ accessed identities (isGuest (fileNumber h f)) x (kindOf k) s v → (u : List ℕ)
+      → step (Register h f k s v) b u
+      ≡ quiet (onlyFile b (fileNumber h f) (r .file)) (valueOf (r .answer)) u
   unfolding step change
-  step-register k s v r e = rw (e, here) (step-onFile b sound _ _ _)
+  step-register k s v r e u = rw (e, here) (step-onFile b sound _ _ _ u)
 
-  pub step-top : step (Top h f) b ≡ quiet b (topOf identities x)
+  pub step-top : (u : List ℕ) → step (Top h f) b u ≡ quiet b (topOf identities x) u
   unfolding step change
-  step-top = rw here (step-answering b sound _)
+  step-top u = rw here (step-answering b sound _ u)
 
-  pub step-claim : step (Claim h f) b
-      ≡ quiet (onlyFile b (fileNumber h f) (claimed identities x)) (topOf identities x)
+  pub step-claim : (u : List ℕ) → step (Claim h f) b u
+      ≡ quiet (onlyFile b (fileNumber h f) (claimed identities x)) (topOf identities x) u
   unfolding step change
-  step-claim = rw here (step-onFile b sound _ _ _)
+  step-claim u = rw here (step-onFile b sound _ _ _ u)
 
 -- ---- what each call gives once it is accepted; k is what the test of the blocks answered
 
 module _ (l g : List ℕ) (k : ℕ) (e : k ≡ blockRefusal true l g) (z : k ≡ 0) (h f : ℕ) (x : File)
     (here : x ≡ theFile (boardOf l .files) (fileNumber h f)) where
   pub pageRead-done : (a : ℕ) → isFile h f ≡ true → isPageAddress a ≡ true → (v : ℕ) → v ≡ pageRead x a
-      → Gives (outcome (PageRead h f a) l g) (Done v 0) l g
+      → Does (PageRead h f a) l g (Done v 0) l g
   pageRead-done a there at v p =
       tests-done (tests-pageRead h f a) l g k e z there at refl (boardOf l) (pageRead x a)
       (step-pageRead (boardOf l) (checked-sound l g k e z) h f x here a) v p l (checked-long l g k e z) refl
 
   pub top-done : isFile h f ≡ true → (v : ℕ) → v ≡ topOf identities x
-      → Gives (outcome (Top h f) l g) (Done v 0) l g
+      → Does (Top h f) l g (Done v 0) l g
   top-done there v p =
       tests-done (tests-top h f) l g k e z there refl refl (boardOf l) (topOf identities x)
       (step-top (boardOf l) (checked-sound l g k e z) h f x here) v p l (checked-long l g k e z) refl
@@ -157,7 +160,7 @@ module _ (l g : List ℕ) (k : ℕ) (e : k ≡ blockRefusal true l g) (z : k ≡
     only q = stored ∙ ap (onlyFile (boardOf l) (fileNumber h f)) q
 
     pub pageWrite-done : (a v : ℕ) → isFile h f ≡ true → isPageAddress a ≡ true
-        → y ≡ pageWritten identities x a v → Gives (outcome (PageWrite h f a v) l g) (Done 0 0) l′ g
+        → y ≡ pageWritten identities x a v → Does (PageWrite h f a v) l g (Done 0 0) l′ g
     pageWrite-done a v there at q =
         tests-done (tests-pageWrite h f a v) l g k e z there at refl _ 0
         (step-pageWrite (boardOf l) (checked-sound l g k e z) h f x here a v) 0 refl l′ long (only q)
@@ -165,13 +168,13 @@ module _ (l g : List ℕ) (k : ℕ) (e : k ≡ blockRefusal true l g) (z : k ≡
     pub register-done : (kind s v : ℕ) → (isFile h f && ltb kind 4) ≡ true → selectLegal s ≡ true
         → (r : Accessed) → r ≡ accessed identities (isGuest (fileNumber h f)) x (kindOf kind) s v
         → y ≡ r .file → (u : ℕ) → u ≡ valueOf (r .answer)
-        → Gives (outcome (Register h f kind s v) l g) (Done u 0) l′ g
+        → Does (Register h f kind s v) l g (Done u 0) l′ g
     register-done kind s v there legal r did q u p =
         tests-done (tests-register h f kind s v) l g k e z there refl legal _ _
         (step-register (boardOf l) (checked-sound l g k e z) h f x here kind s v r did) u p l′ long (only q)
 
     pub claim-done : isFile h f ≡ true → y ≡ claimed identities x → (v : ℕ) → v ≡ topOf identities x
-        → Gives (outcome (Claim h f) l g) (Done v 0) l′ g
+        → Does (Claim h f) l g (Done v 0) l′ g
     claim-done there q v p =
         tests-done (tests-claim h f) l g k e z there refl refl _ (topOf identities x)
         (step-claim (boardOf l) (checked-sound l g k e z) h f x here) v p l′ long (only q)

@@ -32,15 +32,16 @@ pub answer-one : (r s : Answer) → numberOf r ≡ numberOf s → valueOf r ≡ 
 answer-one r s a v n = sym (told-back r) ∙ (λ k. told (a k) (v k) (n k)) ∙ told-back s
 
 -- two results that one outcome allows are equal
-pub gives-one : (o : Outcome) (r s : Answer) (l m g h : List ℕ) → Gives o r l g → Gives o s m h
-    → (r ≡ s) × (l ≡ m) × (g ≡ h)
-gives-one o r s l m g h a b = (
+pub gives-one : (o : Outcome) (r s : Answer) (l m g h u v : List ℕ) → Gives o r l g u → Gives o s m h v
+    → (r ≡ s) × (l ≡ m) × (g ≡ h) × (u ≡ v)
+gives-one o r s l m g h u v a b = (
   answer-one r s (a .number ∙ sym (b .number)) (a .value ∙ sym (b .value)) (a .count ∙ sym (b .count)),
   a .block ∙ sym (b .block),
   a .log ∙ sym (b .log),
+  a .saved ∙ sym (b .saved),
 )
 
 -- what an equal call gives
-pub gives-of : {c d : Call} → c ≡ d → (l g m h : List ℕ) (r : Answer) → Gives (outcome c l g) r m h
-    → Gives (outcome d l g) r m h
-gives-of e l g m h r = subst (λ (x : Call). Gives (outcome x l g) r m h) e
+pub gives-of : {c d : Call} → c ≡ d → (l g u m h v : List ℕ) (r : Answer) → Gives (outcome c l g u) r m h v
+    → Gives (outcome d l g u) r m h v
+gives-of e l g u m h v r = subst (λ (x : Call). Gives (outcome x l g u) r m h v) e

@@ -1,15 +1,19 @@
 -- What a reset and the signals of a hart test, do and give, and the signals file by file. No contract cites
 -- this file. Assumes nothing.
-use Prim.Native.Nat.{ℕ, _+_, _≤_, _<_}
+use Prim.Native.Nat.{ℕ, zero, suc, _+_, _≤_, _<_}
 use mathlib.Core.Path.{_≡_, refl, sym, ap, _∙_}
 use mathlib.Core.Bool.{Bool, true, false}
 use mathlib.Core.List.{List}
 use mathlib.Core.Logic.{_≢_}
+use native.Mathlib.Decide.{ℕ-discrete}
 use native.Mathlib.Numerals.{add-one}
+use native.Mathlib.Omega.{arith}
 use lib.Dec.{eqb, ltb}
 use lib.ListN.{length, take, drop}
 use borrow.Author.Tests.{lt-ltb, le-ltb, eq-eqb, ne-eqb}
-use Rattle.words.specs.Bits.{putBit}
+use Rattle.words.specs.Bits.{hasBit, putBit}
+use Rattle.words.proofs.BitsLaws.{hasBit-putBit-same, hasBit-putBit-other}
+use Rattle.words.proofs.TestsLaws.{tested}
 use Rattle.select.specs.Size.{identities}
 use Rattle.file.specs.declared.File.{File}
 use Rattle.file.specs.Top.{signals}
@@ -26,7 +30,7 @@ use Rattle.call.specs.declared.Call.the-variants.{Reset, Signals}
 use Rattle.call.specs.Answer.{refusalCase}
 use Rattle.call.specs.Change.{signalAt, signalsTo, change}
 use Rattle.call.specs.Refusal.{testsRules, named, addressed, selected, blockRefusal, nameRefusal}
-use Rattle.call.specs.Outcome.{step, outcome, Gives}
+use Rattle.call.specs.Outcome.{step, Does}
 use Rattle.call.proofs.RefusalLaws.{passed-state, numbers-name}
 use Rattle.call_laws.proofs.OutcomeEffects.{gives-blocks, gives-done}
 use Rattle.call_laws.proofs.StepEffects.{step-answering, step-reset}
@@ -34,16 +38,16 @@ use Rattle.call_laws.proofs.CallTests.{Tests, quiet, checked-long, chec
 
 -- ---- a reset; k is what the test of the lengths answered
 
-reset-names : nameRefusal Reset ≡ 0
+reset-names : (b : Board) → nameRefusal Reset b ≡ 0
 unfolding named addressed selected
-reset-names = numbers-name Reset refl refl refl
+reset-names b = numbers-name Reset b refl refl refl
 
 module _ (l g : List ℕ) (k : ℕ) (e : k ≡ blockRefusal false l g) where
   untested : k ≡ blockRefusal (testsRules Reset) l g
   unfolding testsRules
   untested = e
 
-  pub reset-blocks : k ≢ 0 → (r : Answer) → r ≡ refusalCase k → Gives (outcome Reset l g) r l g
+  pub reset-blocks : k ≢ 0 → (r : Answer) → r ≡ refusalCase k → Does Reset l g r l g
   reset-blocks = gives-blocks Reset l g k untested
 
   module _ (z : k ≡ 0) where
@@ -51,10 +55,10 @@ module _ (l g : List ℕ) (k : ℕ) (e : k ≡ blockRefusal false l g) where
     reset-long = passed-state false l g (sym e ∙ z)
 
     pub reset-done : (l′ : List ℕ) → length l′ ≡ length l → boardOf l′ ≡ startBoard
-        → Gives (outcome Reset l g) (Done 0 0) l′ g
-    reset-done l′ kept board =
-        gives-done Reset l g k untested z reset-names (quiet startBoard 0) (step-reset (boardOf l)) 0 0 refl
-        refl l′ g (kept ∙ reset-long) board (sym (logged-none g))
+        → Does Reset l g (Done 0 0) l′ g
+    reset-done l′ kept board u =
+        gives-done Reset l g k untested z (reset-names (boardOf l)) u (quiet startBoard 0 u)
+        (step-reset (boardOf l) u) 0 0 refl refl l′ g u (kept ∙ reset-long) board (sym (logged-none g)) refl
 
 -- ---- the signal of file f of hart h, where x is that file
 
@@ -93,19 +97,40 @@ module _ (b : Board) (h : ℕ) where
   unfolding signalsTo
   signals-next n = rw add-one
 
+-- bit f of the signals is the signal of file f
+pub signal-bit : (b : Board) (h n f : ℕ) → f < n → hasBit (signalsTo b h n) f ≡ signalAt b h f
+unfolding signalsTo
+signal-bit b h zero f l = absurd (omega arith)
+signal-bit b h (suc n) f l = at (ℕ-discrete f n) (signal-bit b h n f)
+  where
+    at : Dec (f ≡ n) → (f < n → hasBit (signalsTo b h n) f ≡ signalAt b h f)
+        → hasBit (signalsTo b h (suc n)) f ≡ signalAt b h f
+    at (yes e) lower =
+        ap (hasBit (signalsTo b h (suc n))) e ∙ hasBit-putBit-same (signalsTo b h n) n (signalAt b h n)
+        ∙ ap (signalAt b h) (sym e)
+    at (no d) lower = hasBit-putBit-other (signalsTo b h n) n (signalAt b h n) f d ∙ lower (omega arith)
+
+-- a guest's file signals by itself alone
+pub signal-guest-own : (b : Board) (h f : ℕ) → 2 ≤ f
+    → signalAt b h f ≡ signals identities (theFile (b .files) (fileNumber h f))
+signal-guest-own b h f l =
+    let x = theFile (b .files) (fileNumber h f) in
+    tested (signals identities x) (λ t. signal-own b h f x refl t ∙ sym t)
+    (λ u. signal-guest b h f x refl u l ∙ sym u)
+
 -- ---- the signals of a hart; k is what the test of the blocks answered
 
-pub tests-signals : (h : ℕ) → Tests (Signals h) (ltb h 4) true true
+pub tests-signals : (h : ℕ) → Tests (Signals h) (λ b. ltb h 4) true true
 unfolding testsRules named addressed selected
-tests-signals h = record { rules = refl; names = refl; addresses = refl; selects = refl }
+tests-signals h = record { rules = refl; names = λ b. refl; addresses = refl; selects = refl }
 
-step-signals : (b : Board) → boardSound b ≡ true → (h : ℕ)
-    → step (Signals h) b ≡ quiet b (signalsTo b h 5)
+step-signals : (b : Board) → boardSound b ≡ true → (h : ℕ) (u : List ℕ)
+    → step (Signals h) b u ≡ quiet b (signalsTo b h 5) u
 unfolding step change
-step-signals b sound h = step-answering b sound _
+step-signals b sound h u = step-answering b sound _ u
 
 pub signals-done : (l g : List ℕ) (k : ℕ) (e : k ≡ blockRefusal true l g) (z : k ≡ 0) (h : ℕ) → h < 4
-    → (v : ℕ) → v ≡ signalsTo (boardOf l) h 5 → Gives (outcome (Signals h) l g) (Done v 0) l g
+    → (v : ℕ) → v ≡ signalsTo (boardOf l) h 5 → Does (Signals h) l g (Done v 0) l g
 signals-done l g k e z h there v p =
     tests-done (tests-signals h) l g k e z (lt-ltb h 4 there) refl refl (boardOf l)
     (signalsTo (boardOf l) h 5) (step-signals (boardOf l) (checked-sound l g k e z) h) v p l

@@ -1,167 +1,172 @@
--- An accepted call on a board that keeps the state rules leaves one that keeps them, and sends 63 messages at
--- most. No contract cites this file. Assumes nothing.
+-- An accepted call on a board that is fit leaves one that is, and sends 63 messages at most: so the next call
+-- can be made on what it leaves. No contract cites this file. Assumes nothing.
 use Prim.Native.Nat.{ℕ, _^_, _≤_, _<_}
 use mathlib.Core.Path.{_≡_, sym, ap, subst}
 use mathlib.Core.Bool.{true}
+use mathlib.Core.List.{List}
 use native.Mathlib.Omega.{arith}
 use lib.Dec.{eqb, ltb}
 use lib.ListN.{length}
-use Rattle.words.proofs.TestsLaws.{and-first, and-both}
+use Rattle.words.proofs.TestsLaws.{and-first}
 use Rattle.select.specs.Size.{identities}
 use Rattle.file.specs.declared.File.{File}
 use Rattle.file.specs.Page.{pageWritten}
 use Rattle.file.specs.Register.{accessed}
-use Rattle.file.specs.Rules.{fileSound}
 use Rattle.file.specs.Shape.{Shaped}
 use Rattle.file.specs.Top.{claimed}
-use Rattle.file_laws.proofs.Keeps.{rules-of, sound-of, page-rules, claimed-rules, accessed-rules}
-use Rattle.files.specs.Files.{fileNumber, isGuest, theFile, withFile, filesSound, allReached}
-use Rattle.files_laws.proofs.Keeps.{filesSound-1, allReached-sound, withFile-sound}
+use Rattle.file_laws.proofs.Keeps.{Rules, page-shaped, page-rules, claimed-shaped, claimed-rules}
+use Rattle.file_laws.proofs.Keeps.{accessed-shaped, accessed-rules}
+use Rattle.files.specs.Files.{fileNumber, isGuest, theFile}
 use Rattle.region.specs.Region.{wordAt}
 use Rattle.region.proofs.RegionLaws.{word-within}
-use Rattle.wired.specs.Wired.{readIn}
-use Rattle.rules.specs.Rules.{wiredSound}
+use Rattle.domain.specs.Domain.{byMessages}
+use Rattle.wired.specs.Wired.{Wired}
 use Rattle.rules_laws.specs.Steady.{WiredSteady}
-use Rattle.rules_laws.proofs.SoundParts.{wired-sound-steady}
-use Rattle.controller.specs.Controller.{Out, wireCall, readCall, writeCall}
+use Rattle.rules_laws.proofs.WiredEffects.{steady-wireSet, steady-claimedIn}
+use Rattle.rules_laws.proofs.DelegationEffects.{steady-writtenIn}
+use Rattle.rules.specs.Rules.{wiredSound}
+use Rattle.controller.specs.Controller.{Out, flushed, wireCall, readCall, writeCall}
 use Rattle.controller_laws.proofs.OutEffects.{wire-sound, read-sound, write-sound, wire-count, write-count}
 use Rattle.controller.proofs.CallLaws.{read-silent}
-use Rattle.block.specs.Block.{Board, boardSound}
-use Rattle.block_laws.specs.Shape.{BoardShaped}
-use Rattle.block_laws.proofs.StartEffects.{start-sound}
+use Rattle.transfer_steps.specs.Steps.{actOf}
+use Rattle.transfer_files.proofs.TableLaws.{act-within}
+use Rattle.block.specs.Block.{Board}
 use Rattle.call.specs.declared.Call.{Call}
 use Rattle.call.specs.declared.Call.the-variants as call
 use Rattle.call.specs.Change.{kindOf, onFile, answering, change}
-use Rattle.call.specs.Refusal.{isWire, isFile, named}
-use Rattle.call_laws.specs.Small.{Small}
+use Rattle.call.specs.Refusal.{isWire, isFile, isMove, named}
 use Rattle.call.specs.Outcome.{Stepped, settled, step}
-use Rattle.call_laws.proofs.StepEffects.{sound-files, sound-wired, sound-quiet, wiredStep, step-wire}
-use Rattle.call_laws.proofs.StepEffects.{step-domainRead, step-domainWrite, step-onFile}
-use Rattle.call_laws.proofs.StepEffects.{step-answering}
-use Rattle.call_laws.proofs.StepEffects.{step-reset}
+use Rattle.call_laws.specs.Small.{Small}
+use Rattle.call_laws.specs.Fit.{Fit, SavedFit, Kept}
+use Rattle.call_laws.proofs.StepEffects.{sound-quiet, wiredStep, step-wire, step-domainRead}
+use Rattle.call_laws.proofs.StepEffects.{step-domainWrite, step-onFile, step-answering, step-reset}
 use Rattle.call_laws.proofs.FileCallEffects.{number-read, number-lt}
 use Rattle.call_laws.proofs.WiredCallEffects.{wire-low, wire-high}
+use Rattle.call_laws.proofs.FitEffects.{fit-start, fit-steady, fit-rules, fit-withFile, fit-flushed}
+use Rattle.call_laws.proofs.MoveEffects.{move-old, move-new, move-low, move-high, acted-fit}
+use Rattle.call_laws.proofs.MoveEffects.{acted-saved}
+use Rattle.call_laws.proofs.MoveEffects.{step-move}
 
--- what a call leaves: the rules kept, and room in the log
-abbrev pub Keeps : Stepped → Type 0
-Keeps s = (boardSound (s .board) ≡ true) × (length (s .messages) ≤ 63)
+kept-of : {x y : Stepped} → x ≡ y → Kept y → Kept x
+kept-of e = subst Kept (sym e)
 
-keeps-of : {s t : Stepped} → s ≡ t → Keeps t → Keeps s
-keeps-of e = subst Keeps (sym e)
+module _ (b : Board) (fit : Fit b) (s : List ℕ) (small : SavedFit s) where
+  pub kept-reset : Kept (step call.Reset b s)
+  kept-reset = kept-of (step-reset b s) record { fit = fit-start; few = omega arith; saved = small }
 
-pub keeps-reset : (b : Board) → Keeps (step call.Reset b)
-keeps-reset b = keeps-of (step-reset b) (start-sound, omega arith)
-
-module _ (b : Board) (sound : boardSound b ≡ true) where
   -- ---- a call that changes nothing, or one file
 
-  pub keeps-answering : (v : ℕ) → Keeps (settled (answering b v))
-  keeps-answering v = keeps-of (step-answering b sound v) (sound, omega arith)
+  pub kept-answering : (v : ℕ) → Kept (settled (answering b v s))
+  kept-answering v =
+      kept-of (step-answering b (fit .sound) v s) record { fit = fit; few = omega arith; saved = small }
 
-  pub keeps-onFile : (k : ℕ) (f : File) (v : ℕ) → fileSound identities (isGuest k) f ≡ true
-      → Keeps (settled (onFile b k f v))
-  unfolding boardSound
-  keeps-onFile k f v e =
-      keeps-of (step-onFile b sound k f v) (
-        and-both (filesSound (withFile (b .files) k f)) (wiredSound (b .wired))
-            (withFile-sound (b .files) k f e (sound-files b sound)) (sound-wired b sound),
-        omega arith,
-      )
+  kept-onFile : (k : ℕ) (f : File) (v : ℕ) → Shaped f → Rules identities (isGuest k) f
+      → Kept (settled (onFile b k f v s))
+  kept-onFile k f v shaped rules =
+      kept-of (step-onFile b (fit .sound) k f v s)
+      record { fit = fit-withFile b fit k f shaped rules; few = omega arith; saved = small }
 
   module _ (h f : ℕ) (there : isFile h f ≡ true) where
     abbrev k : ℕ
     k = fileNumber h f
 
-    number-below : k < 20
-    number-below = omega (arith, number-read h f, number-lt h f there)
+    abbrev x : File
+    x = theFile (b .files) k
 
-    own-sound : fileSound identities (isGuest k) (theFile (b .files) k) ≡ true
-    own-sound = filesSound-1 (b .files) (sound-files b sound) k number-below
+    below : k < 20
+    below = omega (arith, number-read h f, number-lt h f there)
 
-    pub keeps-pageWrite : (a v : ℕ) → Keeps (step (call.PageWrite h f a v) b)
+    pub kept-pageWrite : (a v : ℕ) → Kept (step (call.PageWrite h f a v) b s)
     unfolding step change
-    keeps-pageWrite a v =
-        let x = theFile (b .files) k in
-        keeps-onFile k (pageWritten identities x a v) 0
-        (sound-of identities (isGuest k) (pageWritten identities x a v)
-        (page-rules identities x a v (isGuest k) (rules-of identities (isGuest k) x own-sound)))
+    kept-pageWrite a v =
+        kept-onFile k (pageWritten identities x a v) 0
+        (page-shaped identities x a v (fit .files k below))
+        (page-rules identities x a v (isGuest k) (fit-rules b fit k below))
 
-    pub keeps-claim : Keeps (step (call.Claim h f) b)
+    pub kept-claim : Kept (step (call.Claim h f) b s)
     unfolding step change
-    keeps-claim =
-        let x = theFile (b .files) k in
-        keeps-onFile k (claimed identities x) _
-        (sound-of identities (isGuest k) (claimed identities x)
-        (claimed-rules identities x (isGuest k) (rules-of identities (isGuest k) x own-sound)))
+    kept-claim =
+        kept-onFile k (claimed identities x) _ (claimed-shaped identities x (fit .files k below))
+        (claimed-rules identities x (isGuest k) (fit-rules b fit k below))
 
-    pub keeps-register : Shaped (theFile (b .files) k) → (kind s v : ℕ) → v < 2 ^ 64
-        → Keeps (step (call.Register h f kind s v) b)
+    pub kept-register : (kind r v : ℕ) → v < 2 ^ 64 → Kept (step (call.Register h f kind r v) b s)
     unfolding step change
-    keeps-register fits kind s v small =
-        let x = theFile (b .files) k in
-        let y = accessed identities (isGuest k) x (kindOf kind) s v .file in
-        keeps-onFile k y _
-        (sound-of identities (isGuest k) y
-        (accessed-rules identities (isGuest k) x v (omega arith) small fits (kindOf kind) s
-        (rules-of identities (isGuest k) x own-sound)))
+    kept-register kind r v fits =
+        let here = fit .files k below in
+        kept-onFile k (accessed identities (isGuest k) x (kindOf kind) r v .file) _
+        (accessed-shaped identities (isGuest k) x v (omega arith) fits here (kindOf kind) r)
+        (accessed-rules identities (isGuest k) x v (omega arith) fits here (kindOf kind) r
+        (fit-rules b fit k below))
 
--- ---- a call on the wired controller
+  -- ---- a call on the wired controller
 
-module _ (b : Board) (shaped : BoardShaped b) (sound : boardSound b ≡ true) where
-  steady : WiredSteady (b .wired)
-  steady =
-      wired-sound-steady (b .wired) (sound-wired b sound) (shaped .wires) (shaped .root) (shaped .child)
+  abbrev steady : WiredSteady (b .wired)
+  steady = fit-steady b fit
 
-  keeps-wired : (o : Out) (v : ℕ) → wiredSound (o .wired) ≡ true → length (o .messages) ≤ 63
-      → Keeps (wiredStep b o v)
-  unfolding boardSound
-  keeps-wired o v e n = (
-    and-both (filesSound (allReached (b .files) (o .messages))) (wiredSound (o .wired))
-        (allReached-sound (o .messages) (b .files) (sound-files b sound)) e,
-    n,
-  )
+  -- w is what the call made of the controller before anything was sent
+  kept-wired : (w : Wired) → WiredSteady w → (ms : List ℕ) (v : ℕ) → wiredSound (flushed w .wired) ≡ true
+      → length ms ≤ 63 → Kept (wiredStep b (record { wired = flushed w .wired; messages = ms }) v s)
+  kept-wired w t ms v sound n =
+      record { fit = fit-flushed b fit w t ms sound; few = n; saved = small }
 
-  pub keeps-wire : (i level : ℕ) → isWire i level ≡ true → Keeps (step (call.Wire i level) b)
-  keeps-wire i level there =
+  pub kept-wire : (i level : ℕ) → isWire i level ≡ true → Kept (step (call.Wire i level) b s)
+  unfolding wireCall
+  kept-wire i level there =
       let low = wire-low i level there in
       let high = wire-high i level there in
-      keeps-of (step-wire b i level)
-      (keeps-wired (wireCall (b .wired) i (eqb level 1)) 0
+      kept-of (step-wire b i level s)
+      (kept-wired _ (steady-wireSet (b .wired) steady i low high (eqb level 1)) _ 0
       (wire-sound (b .wired) steady i low high (eqb level 1))
-      (wire-count (b .wired) steady (sound-quiet b sound) i low high (eqb level 1)))
+      (wire-count (b .wired) steady (sound-quiet b (fit .sound)) i low high (eqb level 1)))
 
-  pub keeps-domainRead : (d a : ℕ) → Keeps (step (call.DomainRead d a) b)
-  keeps-domainRead d a =
+  pub kept-domainRead : (d a : ℕ) → Kept (step (call.DomainRead d a) b s)
+  unfolding readCall
+  kept-domainRead d a =
       let c = eqb d 1 in
-      let silent = read-silent (b .wired) steady (sound-quiet b sound) c (wordAt a) in
-      keeps-of (step-domainRead b d a)
-      (keeps-wired (readCall (b .wired) c (wordAt a)) (readIn (b .wired) c (wordAt a))
+      let silent = read-silent (b .wired) steady (sound-quiet b (fit .sound)) c (wordAt a) in
+      kept-of (step-domainRead b d a s)
+      (kept-wired _ (steady-claimedIn (b .wired) steady c (wordAt a)) _ _
       (read-sound (b .wired) steady c (wordAt a))
       (omega (arith, ap (λ (o : Out). length (o .messages)) silent)))
 
-  pub keeps-domainWrite : (d a v : ℕ) → Keeps (step (call.DomainWrite d a v) b)
-  keeps-domainWrite d a v =
+  pub kept-domainWrite : (d a v : ℕ) → Kept (step (call.DomainWrite d a v) b s)
+  unfolding writeCall
+  kept-domainWrite d a v =
       let c = eqb d 1 in
-      keeps-of (step-domainWrite b d a v)
-      (keeps-wired (writeCall (b .wired) c (wordAt a) v) 0
+      kept-of (step-domainWrite b d a v s)
+      (kept-wired _ (steady-writtenIn (b .wired) steady c (wordAt a) (word-within a) v) _ 0
       (write-sound (b .wired) steady c (wordAt a) (word-within a) v)
-      (write-count (b .wired) steady (sound-quiet b sound) c (wordAt a) (word-within a) v))
+      (write-count (b .wired) steady (sound-quiet b (fit .sound)) c (wordAt a) (word-within a) v))
 
--- ---- every call
+  -- ---- an access of a move
 
-module _ (b : Board) (shaped : BoardShaped b) (sound : boardSound b ≡ true)
-    (fits : (k : ℕ) → k < 20 → Shaped (theFile (b .files) k)) where
-  pub keeps-step : (c : Call) → named c ≡ true → Small c → Keeps (step c b)
+  pub kept-move : (oh of nh nf n : ℕ) → isMove oh of nh nf n ≡ true
+      → Kept (step (call.Move oh of nh nf n) b s)
+  kept-move oh of nh nf n there =
+      let old = move-old oh of nh nf n there in
+      let new = move-new oh of nh nf n there in
+      let within = act-within n (move-low oh of nh nf n there) (move-high oh of nh nf n there) in
+      kept-of (step-move b fit oh of nh nf n there s)
+      record {
+        fit = acted-fit b fit oh of nh nf old new s small (actOf n) within;
+        few = omega arith;
+        saved = acted-saved b fit oh of nh nf old new s small (actOf n);
+      }
+
+  -- ---- every call
+
+  pub kept-step : (c : Call) → named c b ≡ true → Small c → Kept (step c b s)
   unfolding named step change
-  keeps-step call.Reset n s = keeps-reset b
-  keeps-step (call.Wire i level) n s = keeps-wire b shaped sound i level n
-  keeps-step (call.DomainRead d a) n s = keeps-domainRead b shaped sound d a
-  keeps-step (call.DomainWrite d a v) n s = keeps-domainWrite b shaped sound d a v
-  keeps-step (call.PageRead h f a) n s = keeps-answering b sound _
-  keeps-step (call.PageWrite h f a v) n s = keeps-pageWrite b sound h f n a v
-  keeps-step (call.Register h f kind x v) n s =
-      let there = and-first (isFile h f) (ltb kind 4) n in
-      keeps-register b sound h f there (fits (fileNumber h f) (number-below b sound h f there)) kind x v s
-  keeps-step (call.Top h f) n s = keeps-answering b sound _
-  keeps-step (call.Claim h f) n s = keeps-claim b sound h f n
-  keeps-step (call.Signals h) n s = keeps-answering b sound _
+  kept-step call.Reset n t = kept-reset
+  kept-step (call.Wire i level) n t = kept-wire i level n
+  kept-step (call.DomainRead d a) n t = kept-domainRead d a
+  kept-step (call.DomainWrite d a v) n t = kept-domainWrite d a v
+  kept-step (call.PageRead h f a) n t = kept-answering _
+  kept-step (call.PageWrite h f a v) n t = kept-pageWrite h f n a v
+  kept-step (call.Register h f kind x v) n t =
+      kept-register h f (and-first (isFile h f) (ltb kind 4) n) kind x v t
+  kept-step (call.Top h f) n t = kept-answering _
+  kept-step (call.Claim h f) n t = kept-claim h f n
+  kept-step (call.Signals h) n t = kept-answering _
+  kept-step (call.Move oh of nh nf k) n t =
+      kept-move oh of nh nf k (and-first (isMove oh of nh nf k) (byMessages (b .wired .child)) n)

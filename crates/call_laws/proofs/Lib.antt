@@ -3,6 +3,9 @@ pub mod OutcomeEffects
 pub mod StepEffects
 pub mod WiredCallEffects
 pub mod GivesEffects
+pub mod FitEffects
+pub mod MoveEffects
+pub mod MoveCallEffects
 pub mod KeepsEffects
 pub mod CallTests
 pub mod FileCallEffects

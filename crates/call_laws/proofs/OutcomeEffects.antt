@@ -9,7 +9,7 @@ use native.Mathlib.Omega.{arith}
 use lib.ListN.{length}
 use borrow.Author.Tests.{eq-eqb, ne-eqb}
 use Rattle.sending.specs.Sending.{logged}
-use Rattle.block.specs.Block.{boardOf, blockOf}
+use Rattle.block.specs.Block.{Board, boardOf, blockOf}
 use Rattle.block_laws.proofs.BlockBack.{block-back}
 use Rattle.call.specs.declared.Answer.{Answer}
 use Rattle.call.specs.declared.Answer.the-variants.{Done, NoSuch, BadAddress, IllegalSelect}
@@ -17,26 +17,28 @@ use Rattle.call.specs.declared.Call.{Call}
 use Rattle.call.specs.Answer.{numberOf, valueOf, countOf, refusalCase}
 use Rattle.call.specs.Refusal.{testsRules, named, addressed, selected, blockRefusal, nameRefusal}
 use Rattle.call.specs.Refusal.{refusalOf}
-use Rattle.call.specs.Outcome.{Stepped, step, Outcome, refusedAs, doneAs, outcome, Gives}
+use Rattle.call.specs.Outcome.{Stepped, step, Outcome, refusedAs, doneAs, outcome, Gives, Does}
 use Rattle.call.proofs.RefusalLaws.{refused-blocks, refused-numbers, refused-name, refused-address}
 use Rattle.call.proofs.RefusalLaws.{refused-select, block-le}
 
 module _ (c : Call) (l g : List ℕ) where
-  outcome-refused : (k : ℕ) → refusalOf c l g ≡ k → k ≢ 0 → outcome c l g ≡ refusedAs k l g
+  pub outcome-refused : (s : List ℕ) (k : ℕ) → refusalOf c l g ≡ k → k ≢ 0
+      → outcome c l g s ≡ refusedAs k l g s
   unfolding outcome
-  outcome-refused k e h =
-      simp (ne-eqb (refusalOf c l g) 0 (λ z. h (sym e ∙ z))) (ap (λ (n : ℕ). refusedAs n l g) e)
+  outcome-refused s k e h =
+      simp (ne-eqb (refusalOf c l g) 0 (λ z. h (sym e ∙ z))) (ap (λ (n : ℕ). refusedAs n l g s) e)
 
-  outcome-done : refusalOf c l g ≡ 0 → outcome c l g ≡ doneAs (step c (boardOf l)) g
+  pub outcome-done : (s : List ℕ) → refusalOf c l g ≡ 0
+      → outcome c l g s ≡ doneAs (step c (boardOf l) s) g
   unfolding outcome
-  outcome-done e = simp (eq-eqb (refusalOf c l g) 0 e)
+  outcome-done s e = simp (eq-eqb (refusalOf c l g) 0 e)
 
   -- an answer with the refusal's number, and 0 and 0
   gives-number : (k : ℕ) → refusalOf c l g ≡ k → k ≢ 0 → (r : Answer) → numberOf r ≡ k → valueOf r ≡ 0
-      → countOf r ≡ 0 → Gives (outcome c l g) r l g
-  gives-number k e h r a v n =
-      subst (λ (o : Outcome). Gives o r l g) (sym (outcome-refused k e h))
-      record { number = a; value = v; count = n; block = refl; log = refl }
+      → countOf r ≡ 0 → Does c l g r l g
+  gives-number k e h r a v n s =
+      subst (λ (o : Outcome). Gives o r l g s) (sym (outcome-refused s k e h))
+      record { number = a; value = v; count = n; block = refl; log = refl; saved = refl }
 
 refusal-number : (k : ℕ) → 1 ≤ k → k ≤ 6
     → (numberOf (refusalCase k) ≡ k) × (valueOf (refusalCase k) ≡ 0) × (countOf (refusalCase k) ≡ 0)
@@ -53,40 +55,45 @@ refusal-number (suc (suc (suc (suc (suc (suc (suc k))))))) a b = absurd (omega a
 -- ---- what each test gives; k is what the test of the blocks answered
 
 module _ (c : Call) (l g : List ℕ) (k : ℕ) (e : k ≡ blockRefusal (testsRules c) l g) where
-  pub gives-blocks : k ≢ 0 → (r : Answer) → r ≡ refusalCase k → Gives (outcome c l g) r l g
+  pub gives-blocks : k ≢ 0 → (r : Answer) → r ≡ refusalCase k → Does c l g r l g
   gives-blocks h r q =
       let parts = refusal-number k (omega (arith, h)) (omega (arith, e, block-le (testsRules c) l g)) in
       gives-number c l g k (refused-blocks c l g k e h) h r (ap numberOf q ∙ parts .0)
       (ap valueOf q ∙ parts .1) (ap countOf q ∙ parts .2)
 
   module _ (z : k ≡ 0) where
-    pub gives-name : named c ≡ false → Gives (outcome c l g) NoSuch l g
+    abbrev b : Board
+    b = boardOf l
+
+    pub gives-name : named c b ≡ false → Does c l g NoSuch l g
     gives-name n =
-        gives-number c l g 4 (refused-numbers c l g k e z ∙ refused-name c n) (λ q. omega arith) NoSuch
+        gives-number c l g 4 (refused-numbers c l g k e z ∙ refused-name c b n) (λ q. omega arith) NoSuch
         refl refl refl
 
-    pub gives-address : named c ≡ true → addressed c ≡ false → Gives (outcome c l g) BadAddress l g
+    pub gives-address : named c b ≡ true → addressed c ≡ false → Does c l g BadAddress l g
     gives-address n a =
-        gives-number c l g 5 (refused-numbers c l g k e z ∙ refused-address c n a) (λ q. omega arith)
+        gives-number c l g 5 (refused-numbers c l g k e z ∙ refused-address c b n a) (λ q. omega arith)
         BadAddress refl refl refl
 
-    pub gives-select : named c ≡ true → addressed c ≡ true → selected c ≡ false
-        → Gives (outcome c l g) IllegalSelect l g
+    pub gives-select : named c b ≡ true → addressed c ≡ true → selected c ≡ false
+        → Does c l g IllegalSelect l g
     gives-select n a s =
-        gives-number c l g 6 (refused-numbers c l g k e z ∙ refused-select c n a s) (λ q. omega arith)
+        gives-number c l g 6 (refused-numbers c l g k e z ∙ refused-select c b n a s) (λ q. omega arith)
         IllegalSelect refl refl refl
 
     -- an accepted call, from what its code left
-    pub gives-done : nameRefusal c ≡ 0 → (s : Stepped) → step c (boardOf l) ≡ s
-        → (v n : ℕ) → v ≡ s .value → n ≡ length (s .messages) → (l′ g′ : List ℕ) → length l′ ≡ 650
-        → boardOf l′ ≡ s .board → g′ ≡ logged g (s .messages) → Gives (outcome c l g) (Done v n) l′ g′
-    gives-done a s q v n ev en l′ g′ long board log =
-        subst (λ (o : Outcome). Gives o (Done v n) l′ g′)
-        (sym (outcome-done c l g (refused-numbers c l g k e z ∙ a) ∙ ap (λ (x : Stepped). doneAs x g) q))
+    pub gives-done : nameRefusal c b ≡ 0 → (s : List ℕ) (x : Stepped) → step c b s ≡ x
+        → (v n : ℕ) → v ≡ x .value → n ≡ length (x .messages) → (l′ g′ s′ : List ℕ) → length l′ ≡ 650
+        → boardOf l′ ≡ x .board → g′ ≡ logged g (x .messages) → s′ ≡ x .saved
+        → Gives (outcome c l g s) (Done v n) l′ g′ s′
+    gives-done a s x q v n ev en l′ g′ s′ long board log kept =
+        subst (λ (o : Outcome). Gives o (Done v n) l′ g′ s′)
+        (sym (outcome-done c l g s (refused-numbers c l g k e z ∙ a) ∙ ap (λ (y : Stepped). doneAs y g) q))
         record {
           number = refl;
           value = ev;
           count = en;
           block = sym (block-back l′ long) ∙ ap blockOf board;
           log = log;
+          saved = kept;
         }

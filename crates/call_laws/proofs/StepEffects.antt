@@ -2,13 +2,13 @@
 -- messages at their files; one on a file or on nothing sends nothing. No contract cites this file. Assumes
 -- nothing.
 use Prim.Native.Nat.{ℕ}
-use mathlib.Core.Path.{_≡_, refl}
+use mathlib.Core.Path.{_≡_, refl, ap, _∙_}
 use mathlib.Core.Bool.{true}
-use mathlib.Core.List.{[]}
+use mathlib.Core.List.{List, [], _∷_}
 use lib.Dec.{eqb}
 use Rattle.words.proofs.TestsLaws.{and-first, and-second}
 use Rattle.file.specs.declared.File.{File}
-use Rattle.files.specs.Files.{filesSound, allReached}
+use Rattle.files.specs.Files.{filesSound, reached, allReached}
 use Rattle.region.specs.Region.{wordAt}
 use Rattle.wired.specs.Wired.{readIn}
 use Rattle.rules.specs.Rules.{wiredSound}
@@ -40,48 +40,72 @@ module _ (b : Board) (sound : boardSound b ≡ true) where
 -- ---- a call on the wired controller
 
 -- what it does to the board, if it does o to the wired controller and answers v
-abbrev pub wiredStep : Board → Out → ℕ → Stepped
-wiredStep b o v =
+abbrev pub wiredStep : Board → Out → ℕ → List ℕ → Stepped
+wiredStep b o v s =
     record {
       board = record { files = allReached (b .files) (o .messages); wired = o .wired };
       value = v;
       messages = o .messages;
+      saved = s;
     }
 
 module _ (b : Board) where
-  pub step-wire : (i level : ℕ)
-      → step (call.Wire i level) b ≡ wiredStep b (wireCall (b .wired) i (eqb level 1)) 0
+  pub step-wire : (i level : ℕ) (s : List ℕ)
+      → step (call.Wire i level) b s ≡ wiredStep b (wireCall (b .wired) i (eqb level 1)) 0 s
   unfolding step settled change wireCall
-  step-wire i level = refl
+  step-wire i level s = refl
 
-  pub step-domainRead : (d a : ℕ)
-      → step (call.DomainRead d a) b
-      ≡ wiredStep b (readCall (b .wired) (eqb d 1) (wordAt a)) (readIn (b .wired) (eqb d 1) (wordAt a))
+  pub step-domainRead : (d a : ℕ) (s : List ℕ)
+      → step (call.DomainRead d a) b s
+      ≡ wiredStep b (readCall (b .wired) (eqb d 1) (wordAt a)) (readIn (b .wired) (eqb d 1) (wordAt a)) s
   unfolding step settled change readCall
-  step-domainRead d a = refl
+  step-domainRead d a s = refl
 
-  pub step-domainWrite : (d a v : ℕ)
-      → step (call.DomainWrite d a v) b ≡ wiredStep b (writeCall (b .wired) (eqb d 1) (wordAt a) v) 0
+  pub step-domainWrite : (d a v : ℕ) (s : List ℕ)
+      → step (call.DomainWrite d a v) b s ≡ wiredStep b (writeCall (b .wired) (eqb d 1) (wordAt a) v) 0 s
   unfolding step settled change writeCall
-  step-domainWrite d a v = refl
+  step-domainWrite d a v s = refl
+
+-- where the messages of a wire go: no file, or the one that its message names
+module _ (b : Board) (i level : ℕ) (s : List ℕ) where
+  abbrev out : Out
+  out = wireCall (b .wired) i (eqb level 1)
+
+  pub wire-sends : step (call.Wire i level) b s .messages ≡ out .messages
+  wire-sends = ap (λ (x : Stepped). x .messages) (step-wire b i level s)
+
+  wire-reaches : step (call.Wire i level) b s .board .files ≡ allReached (b .files) (out .messages)
+  wire-reaches = ap (λ (x : Stepped). x .board .files) (step-wire b i level s)
+
+  pub wire-reaches-none : out .messages ≡ [] → step (call.Wire i level) b s .board .files ≡ b .files
+  unfolding allReached
+  wire-reaches-none e = wire-reaches ∙ ap (allReached (b .files)) e
+
+  pub wire-reaches-one : (m : ℕ) → out .messages ≡ m ∷ []
+      → step (call.Wire i level) b s .board .files ≡ reached (b .files) m
+  unfolding allReached
+  wire-reaches-one m e = wire-reaches ∙ ap (allReached (b .files)) e
 
 -- ---- a call that leaves the wired controller as it was
 
 -- a change with nothing to send
 pub settled-quiet : (x : Changed) → WiredQuiet (x .board .wired) → x .own ≡ []
-    → settled x ≡ record { board = x .board; value = x .value; messages = [] }
+    → settled x ≡ record { board = x .board; value = x .value; messages = []; saved = x .saved }
 unfolding settled allReached
 settled-quiet x q none = rw (flushed-quiet (x .board .wired) q, none)
 
 module _ (b : Board) (sound : boardSound b ≡ true) where
   -- one file k becomes f
-  pub step-onFile : (k : ℕ) (f : File) (v : ℕ)
-      → settled (onFile b k f v) ≡ record { board = onFile b k f v .board; value = v; messages = [] }
-  step-onFile k f v = settled-quiet (onFile b k f v) (sound-quiet b sound) refl
+  pub step-onFile : (k : ℕ) (f : File) (v : ℕ) (s : List ℕ)
+      → settled (onFile b k f v s)
+      ≡ record { board = onFile b k f v s .board; value = v; messages = []; saved = s }
+  step-onFile k f v s = settled-quiet (onFile b k f v s) (sound-quiet b sound) refl
 
-  pub step-answering : (v : ℕ) → settled (answering b v) ≡ record { board = b; value = v; messages = [] }
-  step-answering v = settled-quiet (answering b v) (sound-quiet b sound) refl
+  pub step-answering : (v : ℕ) (s : List ℕ)
+      → settled (answering b v s) ≡ record { board = b; value = v; messages = []; saved = s }
+  step-answering v s = settled-quiet (answering b v s) (sound-quiet b sound) refl
 
-pub step-reset : (b : Board) → step call.Reset b ≡ record { board = startBoard; value = 0; messages = [] }
+pub step-reset : (b : Board) (s : List ℕ)
+    → step call.Reset b s ≡ record { board = startBoard; value = 0; messages = []; saved = s }
 unfolding step change
-step-reset b = step-answering startBoard start-sound 0
+step-reset b s = step-answering startBoard start-sound 0 s

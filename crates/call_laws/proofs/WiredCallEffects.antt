@@ -17,10 +17,10 @@ use Rattle.block.specs.Block.{Board, boardOf}
 use Rattle.call.specs.declared.Answer.the-variants.{Done}
 use Rattle.call.specs.declared.Call.the-variants.{Wire, DomainRead, DomainWrite}
 use Rattle.call.specs.Refusal.{isWire, testsRules, named, addressed, selected, blockRefusal}
-use Rattle.call.specs.Outcome.{Stepped, outcome, Gives}
+use Rattle.call.specs.Outcome.{Stepped, Does}
 use Rattle.call_laws.specs.Left.{Left}
 use Rattle.call_laws.proofs.CallTests.{Tests, tests-done, tests-sent}
-use Rattle.call_laws.proofs.StepEffects.{step-wire, step-domainRead, step-domainWrite}
+use Rattle.call_laws.proofs.StepEffects.{wiredStep, step-wire, step-domainRead, step-domainWrite}
 
 -- the number of a wire that is there
 module _ (i level : ℕ) (there : isWire i level ≡ true) where
@@ -40,33 +40,31 @@ module _ (i level : ℕ) (there : isWire i level ≡ true) where
       )
 
 -- what a call leaves that did w to the wired controller, answers v and sent ms
-abbrev wiredSent : Board → Wired → ℕ → List ℕ → Stepped
-wiredSent b w v ms =
-    record { board = record { files = allReached (b .files) ms; wired = w }; value = v; messages = ms }
+abbrev wiredSent : Board → Wired → ℕ → List ℕ → List ℕ → Stepped
+wiredSent b w v ms s = wiredStep b (record { wired = w; messages = ms }) v s
 
 -- ---- what each call tests
 
-pub tests-wire : (i level : ℕ) → Tests (Wire i level) (isWire i level) true true
+pub tests-wire : (i level : ℕ) → Tests (Wire i level) (λ b. isWire i level) true true
 unfolding testsRules named addressed selected
-tests-wire i level = record { rules = refl; names = refl; addresses = refl; selects = refl }
+tests-wire i level = record { rules = refl; names = λ b. refl; addresses = refl; selects = refl }
 
-pub tests-domainRead : (d a : ℕ) → Tests (DomainRead d a) (ltb d 2) (addressLegal a) true
+pub tests-domainRead : (d a : ℕ) → Tests (DomainRead d a) (λ b. ltb d 2) (addressLegal a) true
 unfolding testsRules named addressed selected
-tests-domainRead d a = record { rules = refl; names = refl; addresses = refl; selects = refl }
+tests-domainRead d a = record { rules = refl; names = λ b. refl; addresses = refl; selects = refl }
 
-pub tests-domainWrite : (d a v : ℕ) → Tests (DomainWrite d a v) (ltb d 2) (addressLegal a) true
+pub tests-domainWrite : (d a v : ℕ) → Tests (DomainWrite d a v) (λ b. ltb d 2) (addressLegal a) true
 unfolding testsRules named addressed selected
-tests-domainWrite d a v = record { rules = refl; names = refl; addresses = refl; selects = refl }
+tests-domainWrite d a v = record { rules = refl; names = λ b. refl; addresses = refl; selects = refl }
 
 -- ---- what an accepted call gives
 
 module _ (l g : List ℕ) (k : ℕ) (e : k ≡ blockRefusal true l g) (z : k ≡ 0) where
   pub wire-done : (i level : ℕ) → isWire i level ≡ true → (l′ g′ : List ℕ) (n : ℕ) → length l′ ≡ 650
       → Left (wireCall (boardOf l .wired) i (eqb level 1)) l l′ g g′ n
-      → Gives (outcome (Wire i level) l g) (Done 0 n) l′ g′
+      → Does (Wire i level) l g (Done 0 n) l′ g′
   wire-done i level n l′ g′ m long (b, h, c) =
-      tests-sent (tests-wire i level) l g k e z n refl refl _ (step-wire
-      (boardOf l) i level) m l′ g′ long refl
+      tests-sent (tests-wire i level) l g k e z n refl refl _ (step-wire (boardOf l) i level) m l′ g′ long
       b h c
 
   module _ (d a : ℕ) (n : d < 2) (b : addressLegal a ≡ true) where
@@ -78,17 +76,17 @@ module _ (l g : List ℕ) (k : ℕ) (e : k ≡ blockRefusal true l g) (z : k ≡
           files = boardOf l .files;
           wired = readCall (boardOf l .wired) (eqb d 1) (wordAt a) .wired;
         }
-        → Gives (outcome (DomainRead d a) l g) (Done v 0) l′ g
+        → Does (DomainRead d a) l g (Done v 0) l′ g
     unfolding allReached
     domainRead-done l′ v long none value board =
         tests-done (tests-domainRead d a) l g k e z (lt-ltb d 2 n) b refl _ _
-        (step-domainRead (boardOf l) d a
-        ∙ ap (wiredSent (boardOf l) (readCall (boardOf l .wired) (eqb d 1) (wordAt a) .wired)
-        (readIn (boardOf l .wired) (eqb d 1) (wordAt a))) none) v value l′ long board
+        (λ s. step-domainRead (boardOf l) d a s
+        ∙ ap (λ (ms : List ℕ). wiredSent (boardOf l) (readCall (boardOf l .wired) (eqb d 1) (wordAt a) .wired)
+        (readIn (boardOf l .wired) (eqb d 1) (wordAt a)) ms s) none) v value l′ long board
 
     pub domainWrite-done : (v : ℕ) (l′ g′ : List ℕ) (m : ℕ) → length l′ ≡ 650
         → Left (writeCall (boardOf l .wired) (eqb d 1) (wordAt a) v) l l′ g g′ m
-        → Gives (outcome (DomainWrite d a v) l g) (Done 0 m) l′ g′
+        → Does (DomainWrite d a v) l g (Done 0 m) l′ g′
     domainWrite-done v l′ g′ m long (x, h, c) =
         tests-sent (tests-domainWrite d a v) l g k e z (lt-ltb d 2 n) b refl _
-        (step-domainWrite (boardOf l) d a v) m l′ g′ long refl x h c
+        (step-domainWrite (boardOf l) d a v) m l′ g′ long x h c

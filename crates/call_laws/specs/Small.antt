@@ -3,7 +3,7 @@
 use Prim.Native.Nat.{_^_, _<_}
 use Rattle.call.specs.declared.Call.{Call}
 use Rattle.call.specs.declared.Call.the-variants.{Reset, Wire, DomainRead, DomainWrite, PageRead, PageWrite}
-use Rattle.call.specs.declared.Call.the-variants.{Register, Top, Claim, Signals}
+use Rattle.call.specs.declared.Call.the-variants.{Register, Top, Claim, Signals, Move}
 
 abbrev pub Small : Call → Type 0
 Small Reset = Unit {0}
@@ -16,3 +16,4 @@ Small (Register h f k s v) = v < 2 ^ 64
 Small (Top h f) = Unit {0}
 Small (Claim h f) = Unit {0}
 Small (Signals h) = Unit {0}
+Small (Move oh of nh nf n) = Unit {0}

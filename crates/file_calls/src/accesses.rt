@@ -1,6 +1,6 @@
 // An access to a register of a file, by its select number.
 ghost use Rattle.call.specs.declared.Call.the-variants as the;
-ghost use Rattle.call.specs.Outcome.{outcome, Gives};
+ghost use Rattle.call.specs.Outcome.{Does};
 use super::one::is_access;
 use super::one::load_file;
 use super::one::store_file;
@@ -19,8 +19,7 @@ pub fn register(
     select: u64,
     value: u64,
 ) -> Answer
-    ensures { λ r. ⌜ Gives
-        (outcome (the.Register hart file kind select value) (now (state .entry)) (now (log .entry))) r
+    ensures { λ r. ⌜ Does (the.Register hart file kind select value) (now (state .entry)) (now (log .entry)) r
         (now (state .exit)) (now (log .exit)) ⌝ }
 {
     let number = check(state, log);

@@ -1,6 +1,6 @@
 // A claim: the top of a file, with its pending bit cleared.
 ghost use Rattle.call.specs.declared.Call.the-variants as the;
-ghost use Rattle.call.specs.Outcome.{outcome, Gives};
+ghost use Rattle.call.specs.Outcome.{Does};
 use super::one::load_file;
 use super::one::store_file;
 use call::Answer;
@@ -9,7 +9,7 @@ use call::is_file;
 use call::refusal;
 
 pub fn claim(state: &mut [u32], log: &mut [u32], hart: u64, file: u64) -> Answer
-    ensures { λ r. ⌜ Gives (outcome (the.Claim hart file) (now (state .entry)) (now (log .entry))) r
+    ensures { λ r. ⌜ Does (the.Claim hart file) (now (state .entry)) (now (log .entry)) r
         (now (state .exit)) (now (log .exit)) ⌝ }
 {
     let number = check(state, log);

@@ -8,6 +8,9 @@ mod tops;
 
 pub use accesses::register;
 pub use claims::claim;
+pub use one::load_file;
+pub use one::store_file;
+pub use one::value_of;
 pub use page_reads::page_read;
 pub use page_writes::page_write;
 pub use tops::top;

@@ -1,6 +1,6 @@
 // A read of a file's page.
 ghost use Rattle.call.specs.declared.Call.the-variants as the;
-ghost use Rattle.call.specs.Outcome.{outcome, Gives};
+ghost use Rattle.call.specs.Outcome.{Does};
 use super::one::load_file;
 use call::Answer;
 use call::check;
@@ -9,7 +9,7 @@ use call::is_page_address;
 use call::refusal;
 
 pub fn page_read(state: &mut [u32], log: &mut [u32], hart: u64, file: u64, offset: u64) -> Answer
-    ensures { λ r. ⌜ Gives (outcome (the.PageRead hart file offset) (now (state .entry)) (now (log .entry))) r
+    ensures { λ r. ⌜ Does (the.PageRead hart file offset) (now (state .entry)) (now (log .entry)) r
         (now (state .exit)) (now (log .exit)) ⌝ }
 {
     let number = check(state, log);

@@ -1,6 +1,6 @@
 // A write to a file's page: a message.
 ghost use Rattle.call.specs.declared.Call.the-variants as the;
-ghost use Rattle.call.specs.Outcome.{outcome, Gives};
+ghost use Rattle.call.specs.Outcome.{Does};
 use super::one::load_file;
 use super::one::store_file;
 use call::Answer;
@@ -17,8 +17,7 @@ pub fn page_write(
     offset: u64,
     value: u32,
 ) -> Answer
-    ensures { λ r. ⌜ Gives
-        (outcome (the.PageWrite hart file offset value) (now (state .entry)) (now (log .entry))) r
+    ensures { λ r. ⌜ Does (the.PageWrite hart file offset value) (now (state .entry)) (now (log .entry)) r
         (now (state .exit)) (now (log .exit)) ⌝ }
 {
     let number = check(state, log);

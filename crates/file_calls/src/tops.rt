@@ -1,6 +1,6 @@
 // The top of a file.
 ghost use Rattle.call.specs.declared.Call.the-variants as the;
-ghost use Rattle.call.specs.Outcome.{outcome, Gives};
+ghost use Rattle.call.specs.Outcome.{Does};
 use super::one::load_file;
 use call::Answer;
 use call::check;
@@ -8,7 +8,7 @@ use call::is_file;
 use call::refusal;
 
 pub fn top(state: &mut [u32], log: &mut [u32], hart: u64, file: u64) -> Answer
-    ensures { λ r. ⌜ Gives (outcome (the.Top hart file) (now (state .entry)) (now (log .entry))) r
+    ensures { λ r. ⌜ Does (the.Top hart file) (now (state .entry)) (now (log .entry)) r
         (now (state .exit)) (now (log .exit)) ⌝ }
 {
     let number = check(state, log);

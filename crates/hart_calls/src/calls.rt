@@ -1,6 +1,6 @@
 // The calls, with their refusals. Reset tests the lengths only.
 ghost use Rattle.call.specs.declared.Call.the-variants as the;
-ghost use Rattle.call.specs.Outcome.{outcome, Gives};
+ghost use Rattle.call.specs.Outcome.{Does};
 use super::signal::all_signals;
 use call::Answer;
 use call::check;
@@ -8,7 +8,7 @@ use call::lengths;
 use call::refusal;
 
 pub fn reset(state: &mut [u32], log: &mut [u32]) -> Answer
-    ensures { λ r. ⌜ Gives (outcome the.Reset (now (state .entry)) (now (log .entry))) r
+    ensures { λ r. ⌜ Does the.Reset (now (state .entry)) (now (log .entry)) r
         (now (state .exit)) (now (log .exit)) ⌝ }
 {
     let number = lengths(state, log);
@@ -20,7 +20,7 @@ pub fn reset(state: &mut [u32], log: &mut [u32]) -> Answer
 }
 
 pub fn signals(state: &mut [u32], log: &mut [u32], hart: u64) -> Answer
-    ensures { λ r. ⌜ Gives (outcome (the.Signals hart) (now (state .entry)) (now (log .entry))) r
+    ensures { λ r. ⌜ Does (the.Signals hart) (now (state .entry)) (now (log .entry)) r
         (now (state .exit)) (now (log .exit)) ⌝ }
 {
     let number = check(state, log);

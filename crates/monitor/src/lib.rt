@@ -3,13 +3,14 @@
 ghost use mathlib.Core.Path.{_≡_};
 ghost use Rattle.call.specs.declared.Call.the-variants as the;
 ghost use Rattle.call.specs.Outcome.{outcome};
-ghost use Rattle.answer.specs.Told.{Told};
+ghost use Rattle.answer.specs.Told.{Told, Tells};
 use answer::VskAnswer;
 use answer::numbers;
+use transfer::make_access;
 
 #[no_mangle]
 pub extern "C" fn vsk_reset(state: &mut [u32], log: &mut [u32]) -> VskAnswer
-    ensures { λ r. ⌜ Told (outcome the.Reset (now (state .entry)) (now (log .entry))) r
+    ensures { λ r. ⌜ Tells the.Reset (now (state .entry)) (now (log .entry)) r
         (now (state .exit)) (now (log .exit)) ⌝ }
 {
     numbers(hart_calls::reset(state, log))
@@ -17,7 +18,7 @@ pub extern "C" fn vsk_reset(state: &mut [u32], log: &mut [u32]) -> VskAnswer
 
 #[no_mangle]
 pub extern "C" fn vsk_wire(state: &mut [u32], log: &mut [u32], wire: u64, level: u64) -> VskAnswer
-    ensures { λ r. ⌜ Told (outcome (the.Wire wire level) (now (state .entry)) (now (log .entry))) r
+    ensures { λ r. ⌜ Tells (the.Wire wire level) (now (state .entry)) (now (log .entry)) r
         (now (state .exit)) (now (log .exit)) ⌝ }
 {
     numbers(wired_calls::set_wire(state, log, wire, level))
@@ -30,7 +31,7 @@ pub extern "C" fn vsk_domain_read(
     domain: u64,
     address: u64,
 ) -> VskAnswer
-    ensures { λ r. ⌜ Told (outcome (the.DomainRead domain address) (now (state .entry)) (now (log .entry))) r
+    ensures { λ r. ⌜ Tells (the.DomainRead domain address) (now (state .entry)) (now (log .entry)) r
         (now (state .exit)) (now (log .exit)) ⌝ }
 {
     numbers(wired_calls::domain_read(state, log, domain, address))
@@ -44,8 +45,7 @@ pub extern "C" fn vsk_domain_write(
     address: u64,
     value: u32,
 ) -> VskAnswer
-    ensures { λ r. ⌜ Told
-        (outcome (the.DomainWrite domain address value) (now (state .entry)) (now (log .entry))) r
+    ensures { λ r. ⌜ Tells (the.DomainWrite domain address value) (now (state .entry)) (now (log .entry)) r
         (now (state .exit)) (now (log .exit)) ⌝ }
 {
     numbers(wired_calls::domain_write(state, log, domain, address, value))
@@ -59,8 +59,7 @@ pub extern "C" fn vsk_page_read(
     file: u64,
     address: u64,
 ) -> VskAnswer
-    ensures { λ r. ⌜ Told
-        (outcome (the.PageRead hart file address) (now (state .entry)) (now (log .entry))) r
+    ensures { λ r. ⌜ Tells (the.PageRead hart file address) (now (state .entry)) (now (log .entry)) r
         (now (state .exit)) (now (log .exit)) ⌝ }
 {
     numbers(file_calls::page_read(state, log, hart, file, address))
@@ -75,8 +74,7 @@ pub extern "C" fn vsk_page_write(
     address: u64,
     value: u32,
 ) -> VskAnswer
-    ensures { λ r. ⌜ Told
-        (outcome (the.PageWrite hart file address value) (now (state .entry)) (now (log .entry))) r
+    ensures { λ r. ⌜ Tells (the.PageWrite hart file address value) (now (state .entry)) (now (log .entry)) r
         (now (state .exit)) (now (log .exit)) ⌝ }
 {
     numbers(file_calls::page_write(state, log, hart, file, address, value))
@@ -92,16 +90,15 @@ pub extern "C" fn vsk_register(
     select: u64,
     value: u64,
 ) -> VskAnswer
-    ensures { λ r. ⌜ Told
-        (outcome (the.Register hart file kind select value) (now (state .entry)) (now (log .entry))) r
-        (now (state .exit)) (now (log .exit)) ⌝ }
+    ensures { λ r. ⌜ Tells (the.Register hart file kind select value)
+        (now (state .entry)) (now (log .entry)) r (now (state .exit)) (now (log .exit)) ⌝ }
 {
     numbers(file_calls::register(state, log, hart, file, kind, select, value))
 }
 
 #[no_mangle]
 pub extern "C" fn vsk_top(state: &mut [u32], log: &mut [u32], hart: u64, file: u64) -> VskAnswer
-    ensures { λ r. ⌜ Told (outcome (the.Top hart file) (now (state .entry)) (now (log .entry))) r
+    ensures { λ r. ⌜ Tells (the.Top hart file) (now (state .entry)) (now (log .entry)) r
         (now (state .exit)) (now (log .exit)) ⌝ }
 {
     numbers(file_calls::top(state, log, hart, file))
@@ -109,7 +106,7 @@ pub extern "C" fn vsk_top(state: &mut [u32], log: &mut [u32], hart: u64, file: u
 
 #[no_mangle]
 pub extern "C" fn vsk_claim(state: &mut [u32], log: &mut [u32], hart: u64, file: u64) -> VskAnswer
-    ensures { λ r. ⌜ Told (outcome (the.Claim hart file) (now (state .entry)) (now (log .entry))) r
+    ensures { λ r. ⌜ Tells (the.Claim hart file) (now (state .entry)) (now (log .entry)) r
         (now (state .exit)) (now (log .exit)) ⌝ }
 {
     numbers(file_calls::claim(state, log, hart, file))
@@ -117,8 +114,36 @@ pub extern "C" fn vsk_claim(state: &mut [u32], log: &mut [u32], hart: u64, file:
 
 #[no_mangle]
 pub extern "C" fn vsk_signals(state: &mut [u32], log: &mut [u32], hart: u64) -> VskAnswer
-    ensures { λ r. ⌜ Told (outcome (the.Signals hart) (now (state .entry)) (now (log .entry))) r
+    ensures { λ r. ⌜ Tells (the.Signals hart) (now (state .entry)) (now (log .entry)) r
         (now (state .exit)) (now (log .exit)) ⌝ }
 {
     numbers(hart_calls::signals(state, log, hart))
+}
+
+// C gives the record as a pointer to ten numbers, the same one at each access of a move.
+#[no_mangle]
+pub extern "C" fn vsk_move(
+    state: &mut [u32],
+    log: &mut [u32],
+    oldhart: u64,
+    oldfile: u64,
+    newhart: u64,
+    newfile: u64,
+    access: u64,
+    saved: &mut [u64; 10],
+) -> VskAnswer
+    ensures { λ r. ⌜ Told (outcome (the.Move oldhart oldfile newhart newfile access) (now (state .entry))
+        (now (log .entry)) (now (saved .entry))) r
+        (now (state .exit)) (now (log .exit)) (now (saved .exit)) ⌝ }
+{
+    numbers(make_access(
+        state,
+        log,
+        saved,
+        oldhart,
+        oldfile,
+        newhart,
+        newfile,
+        access,
+    ))
 }

@@ -1,6 +1,6 @@
 // The calls, with their refusals.
 ghost use Rattle.call.specs.declared.Call.the-variants as the;
-ghost use Rattle.call.specs.Outcome.{outcome, Gives};
+ghost use Rattle.call.specs.Outcome.{Does};
 use super::done::wire_done;
 use super::seen::read_done;
 use super::written::write_done;
@@ -11,7 +11,7 @@ use region::address_legal;
 use region::word_at;
 
 pub fn set_wire(state: &mut [u32], log: &mut [u32], wire: u64, level: u64) -> Answer
-    ensures { λ r. ⌜ Gives (outcome (the.Wire wire level) (now (state .entry)) (now (log .entry))) r
+    ensures { λ r. ⌜ Does (the.Wire wire level) (now (state .entry)) (now (log .entry)) r
         (now (state .exit)) (now (log .exit)) ⌝ }
 {
     let number = check(state, log);
@@ -27,7 +27,7 @@ pub fn set_wire(state: &mut [u32], log: &mut [u32], wire: u64, level: u64) -> An
 
 // Domain 0 is the machine domain, 1 the supervisor's.
 pub fn domain_read(state: &mut [u32], log: &mut [u32], domain: u64, address: u64) -> Answer
-    ensures { λ r. ⌜ Gives (outcome (the.DomainRead domain address) (now (state .entry)) (now (log .entry))) r
+    ensures { λ r. ⌜ Does (the.DomainRead domain address) (now (state .entry)) (now (log .entry)) r
         (now (state .exit)) (now (log .exit)) ⌝ }
 {
     let number = check(state, log);
@@ -51,8 +51,7 @@ pub fn domain_write(
     address: u64,
     value: u32,
 ) -> Answer
-    ensures { λ r. ⌜ Gives
-        (outcome (the.DomainWrite domain address value) (now (state .entry)) (now (log .entry))) r
+    ensures { λ r. ⌜ Does (the.DomainWrite domain address value) (now (state .entry)) (now (log .entry)) r
         (now (state .exit)) (now (log .exit)) ⌝ }
 {
     let number = check(state, log);

@@ -65,6 +65,12 @@ enum-known-call-9 c = search needs
 signals-requires : tie.Need-signals-requires
 signals-requires c κs = search needs
 
+enum-known-call-10 : tie.Need-enum-known-call-10
+enum-known-call-10 c = search needs
+
+make-access-requires : tie.Need-make-access-requires
+make-access-requires c κs = search needs
+
 same-length : tie.Need-same-length
 same-length c = search needs
 
@@ -74,7 +80,8 @@ same-length-2 c = search needs
 returns : tie.Need-returns
 returns c =
     let at-call = c .before .before .before .before in
-    gives-of (sym (at-call .before .before .before .enum-told .given .1)) _ _ _ _ _ (at-call .reset .ensures)
+    gives-of (sym (at-call .before .before .before .enum-told .given .1)) _ _ _ _ _ _ _
+    (at-call .reset .ensures _)
 
 same-length-3 : tie.Need-same-length-3
 same-length-3 c = search needs
@@ -85,8 +92,8 @@ same-length-4 c = search needs
 returns-2 : tie.Need-returns-2
 returns-2 c =
     let at-call = c .before .before .before .before in
-    gives-of (sym (at-call .before .before .before .before .call .given .1)) _ _ _ _ _
-    (at-call .set-wire .ensures)
+    gives-of (sym (at-call .before .before .before .before .call .given .1)) _ _ _ _ _ _ _
+    (at-call .set-wire .ensures _)
 
 same-length-5 : tie.Need-same-length-5
 same-length-5 c = search needs
@@ -97,8 +104,8 @@ same-length-6 c = search needs
 returns-3 : tie.Need-returns-3
 returns-3 c =
     let at-call = c .before .before .before .before in
-    gives-of (sym (at-call .before .before .before .before .call2 .given .1)) _ _ _ _ _
-    (at-call .domain-read .ensures)
+    gives-of (sym (at-call .before .before .before .before .call2 .given .1)) _ _ _ _ _ _ _
+    (at-call .domain-read .ensures _)
 
 same-length-7 : tie.Need-same-length-7
 same-length-7 c = search needs
@@ -109,8 +116,8 @@ same-length-8 c = search needs
 returns-4 : tie.Need-returns-4
 returns-4 c =
     let at-call = c .before .before .before .before in
-    gives-of (sym (at-call .before .before .before .before .call3 .given .1)) _ _ _ _ _
-    (at-call .domain-write .ensures)
+    gives-of (sym (at-call .before .before .before .before .call3 .given .1)) _ _ _ _ _ _ _
+    (at-call .domain-write .ensures _)
 
 same-length-9 : tie.Need-same-length-9
 same-length-9 c = search needs
@@ -121,8 +128,8 @@ same-length-10 c = search needs
 returns-5 : tie.Need-returns-5
 returns-5 c =
     let at-call = c .before .before .before .before in
-    gives-of (sym (at-call .before .before .before .before .call4 .given .1)) _ _ _ _ _
-    (at-call .page-read .ensures)
+    gives-of (sym (at-call .before .before .before .before .call4 .given .1)) _ _ _ _ _ _ _
+    (at-call .page-read .ensures _)
 
 same-length-11 : tie.Need-same-length-11
 same-length-11 c = search needs
@@ -133,8 +140,8 @@ same-length-12 c = search needs
 returns-6 : tie.Need-returns-6
 returns-6 c =
     let at-call = c .before .before .before .before in
-    gives-of (sym (at-call .before .before .before .before .call5 .given .1)) _ _ _ _ _
-    (at-call .page-write .ensures)
+    gives-of (sym (at-call .before .before .before .before .call5 .given .1)) _ _ _ _ _ _ _
+    (at-call .page-write .ensures _)
 
 same-length-13 : tie.Need-same-length-13
 same-length-13 c = search needs
@@ -145,8 +152,8 @@ same-length-14 c = search needs
 returns-7 : tie.Need-returns-7
 returns-7 c =
     let at-call = c .before .before .before .before in
-    gives-of (sym (at-call .before .before .before .before .call6 .given .1)) _ _ _ _ _
-    (at-call .register .ensures)
+    gives-of (sym (at-call .before .before .before .before .call6 .given .1)) _ _ _ _ _ _ _
+    (at-call .register .ensures _)
 
 same-length-15 : tie.Need-same-length-15
 same-length-15 c = search needs
@@ -157,8 +164,8 @@ same-length-16 c = search needs
 returns-8 : tie.Need-returns-8
 returns-8 c =
     let at-call = c .before .before .before .before in
-    gives-of (sym (at-call .before .before .before .before .call7 .given .1)) _ _ _ _ _
-    (at-call .top .ensures)
+    gives-of (sym (at-call .before .before .before .before .call7 .given .1)) _ _ _ _ _ _ _
+    (at-call .top .ensures _)
 
 same-length-17 : tie.Need-same-length-17
 same-length-17 c = search needs
@@ -169,8 +176,8 @@ same-length-18 c = search needs
 returns-9 : tie.Need-returns-9
 returns-9 c =
     let at-call = c .before .before .before .before in
-    gives-of (sym (at-call .before .before .before .before .call8 .given .1)) _ _ _ _ _
-    (at-call .claim .ensures)
+    gives-of (sym (at-call .before .before .before .before .call8 .given .1)) _ _ _ _ _ _ _
+    (at-call .claim .ensures _)
 
 same-length-19 : tie.Need-same-length-19
 same-length-19 c = search needs
@@ -181,8 +188,20 @@ same-length-20 c = search needs
 returns-10 : tie.Need-returns-10
 returns-10 c =
     let at-call = c .before .before .before .before in
-    gives-of (sym (at-call .before .before .before .before .call9 .given .1)) _ _ _ _ _
-    (at-call .signals .ensures)
+    gives-of (sym (at-call .before .before .before .before .call9 .given .1)) _ _ _ _ _ _ _
+    (at-call .signals .ensures _)
+
+same-length-21 : tie.Need-same-length-21
+same-length-21 c = search needs
+
+same-length-22 : tie.Need-same-length-22
+same-length-22 c = search needs
+
+returns-11 : tie.Need-returns-11
+returns-11 c =
+    let at-call = c .before .before .before .before in
+    gives-of (sym (at-call .before .before .before .before .before .call10 .given .1)) _ _ _ _ _ _ _
+    (at-call .make-access .ensures)
 
 pub apply-spec : {M : Type 1} → statement M
 apply-spec =
@@ -208,6 +227,8 @@ apply-spec =
     claim-requires
     enum-known-call-9
     signals-requires
+    enum-known-call-10
+    make-access-requires
     same-length
     same-length-2
     returns
@@ -237,4 +258,7 @@ apply-spec =
     returns-9
     same-length-19
     same-length-20
-    returns-10)
+    returns-10
+    same-length-21
+    same-length-22
+    returns-11)

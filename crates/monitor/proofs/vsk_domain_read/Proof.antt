@@ -17,7 +17,8 @@ same-length-2 : tie.Need-same-length-2
 same-length-2 c = search needs
 
 returns : tie.Need-returns
-returns c = told-of (c .numbers .ensures) (c .before .before .before .before .before .domain-read .ensures)
+returns c s =
+    told-of (c .numbers .ensures) (c .before .before .before .before .before .domain-read .ensures s)
 
 pub vsk-domain-read-spec : {M : Type 1} → statement M
 vsk-domain-read-spec =

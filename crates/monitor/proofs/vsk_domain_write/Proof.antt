@@ -18,7 +18,8 @@ same-length-2 : tie.Need-same-length-2
 same-length-2 c = search needs
 
 returns : tie.Need-returns
-returns c = told-of (c .numbers .ensures) (c .before .before .before .before .before .domain-write .ensures)
+returns c s =
+    told-of (c .numbers .ensures) (c .before .before .before .before .before .domain-write .ensures s)
 
 pub vsk-domain-write-spec : {M : Type 1} → statement M
 vsk-domain-write-spec =

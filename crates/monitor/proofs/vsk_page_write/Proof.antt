@@ -17,7 +17,7 @@ same-length-2 : tie.Need-same-length-2
 same-length-2 c = search needs
 
 returns : tie.Need-returns
-returns c = told-of (c .numbers .ensures) (c .before .before .before .before .before .page-write .ensures)
+returns c s = told-of (c .numbers .ensures) (c .before .before .before .before .before .page-write .ensures s)
 
 pub vsk-page-write-spec : {M : Type 1} → statement M
 vsk-page-write-spec =

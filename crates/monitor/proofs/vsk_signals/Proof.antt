@@ -17,7 +17,7 @@ same-length-2 : tie.Need-same-length-2
 same-length-2 c = search needs
 
 returns : tie.Need-returns
-returns c = told-of (c .numbers .ensures) (c .before .before .before .before .before .signals .ensures)
+returns c s = told-of (c .numbers .ensures) (c .before .before .before .before .before .signals .ensures s)
 
 pub vsk-signals-spec : {M : Type 1} → statement M
 vsk-signals-spec =

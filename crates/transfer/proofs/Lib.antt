@@ -1,0 +1,1 @@
+-- The proofs of one access of a move. Assumes nothing.

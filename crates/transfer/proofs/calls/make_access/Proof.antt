@@ -1,0 +1,123 @@
+-- `transfer::calls::make_access` meets its contract: refused, or its act done. The file is long because each
+-- of four ways out asks for the lengths of both blocks. Assumes nothing.
+use mathlib.Core.Path.{sym, ap, _∙_}
+use borrow.Author.Tests.{not-true, not-false}
+use Rattle.transfer_steps.specs.Steps.{actWithin}
+use Rattle.transfer_files.proofs.TableLaws.{act-within}
+use Rattle.call_laws.proofs.CallTests.{checked-long, checked-sound, tests-blocks}
+use Rattle.call_laws.proofs.MoveEffects.{move-old, move-new, move-low, move-high}
+use Rattle.call_laws.proofs.MoveCallEffects.{tests-move, move-unnamed, move-barred, move-done}
+use borrow.Author.Needs.{needs}
+use Rattle.transfer.proofs.calls.make_access.Statement.{statement}
+use Rattle.transfer.proofs.calls.make_access.Tie as tie
+
+check-requires : tie.Need-check-requires
+check-requires c κs = search needs
+
+refusal-requires : tie.Need-refusal-requires
+refusal-requires c κs = search needs
+
+same-length : tie.Need-same-length
+same-length c = search needs
+
+same-length-2 : tie.Need-same-length-2
+same-length-2 c = search needs
+
+returns : tie.Need-returns
+returns c =
+    tests-blocks (tests-move _ _ _ _ _) _ _ _ (c .before .before .check .ensures) (c .before .if1 .taken) _
+    (c .refusal .ensures) _
+
+is-move-requires : tie.Need-is-move-requires
+is-move-requires c κs = search needs
+
+same-length-3 : tie.Need-same-length-3
+same-length-3 c = search needs
+
+same-length-4 : tie.Need-same-length-4
+same-length-4 c = search needs
+
+returns-2 : tie.Need-returns-2
+returns-2 c =
+    let at-check = c .before .before in
+    move-unnamed _ _ _ (at-check .before .check .ensures) (at-check .if1 .left) _ _ _ _ _
+    (sym (c .before .is-move .ensures) ∙ not-true _ (c .if2 .taken)) _
+
+by-messages-requires : tie.Need-by-messages-requires
+by-messages-requires c κs =
+    let at-check = c .before .before .before in
+    checked-long _ _ _ (at-check .before .check .ensures) (at-check .if1 .left)
+
+same-length-5 : tie.Need-same-length-5
+same-length-5 c = search needs
+
+same-length-6 : tie.Need-same-length-6
+same-length-6 c = search needs
+
+returns-3 : tie.Need-returns-3
+returns-3 c =
+    let at-test = c .before .before .before in
+    let at-check = at-test .before .before in
+    move-barred _ _ _ (at-check .before .check .ensures) (at-check .if1 .left) _ _ _ _ _
+    (sym (at-test .before .is-move .ensures) ∙ not-false _ (at-test .if2 .left))
+    (sym (c .before .by-messages .ensures) ∙ not-true _ (c .if3 .taken)) _
+
+act-of-requires : tie.Need-act-of-requires
+act-of-requires c κs =
+    let at-test = c .before .before .before in
+    move-low _ _ _ _ _ (sym (at-test .before .is-move .ensures) ∙ not-false _ (at-test .if2 .left))
+
+perform-requires : tie.Need-perform-requires
+perform-requires c κs =
+    let at-act = c .before .before in
+    let at-test = at-act .before .before .before .before in
+    let at-check = at-test .before .before in
+    let there = sym (at-test .before .is-move .ensures) ∙ not-false _ (at-test .if2 .left) in (
+      checked-long _ _ _ (at-check .before .check .ensures) (at-check .if1 .left),
+      checked-sound _ _ _ (at-check .before .check .ensures) (at-check .if1 .left),
+      move-old _ _ _ _ _ there,
+      move-new _ _ _ _ _ there,
+      ap actWithin (at-act .act-of .ensures)
+          ∙ act-within _ (move-low _ _ _ _ _ there) (move-high _ _ _ _ _ there),
+    )
+
+same-length-7 : tie.Need-same-length-7
+same-length-7 c = search needs
+
+same-length-8 : tie.Need-same-length-8
+same-length-8 c = search needs
+
+returns-4 : tie.Need-returns-4
+returns-4 c =
+    let at-perform = c .before .before in
+    let at-act = at-perform .before .before .before in
+    let at-mode = at-act .before in
+    let at-test = at-mode .before .before .before in
+    let at-check = at-test .before .before in
+    move-done _ _ _ (at-check .before .check .ensures) (at-check .if1 .left) _ _ _ _ _
+    (sym (at-test .before .is-move .ensures) ∙ not-false _ (at-test .if2 .left))
+    (sym (at-mode .before .by-messages .ensures) ∙ not-false _ (at-mode .if3 .left)) _
+    (at-act .act-of .ensures) _ _ _ (at-perform .perform .kept .0) (at-perform .perform .ensures)
+
+pub make-access-spec : {M : Type 1} → statement M
+make-access-spec =
+    tie.close
+    (tie.spec
+    check-requires
+    refusal-requires
+    same-length
+    same-length-2
+    returns
+    is-move-requires
+    same-length-3
+    same-length-4
+    returns-2
+    by-messages-requires
+    same-length-5
+    same-length-6
+    returns-3
+    act-of-requires
+    perform-requires
+    same-length-7
+    same-length-8
+    returns-4)

@@ -1,0 +1,40 @@
+// The call, with its refusals.
+ghost use Rattle.call.specs.declared.Call.the-variants as the;
+ghost use Rattle.call.specs.Outcome.{outcome, Gives};
+use super::acts::perform;
+use super::targets::by_messages;
+use call::Answer;
+use call::check;
+use call::is_move;
+use call::refusal;
+use transfer_steps::act_of;
+
+// The caller lends the same record to each of the 89 accesses of a move.
+pub fn make_access(
+    state: &mut [u32],
+    log: &mut [u32],
+    saved: &mut [u64; 10],
+    oldhart: u64,
+    oldfile: u64,
+    newhart: u64,
+    newfile: u64,
+    access: u64,
+) -> Answer
+    ensures { λ r. ⌜ Gives (outcome (the.Move oldhart oldfile newhart newfile access) (now (state .entry))
+        (now (log .entry)) (now (saved .entry))) r
+        (now (state .exit)) (now (log .exit)) (now (saved .exit)) ⌝ }
+{
+    let number = check(state, log);
+    if number != 0 {
+        return refusal(number);
+    }
+    if !is_move(oldhart, oldfile, newhart, newfile, access) {
+        return Answer::NoSuch;
+    }
+    if !by_messages(state) {
+        return Answer::NoSuch;
+    }
+    let act = act_of(access);
+    perform(state, saved, oldhart, oldfile, newhart, newfile, act);
+    Answer::Done(0, 0)
+}

@@ -1,0 +1,65 @@
+// The child domain of the block: its delivery mode, and a target that names the old file.
+ghost use mathlib.Core.Path.{_≡_};
+ghost use mathlib.Core.Bool.{true};
+ghost use Prim.Native.Nat.{_≤_, _<_};
+ghost use lib.ListN.{length};
+ghost use Rattle.domain.specs.Domain.{configOf, byMessages};
+ghost use Rattle.wired.specs.Wired.{wiredOf, domainIn};
+ghost use Rattle.block.specs.Block.{boardOf, boardSound};
+ghost use Rattle.call.specs.Refusal.{isGuestFile};
+ghost use Rattle.call.specs.Move.{retargetedIn};
+use region::Word;
+use transfer_steps::names_file;
+use transfer_steps::renamed;
+
+pub fn by_messages(state: &[u32]) -> bool
+    requires { ⌜ length (now state) ≡ 650 ⌝ }
+    ensures { λ r. ⌜ r ≡ byMessages (boardOf (now (state .entry)) .wired .child) ⌝ }
+{
+    let w = &state[360..650];
+    domain::by_messages(&w[146..290])
+}
+
+// In the words of the wired controller. The target is read, and written anew if it names the old file.
+fn rewrite(w: &mut [u32], oldhart: u64, oldfile: u64, newhart: u64, newfile: u64, source: u64)
+    requires { ⌜ (length (now w) ≡ 290) × (configOf (domainIn (wiredOf (now w)) true) < 0x80000000)
+        × (isGuestFile newhart newfile ≡ true) × (1 ≤ source) × (source ≤ 63) ⌝ }
+    ensures { λ r. ⌜ wiredOf (now (w .exit))
+        ≡ retargetedIn oldhart oldfile newhart newfile (wiredOf (now (w .entry))) source ⌝ }
+{
+    let target = wired::read(w, true, Word::Target(source));
+    if names_file(target, oldhart, oldfile) {
+        wired::write(
+            w,
+            true,
+            Word::Target(source),
+            renamed(target, newhart, newfile),
+        );
+    }
+}
+
+pub fn retarget(
+    state: &mut [u32],
+    oldhart: u64,
+    oldfile: u64,
+    newhart: u64,
+    newfile: u64,
+    source: u64,
+)
+    requires { ⌜ (length (now state) ≡ 650) × (boardSound (boardOf (now state)) ≡ true)
+        × (isGuestFile newhart newfile ≡ true) × (1 ≤ source) × (source ≤ 63) ⌝ }
+    ensures { λ r. ⌜ boardOf (now (state .exit))
+        ≡ record {
+          files = boardOf (now (state .entry)) .files;
+          wired = retargetedIn oldhart oldfile newhart newfile (boardOf (now (state .entry)) .wired) source;
+        } ⌝ }
+{
+    rewrite(
+        &mut state[360..650],
+        oldhart,
+        oldfile,
+        newhart,
+        newfile,
+        source,
+    );
+}
