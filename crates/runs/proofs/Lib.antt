@@ -1,0 +1,2 @@
+-- What holds of calls made one after the other. Assumes nothing.
+pub mod RunsEffects

@@ -1,0 +1,3 @@
+-- Calls made one after the other. Assumes nothing.
+pub mod Runs
+pub mod Ready

@@ -1,0 +1,61 @@
+-- The station after the move: calls on the new file, beside the same calls on the old file of the shift
+-- without the move. 01, "The move, with its premises"; the auditor's question. Assumes nothing.
+--   FileCall              a call on a message file, without the file: its page read or written, a register
+--                         accessed, its top, a claim
+--   callOn h f c          the call c on file f of hart h
+--   Said, saidOf o        what a call answers: refusal, value and count
+--   saidOn h f cs x       what the calls cs on file f of hart h answer, one after the other from x on
+--   GoesOn m x y          calls on new from x on answer what the same calls on old from y on answer, and the
+--                         two files are the same again after them
+--   SameSignal m b b′     new signals its hart in b exactly if old signals its hart in b′
+use Prim.Native.Nat.{ℕ}
+use mathlib.Core.Path.{_≡_}
+use mathlib.Core.List.{List, map}
+use Rattle.words.specs.Bits.{hasBit}
+use Rattle.block.specs.Block.{Board}
+use Rattle.call.specs.declared.Call.{Call}
+use Rattle.call.specs.declared.Call.the-variants.{PageRead, PageWrite, Register, Top, Claim}
+use Rattle.call.specs.Change.{signalsTo}
+use Rattle.call.specs.Outcome.{Outcome}
+use Rattle.runs.specs.Runs.{Lent, ran, outcomesOf}
+use Rattle.runs.specs.Ready.{boardIn, AllSmall}
+use Rattle.transfer_laws.specs.Shift.{Stations}
+use Rattle.transfer_laws.specs.Moved.{oldIn, newIn}
+
+pub data FileCall : Type 0 where
+  pageRead : (a : ℕ) → FileCall
+  pageWrite : (a v : ℕ) → FileCall
+  register : (k s v : ℕ) → FileCall
+  top : FileCall
+  claim : FileCall
+
+abbrev pub callOn : ℕ → ℕ → FileCall → Call
+callOn h f (FileCall.pageRead a) = PageRead h f a
+callOn h f (FileCall.pageWrite a v) = PageWrite h f a v
+callOn h f (FileCall.register k s v) = Register h f k s v
+callOn h f FileCall.top = Top h f
+callOn h f FileCall.claim = Claim h f
+
+pub record Said : Type 0 where
+  pub number : ℕ
+  pub value : ℕ
+  pub count : ℕ
+
+abbrev pub saidOf : Outcome → Said
+saidOf o = record { number = o .number; value = o .value; count = o .count }
+
+abbrev pub saidOn : ℕ → ℕ → List FileCall → Lent → List Said
+saidOn h f cs x = map saidOf (outcomesOf (map (callOn h f) cs) x)
+
+pub record GoesOn (m : Stations) (x y : Lent) (cs : List FileCall) : Type 0 where
+  pub said : saidOn (m .newHart) (m .newFile) cs x ≡ saidOn (m .oldHart) (m .oldFile) cs y
+  pub station : newIn m (boardIn (ran (map (callOn (m .newHart) (m .newFile)) cs) x))
+      ≡ oldIn m (boardIn (ran (map (callOn (m .oldHart) (m .oldFile)) cs) y))
+
+-- the value of a register access has 64 bits
+abbrev pub SmallCalls : List FileCall → Type 0
+SmallCalls cs = AllSmall (map (callOn 0 0) cs)
+
+unfoldable pub SameSignal : Stations → Board → Board → Type 0
+SameSignal m b b′ =
+    hasBit (signalsTo b (m .newHart) 5) (m .newFile) ≡ hasBit (signalsTo b′ (m .oldHart) 5) (m .oldFile)
