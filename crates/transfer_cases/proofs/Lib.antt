@@ -1,0 +1,5 @@
+-- The shifts with a move that are given in full, computed. Assumes nothing.
+pub mod BoardRun
+pub mod Starts
+pub mod ExampleShift
+pub mod NeededShifts

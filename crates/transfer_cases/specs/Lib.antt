@@ -1,0 +1,4 @@
+-- Shifts with a move, given in full. Assumes nothing.
+pub mod Board
+pub mod Example
+pub mod Needed
