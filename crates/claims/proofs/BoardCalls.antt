@@ -1,39 +1,33 @@
 -- Claims 80 to 90, by the laws of the calls. Assumes nothing.
-use Prim.Native.Nat.{ℕ, zero, suc, _<_}
-use mathlib.Core.Path.{_≡_, refl, sym, ap, subst, _∙_}
+use Prim.Native.Nat.{ℕ, suc}
+use mathlib.Core.Path.{_≡_, refl, sym, _∙_}
 use mathlib.Core.Bool.{true, _&&_}
 use mathlib.Core.List.{List}
 use mathlib.Core.Logic.{inl, inr, ⊎-elim}
 use native.Mathlib.Decide.{ℕ-discrete}
 use native.Mathlib.Omega.{arith}
 use lib.Dec.{eqb, ltb}
-use lib.ListN.{take}
 use borrow.Author.Tests.{eq-eqb, ne-eqb, eqb-true, lt-ltb, ltb-true}
-use Rattle.words.specs.Bits.{hasBit}
-use Rattle.words.proofs.BitsLaws.{hasBit-putBit-same, hasBit-putBit-other}
 use Rattle.words.proofs.TestsLaws.{tested, and-first, and-second, and-both, or-cases, or-left, or-right}
-use Rattle.file.specs.declared.File.{File}
-use Rattle.file.specs.Shape.{Shaped}
 use Rattle.file.specs.Top.{signals}
 use Rattle.files.specs.Files.{fileNumber, theFile}
 use Rattle.direct.specs.Direct.{signalOf}
 use Rattle.direct_laws.proofs.ClaimEffects.{signal-iff}
 use Rattle.wired.specs.Wired.{domainIn}
-use Rattle.file_laws.proofs.Stored.{part-fit}
-use Rattle.files_laws.proofs.Keeps.{filesOf-shaped}
 use Rattle.block.specs.Block.{Board, boardOf}
-use Rattle.block.proofs.BlockLaws.{files-part, files-long}
-use Rattle.block_laws.proofs.BlockBack.{block-back, boardOf-shaped, board-back, length-blockOf}
+use Rattle.block_laws.proofs.BlockBack.{block-back, board-back, length-blockOf}
 use Rattle.block_laws.proofs.StartEffects.{start-sound}
 use Rattle.call.specs.declared.Call.{Call}
 use Rattle.call.specs.Refusal.{testsRules, named, blockRefusal, nameRefusal, refusalOf}
-use Rattle.call.specs.Change.{signalAt, signalsTo}
+use Rattle.call.specs.Change.{signalAt}
 use Rattle.call.specs.Outcome.{outcome}
 use Rattle.call.proofs.RefusalLaws.{refused-state, refused-log, refused-rules, blocks-sound, blocks-untested}
 use Rattle.call.proofs.RefusalLaws.{refused-name, refused-address, refused-select, numbers-name}
 use Rattle.call.proofs.RefusalLaws.{refused-blocks, refused-numbers, passed-state}
 use Rattle.call_laws.proofs.GivesEffects.{gives-one}
-use Rattle.call_laws.proofs.KeepsEffects.{keeps-step}
+use Rattle.call_laws.proofs.FitEffects.{fit-block}
+use Rattle.call_laws.proofs.HartCallEffects.{signal-bit}
+use Rattle.call_laws.proofs.KeepsEffects.{kept-step}
 use Rattle.call_laws.proofs.StepEffects.{step-reset}
 use Rattle.claims.specs.FileFacts.{Claim-33}
 use Rattle.claims.proofs.FileFacts.{claim-33}
@@ -62,7 +56,7 @@ claim-82 l b b′ g g′ r = ((λ learnt. learnt), (λ h learnt. learnt))
 
 pub claim-90 : Claim-90
 unfolding Claim-90
-claim-90 l b b′ g g′ c r learnt = learnt
+claim-90 l b b′ g g′ s s′ c r learnt = learnt
 
 pub claim-83 : Claim-83
 unfolding Claim-83
@@ -77,7 +71,7 @@ module _ (c : Call) (l g : List ℕ) where
       tested (testsRules c) (λ t. blocks-sound (testsRules c) l g long full (rules t))
       (λ f. blocks-untested (testsRules c) l g long full f)
 
-  then : Passes c l g → (k : ℕ) → nameRefusal c ≡ k → refusalOf c l g ≡ k
+  then : Passes c l g → (k : ℕ) → nameRefusal c (boardOf l) ≡ k → refusalOf c l g ≡ k
   then p k e = refused-numbers c l g 0 (sym (none p)) refl ∙ e
 
 pub claim-84 : Claim-84
@@ -86,63 +80,50 @@ claim-84 c l g = (
   (λ h. first c l g 0 (refused-state (testsRules c) l g h)),
   (λ long h. first c l g 1 (refused-log (testsRules c) l g long h)),
   (λ long full t f. first c l g 2 (refused-rules (testsRules c) l g long full t f)),
-  (λ p n. then c l g p 4 (refused-name c n)),
-  (λ p n a. then c l g p 5 (refused-address c n a)),
-  (λ p n a s. then c l g p 6 (refused-select c n a s)),
-  (λ p n a s. then c l g p 0 (numbers-name c n a s)),
+  (λ p n. then c l g p 4 (refused-name c (boardOf l) n)),
+  (λ p n a. then c l g p 5 (refused-address c (boardOf l) n a)),
+  (λ p n a s. then c l g p 6 (refused-select c (boardOf l) n a s)),
+  (λ p n a s. then c l g p 0 (numbers-name c (boardOf l) n a s)),
 )
 
 pub claim-85 : Claim-85
 unfolding Claim-85 outcome
-claim-85 c l g h = simp (ne-eqb (refusalOf c l g) 0 h)
+claim-85 c l g s h = simp (ne-eqb (refusalOf c l g) 0 h)
 
 -- ---- what an accepted call leaves
 
 -- an accepted call passed every test
 accepted : (c : Call) (l g : List ℕ) → refusalOf c l g ≡ 0
-    → (blockRefusal (testsRules c) l g ≡ 0) × (nameRefusal c ≡ 0)
+    → (blockRefusal (testsRules c) l g ≡ 0) × (nameRefusal c (boardOf l) ≡ 0)
 accepted c l g e = at (ℕ-discrete (blockRefusal (testsRules c) l g) 0)
   where
     at : Dec (blockRefusal (testsRules c) l g ≡ 0)
-        → (blockRefusal (testsRules c) l g ≡ 0) × (nameRefusal c ≡ 0)
+        → (blockRefusal (testsRules c) l g ≡ 0) × (nameRefusal c (boardOf l) ≡ 0)
     at (yes z) = (z, sym (refused-numbers c l g 0 (sym z) refl) ∙ e)
     at (no n) = absurd (n (sym (refused-blocks c l g _ refl n) ∙ e))
 
-names : (c : Call) → nameRefusal c ≡ 0 → named c ≡ true
-names c e = tested (named c) (λ y. y) (λ n. absurd (omega (arith, refused-name c n, e)))
+names : (c : Call) (b : Board) → nameRefusal c b ≡ 0 → named c b ≡ true
+names c b e = tested (named c b) (λ y. y) (λ n. absurd (omega (arith, refused-name c b n, e)))
 
 pub claim-86 : Claim-86
 unfolding Claim-86
-claim-86 l g fit c small sound e =
+claim-86 l g s fit savedFit c small sound e =
     let passed = accepted c l g e in
     let long = passed-state (testsRules c) l g (passed .0) in
-    let files = take 360 l in
-    keeps-step (boardOf l) (boardOf-shaped l long) sound
-    (λ k h. subst (λ (fs : List File). Shaped (theFile fs k)) (files-part l long)
-    (filesOf-shaped files (files-long l long) k h (part-fit l 0 360 fit)))
-    c (names c (passed .1)) small
+    let kept = kept-step (boardOf l) (fit-block l long fit sound) s savedFit c
+    (names c (boardOf l) (passed .1))
+    small in
+    (kept .fit .sound, kept .fit .shaped, kept .fit .files, kept .few, kept .saved)
 
 pub claim-87 : Claim-87
 unfolding Claim-87
-claim-87 b = (step-reset b, start-sound)
+claim-87 b s = (step-reset b s, start-sound)
 
 pub claim-88 : Claim-88
 unfolding Claim-88
 claim-88 = (block-back, (λ b s. (board-back b s, length-blockOf b s)))
 
 -- ---- the signals
-
-signal-bit : (b : Board) (h n f : ℕ) → f < n → hasBit (signalsTo b h n) f ≡ signalAt b h f
-unfolding signalsTo
-signal-bit b h zero f l = absurd (omega arith)
-signal-bit b h (suc n) f l = at (ℕ-discrete f n) (signal-bit b h n f)
-  where
-    at : Dec (f ≡ n) → (f < n → hasBit (signalsTo b h n) f ≡ signalAt b h f)
-        → hasBit (signalsTo b h (suc n)) f ≡ signalAt b h f
-    at (yes e) lower =
-        ap (hasBit (signalsTo b h (suc n))) e ∙ hasBit-putBit-same (signalsTo b h n) n (signalAt b h n)
-        ∙ ap (signalAt b h) (sym e)
-    at (no d) lower = hasBit-putBit-other (signalsTo b h n) n (signalAt b h n) f d ∙ lower (omega arith)
 
 pub claim-89 : Claim-89
 unfolding Claim-89 signalAt Claim-33

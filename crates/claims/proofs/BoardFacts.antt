@@ -15,17 +15,27 @@ use Rattle.files.specs.Files.{filesOf, filesFrom, theFile, filesSound, soundAt,
 use Rattle.files.proofs.FilesLaws.{theFile-withFile-other}
 use Rattle.region.specs.Region.{addressLegal}
 use Rattle.block.specs.Block.{Board, boardOf, blockOf, boardSound}
-use Rattle.block.specs.Start.{startBoard}
+use Rattle.block.specs.Start.{startDomain, startBoard}
+use Rattle.domain.specs.Domain.{configOf, byMessages}
+use Rattle.words.specs.Bits.{bitOf, hasBit}
 use Rattle.block_laws.proofs.BlockBack.{board-back, length-blockOf}
 use Rattle.block_laws.proofs.StartEffects.{start-sound, start-shaped}
 use Rattle.call.specs.declared.Call.{Call}
 use Rattle.call.specs.declared.Call.the-variants.{Reset, Wire, DomainRead, DomainWrite, PageRead, PageWrite}
-use Rattle.call.specs.declared.Call.the-variants.{Register, Top, Claim, Signals}
-use Rattle.call.specs.Change.{onFile, change}
-use Rattle.call.specs.Refusal.{testsRules, named, addressed, selected, isWire, isFile, isPageAddress}
+use Rattle.call.specs.declared.Call.the-variants.{Register, Top, Claim, Signals, Move}
+use Rattle.call.specs.Change.{onFile, answering, change}
+use Rattle.call.specs.Refusal.{testsRules, named, addressed, selected, isWire, isFile, isGuestFile, isMove}
+use Rattle.call.specs.Refusal.{isPageAddress}
+use Rattle.call.proofs.RefusalLaws.{numbers-name}
 use Rattle.call.specs.Refusal.{refusalOf}
 use Rattle.call.specs.Outcome.{Stepped, settled, step}
 use Rattle.call_laws.proofs.StepEffects.{step-onFile, step-answering}
+use Rattle.runs.specs.Ready.{boardIn}
+use Rattle.runs.proofs.RunsEffects.{ready-refusal}
+use Rattle.transfer_laws.specs.Premises.{ByMessages}
+use Rattle.transfer_laws.proofs.ShiftEffects.{started-ready}
+use Rattle.transfer_cases.specs.Example.{start as shift-start}
+use Rattle.transfer_cases.proofs.ExampleShift.{example}
 use Rattle.claims.specs.BoardCalls.{Passes, Claim-84}
 use Rattle.claims.specs.BoardFacts.{OnlyFile, Claim-91, Given, Claim-92, Claim-93}
 use Rattle.claims.proofs.BoardCalls.{claim-84}
@@ -33,27 +43,27 @@ use Rattle.claims.proofs.BoardCalls.{claim-84}
 -- ---- one file
 
 module _ (b : Board) (sound : boardSound b ≡ true) where
-  on-file : (k : ℕ) (f : File) (v : ℕ) → OnlyFile k b (settled (onFile b k f v) .board)
-  on-file k f v =
-      let e = step-onFile b sound k f v in
+  on-file : (k : ℕ) (f : File) (v : ℕ) (u : List ℕ) → OnlyFile k b (settled (onFile b k f v u) .board)
+  on-file k f v u =
+      let e = step-onFile b sound k f v u in
       record {
         files = λ j n. ap (λ (s : Stepped). theFile (s .board .files) j) e
             ∙ theFile-withFile-other (b .files) k f j n;
         wired = ap (λ (s : Stepped). s .board .wired) e;
       }
 
-  answers : (v : ℕ) → settled (record { board = b; value = v; own = [] }) .board ≡ b
-  answers v = ap (λ (s : Stepped). s .board) (step-answering b sound v)
+  answers : (v : ℕ) (u : List ℕ) → settled (answering b v u) .board ≡ b
+  answers v u = ap (λ (s : Stepped). s .board) (step-answering b sound v u)
 
 pub claim-91 : Claim-91
 unfolding Claim-91 step change
-claim-91 b sound h f = (
-  (λ a v. on-file b sound _ _ _),
-  (λ k s v. on-file b sound _ _ _),
-  on-file b sound _ _ _,
-  (λ a. answers b sound _),
-  answers b sound _,
-  answers b sound _,
+claim-91 b sound h f u = (
+  (λ a v. on-file b sound _ _ _ u),
+  (λ k s v. on-file b sound _ _ _ u),
+  on-file b sound _ _ _ u,
+  (λ a. answers b sound _ u),
+  answers b sound _ u,
+  answers b sound _ u,
 )
 
 -- ---- the table
@@ -98,24 +108,40 @@ module _ (c : Call) where
   unfolding Claim-84
   three t = given c broken log 3 (claim-84 c broken log .2 refl refl t broken-breaks)
 
-  four : named c ≡ false → Given c 4
+  four : named c (boardOf start) ≡ false → Given c 4
   unfolding Claim-84
   four n = given c start log 4 (claim-84 c start log .3 passes n)
 
-  five : named c ≡ true → addressed c ≡ false → Given c 5
+  five : named c (boardOf start) ≡ true → addressed c ≡ false → Given c 5
   unfolding Claim-84
   five n a = given c start log 5 (claim-84 c start log .4 passes n a)
 
-  six : named c ≡ true → addressed c ≡ true → selected c ≡ false → Given c 6
+  six : named c (boardOf start) ≡ true → addressed c ≡ true → selected c ≡ false → Given c 6
   unfolding Claim-84
   six n a s = given c start log 6 (claim-84 c start log .5 passes n a s)
 
-  done : named c ≡ true → addressed c ≡ true → selected c ≡ true → Given c 0
+  done : named c (boardOf start) ≡ true → addressed c ≡ true → selected c ≡ true → Given c 0
   unfolding Claim-84
   done n a s = given c start log 0 (claim-84 c start log .6 passes n a s)
 
+-- after a reset the child domain is in direct mode
+direct : named (Move 0 2 1 3 1) (boardOf start) ≡ false
+unfolding named isMove isGuestFile startBoard startDomain byMessages configOf hasBit bitOf
+direct = ap (λ (b : Board). byMessages (b .wired .child)) (board-back startBoard start-shaped)
+
+-- the shift of Claim-111 starts with a child domain that sends messages
+accepted : Given (Move 0 2 1 3 1) 0
+unfolding named addressed selected isMove isGuestFile ByMessages
+accepted =
+    let c = Move 0 2 1 3 1 in
+    let p = example .premises in
+    given c (shift-start .block) (shift-start .log) 0
+    (ready-refusal c shift-start (started-ready shift-start (p .started))
+    ∙ numbers-name c (boardIn shift-start) (p .messages) refl refl)
+
 pub claim-92 : Claim-92
-unfolding Claim-92 named addressed selected isWire isFile isPageAddress addressLegal selectLegal
+unfolding Claim-92 named addressed selected isWire isFile isGuestFile isMove isPageAddress addressLegal
+    selectLegal
 claim-92 = (
   (λ c. (one c, two c)),
   (λ c t. three c t),
@@ -124,6 +150,10 @@ claim-92 = (
   (four (PageRead 4 0 0) refl, four (PageRead 0 5 0) refl, four (PageWrite 4 0 0 1) refl),
   (four (Register 4 0 0 0x70 0) refl, four (Register 0 0 4 0x70 0) refl),
   (four (Top 4 0) refl, four (Claim 0 5) refl, four (Signals 4) refl),
+  (four (Move 0 2 1 3 0) refl, four (Move 0 2 1 3 90) refl, four (Move 0 2 0 2 1) refl),
+  (four (Move 4 2 1 3 1) refl, four (Move 0 1 1 3 1) refl, four (Move 0 5 1 3 1) refl),
+  (four (Move 0 2 4 3 1) refl, four (Move 0 2 1 1 1) refl, four (Move 0 2 1 5 1) refl),
+  four (Move 0 2 1 3 1) direct,
   (five (DomainRead 0 0x5000) refl refl, five (DomainWrite 1 2 0) refl refl),
   (five (PageRead 0 0 0x1000) refl refl, five (PageWrite 0 0 1 1) refl refl),
   six (Register 0 0 0 0x81 0) refl refl refl,
@@ -139,6 +169,7 @@ claim-92 = (
     done (Register 0 0 0 0x70 0) refl refl refl,
   ),
   (done (Top 0 0) refl refl refl, done (Claim 0 0) refl refl refl, done (Signals 0) refl refl refl),
+  accepted,
 )
 
 -- ---- the functions that C calls

@@ -15,3 +15,6 @@ pub mod OneSource
 pub mod BoardCalls
 pub mod BoardFacts
 pub mod Modes
+pub mod MoveParts
+pub mod MoveCall
+pub mod Station

@@ -2,7 +2,7 @@
 use Prim.Native.Nat.{ℕ, _≤_}
 use mathlib.Core.Path.{_≡_, ap, _∙_}
 use mathlib.Core.Bool.{Bool, true, false, not}
-use mathlib.Core.List.{[], _∷_}
+use mathlib.Core.List.{List, [], _∷_}
 use mathlib.Core.Logic.{inl, inr, ⊎-elim}
 use native.Mathlib.Decide.{ℕ-discrete}
 use native.Mathlib.Omega.{arith}
@@ -21,11 +21,10 @@ use Rattle.controller_laws.proofs.WireEffects.{wireSet-other, wire-other, wire-
 use Rattle.controller_laws.proofs.WireEffects.{wire-silent, wire-messages}
 use Rattle.controller_laws.proofs.TargetEffects.{target-call, target-wires, target-not, target-own}
 use Rattle.controller_laws.proofs.TargetEffects.{target-other}
-use Rattle.files.specs.Files.{allReached}
 use Rattle.block.specs.Block.{Board}
 use Rattle.call.specs.declared.Call.the-variants.{Wire}
 use Rattle.call.specs.Outcome.{Stepped, step}
-use Rattle.call_laws.proofs.StepEffects.{step-wire}
+use Rattle.call_laws.proofs.StepEffects.{step-wire, wire-sends, wire-reaches-none, wire-reaches-one}
 use Rattle.claims.specs.Rules.{Sound}
 use Rattle.claims.proofs.Controller.{steady, quiet}
 use Rattle.claims.specs.OneSource.{SentNone, SentOne, Claim-96, Claim-97, Claim-98, Claim-99}
@@ -78,31 +77,21 @@ claim-98 w s c i l h v =
 
 -- ---- on the board
 
-module _ (b : Board) (i level : ℕ) where
-  abbrev call-out : Out
-  call-out = wireCall (b .wired) i (eqb level 1)
+module _ (b : Board) (i level : ℕ) (s : List ℕ) where
+  none : wireCall (b .wired) i (eqb level 1) .messages ≡ [] → SentNone b (step (Wire i level) b s)
+  none e = record { messages = wire-sends b i level s ∙ e; files = wire-reaches-none b i level s e }
 
-  step-messages : step (Wire i level) b .messages ≡ call-out .messages
-  step-messages = ap (λ (x : Stepped). x .messages) (step-wire b i level)
-
-  step-files : step (Wire i level) b .board .files ≡ allReached (b .files) (call-out .messages)
-  step-files = ap (λ (x : Stepped). x .board .files) (step-wire b i level)
-
-  none : call-out .messages ≡ [] → SentNone b (step (Wire i level) b)
-  unfolding allReached
-  none e = record { messages = step-messages ∙ e; files = step-files ∙ ap (allReached (b .files)) e }
-
-  one : (c : Bool) → call-out .messages ≡ messageAt c (domainIn (b .wired) c) i ∷ []
-      → SentOne c i b (step (Wire i level) b)
-  unfolding allReached
-  one c e = record { messages = step-messages ∙ e; files = step-files ∙ ap (allReached (b .files)) e }
+  one : (c : Bool) → wireCall (b .wired) i (eqb level 1) .messages ≡ messageAt c (domainIn (b .wired) c) i ∷
+      []
+      → SentOne c i b (step (Wire i level) b s)
+  one c e = record { messages = wire-sends b i level s ∙ e; files = wire-reaches-one b i level s _ e }
 
 pub claim-99 : Claim-99
 unfolding Claim-99 domainIn
-claim-99 b s i l h level = (
-  ap (λ (x : Stepped). x .board .wired) (step-wire b i level),
-  step-messages b i level,
-  ⊎-elim (λ e. inl (none b i level e))
-      (⊎-elim (λ e. inr (inl (one b i level false e))) (λ e. inr (inr (one b i level true e))))
-      (wire-messages (b .wired) (steady (b .wired) s) (quiet (b .wired) s) i l (omega arith) (eqb level 1)),
+claim-99 b t i l h level s = (
+  ap (λ (x : Stepped). x .board .wired) (step-wire b i level s),
+  wire-sends b i level s,
+  ⊎-elim (λ e. inl (none b i level s e))
+      (⊎-elim (λ e. inr (inl (one b i level s false e))) (λ e. inr (inr (one b i level s true e))))
+      (wire-messages (b .wired) (steady (b .wired) t) (quiet (b .wired) t) i l (omega arith) (eqb level 1)),
 )

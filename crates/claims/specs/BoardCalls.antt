@@ -12,6 +12,7 @@ use contract.Lifetimes.{Lfts}
 use denote.Ref.{RefT, now}
 use Rattle.words.specs.Bits.{hasBit}
 use Rattle.words.specs.Sets.{WordsFit}
+use Rattle.file.specs.Shape.{Shaped}
 use Rattle.file.specs.Top.{topOf}
 use Rattle.files.specs.Files.{fileNumber, theFile}
 use Rattle.domain.specs.Domain.{isEnabled, byMessages}
@@ -27,7 +28,8 @@ use Rattle.call.specs.declared.Call.the-variants.{Reset, Wire, DomainRead, Doma
 use Rattle.call.specs.declared.Call.the-variants.{Register, Top, Claim, Signals}
 use Rattle.call.specs.Refusal.{testsRules, named, addressed, selected, refusalOf}
 use Rattle.call.specs.Change.{signalsTo}
-use Rattle.call.specs.Outcome.{Outcome, step, outcome, Gives}
+use Rattle.call.specs.Outcome.{Outcome, step, outcome, Gives, Does}
+use Rattle.call_laws.specs.Fit.{SavedFit}
 use Rattle.call_laws.specs.Small.{Small}
 use Rattle.wired_calls.proofs.set_wire.Reads as set-wire
 use Rattle.wired_calls.proofs.domain_read.Reads as domain-read
@@ -48,50 +50,50 @@ unfoldable pub Claim-80 : Type 0
 Claim-80 =
     (l : Lfts 2) (b b′ g g′ : RefT (List ℕ)) (r : Answer)
     → ((i level : ℕ) → set-wire.Learnt l (b, (g, (i, (level, tt)))) r (b′, (g′, (i, (level, tt))))
-    → Gives (outcome (Wire i level) (now b) (now g)) r (now b′) (now g′))
+    → Does (Wire i level) (now b) (now g) r (now b′) (now g′))
     × ((d a : ℕ) → domain-read.Learnt l (b, (g, (d, (a, tt)))) r (b′, (g′, (d, (a, tt))))
-    → Gives (outcome (DomainRead d a) (now b) (now g)) r (now b′) (now g′))
+    → Does (DomainRead d a) (now b) (now g) r (now b′) (now g′))
     × ((d a v : ℕ) → domain-write.Learnt l (b, (g, (d, (a, (v, tt))))) r (b′, (g′, (d, (a, (v, tt)))))
-    → Gives (outcome (DomainWrite d a v) (now b) (now g)) r (now b′) (now g′))
+    → Does (DomainWrite d a v) (now b) (now g) r (now b′) (now g′))
 
 -- the calls on one message file
 unfoldable pub Claim-81 : Type 0
 Claim-81 =
     (l : Lfts 2) (b b′ g g′ : RefT (List ℕ)) (r : Answer) (h f : ℕ)
     → ((a : ℕ) → page-read.Learnt l (b, (g, (h, (f, (a, tt))))) r (b′, (g′, (h, (f, (a, tt)))))
-    → Gives (outcome (PageRead h f a) (now b) (now g)) r (now b′) (now g′))
+    → Does (PageRead h f a) (now b) (now g) r (now b′) (now g′))
     × ((a v : ℕ)
     → page-write.Learnt l (b, (g, (h, (f, (a, (v, tt)))))) r (b′, (g′, (h, (f, (a, (v, tt))))))
-    → Gives (outcome (PageWrite h f a v) (now b) (now g)) r (now b′) (now g′))
+    → Does (PageWrite h f a v) (now b) (now g) r (now b′) (now g′))
     × ((k s v : ℕ)
     → register.Learnt l (b, (g, (h, (f, (k, (s, (v, tt))))))) r (b′, (g′, (h, (f, (k, (s, (v, tt)))))))
-    → Gives (outcome (Register h f k s v) (now b) (now g)) r (now b′) (now g′))
+    → Does (Register h f k s v) (now b) (now g) r (now b′) (now g′))
     × (top.Learnt l (b, (g, (h, (f, tt)))) r (b′, (g′, (h, (f, tt))))
-    → Gives (outcome (Top h f) (now b) (now g)) r (now b′) (now g′))
+    → Does (Top h f) (now b) (now g) r (now b′) (now g′))
     × (claim.Learnt l (b, (g, (h, (f, tt)))) r (b′, (g′, (h, (f, tt))))
-    → Gives (outcome (Claim h f) (now b) (now g)) r (now b′) (now g′))
+    → Does (Claim h f) (now b) (now g) r (now b′) (now g′))
 
 -- reset, and the signals of a hart
 unfoldable pub Claim-82 : Type 0
 Claim-82 =
     (l : Lfts 2) (b b′ g g′ : RefT (List ℕ)) (r : Answer)
     → (reset.Learnt l (b, (g, tt)) r (b′, (g′, tt))
-    → Gives (outcome Reset (now b) (now g)) r (now b′) (now g′))
+    → Does Reset (now b) (now g) r (now b′) (now g′))
     × ((h : ℕ) → signals.Learnt l (b, (g, (h, tt))) r (b′, (g′, (h, tt)))
-    → Gives (outcome (Signals h) (now b) (now g)) r (now b′) (now g′))
+    → Does (Signals h) (now b) (now g) r (now b′) (now g′))
 
 -- the function over the enum of calls gives what the call of each case gives
 unfoldable pub Claim-90 : Type 0
 Claim-90 =
-    (l : Lfts 2) (b b′ g g′ : RefT (List ℕ)) (c : Call) (r : Answer)
-    → apply.Learnt l (b, (g, (c, tt))) r (b′, (g′, (c, tt)))
-    → Gives (outcome c (now b) (now g)) r (now b′) (now g′)
+    (l : Lfts 3) (b b′ g g′ s s′ : RefT (List ℕ)) (c : Call) (r : Answer)
+    → apply.Learnt l (b, (g, (s, (c, tt)))) r (b′, (g′, (s′, (c, tt))))
+    → Gives (outcome c (now b) (now g) (now s)) r (now b′) (now g′) (now s′)
 
--- two results that a call's contract allows are equal: the answer and both blocks
+-- two results that a call's contract allows are equal: the answer, both blocks and the record of a move
 unfoldable pub Claim-83 : Type 0
 Claim-83 =
-    (o : Outcome) (r s : Answer) (l m g h : List ℕ) → Gives o r l g → Gives o s m h
-    → (r ≡ s) × (l ≡ m) × (g ≡ h)
+    (o : Outcome) (r s : Answer) (l m g h u v : List ℕ) → Gives o r l g u → Gives o s m h v
+    → (r ≡ s) × (l ≡ m) × (g ≡ h) × (u ≡ v)
 
 -- ---- when it is refused
 
@@ -103,35 +105,41 @@ Passes c l g =
 -- the table of refusals: each number where it applies and no lower one does, and 0 where none does
 unfoldable pub Claim-84 : Type 0
 Claim-84 =
-    (c : Call) (l g : List ℕ)
-    → (length l ≢ 650 → refusalOf c l g ≡ 1)
+    (c : Call) (l g : List ℕ) → let b = boardOf l in
+    (length l ≢ 650 → refusalOf c l g ≡ 1)
     × (length l ≡ 650 → length g ≢ 63 → refusalOf c l g ≡ 2)
     × (length l ≡ 650 → length g ≡ 63 → testsRules c ≡ true → boardSound (boardOf l) ≡ false
     → refusalOf c l g ≡ 3)
-    × (Passes c l g → named c ≡ false → refusalOf c l g ≡ 4)
-    × (Passes c l g → named c ≡ true → addressed c ≡ false → refusalOf c l g ≡ 5)
-    × (Passes c l g → named c ≡ true → addressed c ≡ true → selected c ≡ false → refusalOf c l g ≡ 6)
-    × (Passes c l g → named c ≡ true → addressed c ≡ true → selected c ≡ true → refusalOf c l g ≡ 0)
+    × (Passes c l g → named c b ≡ false → refusalOf c l g ≡ 4)
+    × (Passes c l g → named c b ≡ true → addressed c ≡ false → refusalOf c l g ≡ 5)
+    × (Passes c l g → named c b ≡ true → addressed c ≡ true → selected c ≡ false → refusalOf c l g ≡ 6)
+    × (Passes c l g → named c b ≡ true → addressed c ≡ true → selected c ≡ true → refusalOf c l g ≡ 0)
 
--- a refused call answers its number, 0 and 0, and changes neither block
+-- a refused call answers its number, 0 and 0, and changes neither block, nor the record of a move
 unfoldable pub Claim-85 : Type 0
 Claim-85 =
-    (c : Call) (l g : List ℕ) → refusalOf c l g ≢ 0
-    → outcome c l g ≡ record { number = refusalOf c l g; value = 0; count = 0; block = l; log = g }
+    (c : Call) (l g s : List ℕ) → refusalOf c l g ≢ 0
+    → outcome c l g s
+    ≡ record { number = refusalOf c l g; value = 0; count = 0; block = l; log = g; saved = s }
 
 -- ---- what an accepted call leaves
 
--- the state rules hold again, and 63 log words suffice, for every call: of words of 32 bits that keep the
--- rules, and a value of 64 bits
+-- the state rules hold again, every list has its length and every word of a file 32 bits, and 63 log words
+-- suffice, for every call: of words of 32 bits that keep the rules, a value of 64 bits, and a record of such
 unfoldable pub Claim-86 : Type 0
 Claim-86 =
-    (l g : List ℕ) → WordsFit l → (c : Call) → Small c → boardSound (boardOf l) ≡ true → refusalOf c l g ≡ 0
-    → (boardSound (step c (boardOf l) .board) ≡ true) × (length (step c (boardOf l) .messages) ≤ 63)
+    (l g s : List ℕ) → WordsFit l → SavedFit s → (c : Call) → Small c → boardSound (boardOf l) ≡ true
+    → refusalOf c l g ≡ 0
+    → let x = step c (boardOf l) s in
+    (boardSound (x .board) ≡ true) × BoardShaped (x .board)
+    × ((k : ℕ) → k < 20 → Shaped (theFile (x .board .files) k)) × (length (x .messages) ≤ 63)
+    × SavedFit (x .saved)
 
 -- reset leaves the board that the paper describes, whatever the block held, and sends nothing
 unfoldable pub Claim-87 : Type 0
 Claim-87 =
-    (b : Board) → (step Reset b ≡ record { board = startBoard; value = 0; messages = [] })
+    (b : Board) (s : List ℕ)
+    → (step Reset b s ≡ record { board = startBoard; value = 0; messages = []; saved = s })
     × (boardSound startBoard ≡ true)
 
 -- a board has one block, and a block one board

@@ -14,11 +14,11 @@ use Rattle.files.specs.Files.{fileNumber, theFile}
 use Rattle.block.specs.Block.{Board, boardSound}
 use Rattle.call.specs.declared.Call.{Call}
 use Rattle.call.specs.declared.Call.the-variants.{Reset, Wire, DomainRead, DomainWrite, PageRead, PageWrite}
-use Rattle.call.specs.declared.Call.the-variants.{Register, Top, Claim, Signals}
+use Rattle.call.specs.declared.Call.the-variants.{Register, Top, Claim, Signals, Move}
 use Rattle.call.specs.Refusal.{testsRules, refusalOf}
-use Rattle.call.specs.Outcome.{step, outcome}
+use Rattle.call.specs.Outcome.{step}
 use Rattle.answer.specs.declared.VskAnswer.{VskAnswer}
-use Rattle.answer.specs.Told.{Told}
+use Rattle.answer.specs.Told.{Tells}
 use Rattle.monitor.proofs.vsk_reset.Reads as vsk-reset
 use Rattle.monitor.proofs.vsk_wire.Reads as vsk-wire
 use Rattle.monitor.proofs.vsk_domain_read.Reads as vsk-domain-read
@@ -40,13 +40,13 @@ pub record OnlyFile (k : ℕ) (b b′ : Board) : Type 0 where
 -- read of the top or of the signals leave the board
 unfoldable pub Claim-91 : Type 0
 Claim-91 =
-    (b : Board) → boardSound b ≡ true → (h f : ℕ)
-    → ((a v : ℕ) → OnlyFile (fileNumber h f) b (step (PageWrite h f a v) b .board))
-    × ((k s v : ℕ) → OnlyFile (fileNumber h f) b (step (Register h f k s v) b .board))
-    × OnlyFile (fileNumber h f) b (step (Claim h f) b .board)
-    × ((a : ℕ) → step (PageRead h f a) b .board ≡ b)
-    × (step (Top h f) b .board ≡ b)
-    × (step (Signals h) b .board ≡ b)
+    (b : Board) → boardSound b ≡ true → (h f : ℕ) (u : List ℕ)
+    → ((a v : ℕ) → OnlyFile (fileNumber h f) b (step (PageWrite h f a v) b u .board))
+    × ((k s v : ℕ) → OnlyFile (fileNumber h f) b (step (Register h f k s v) b u .board))
+    × OnlyFile (fileNumber h f) b (step (Claim h f) b u .board)
+    × ((a : ℕ) → step (PageRead h f a) b u .board ≡ b)
+    × (step (Top h f) b u .board ≡ b)
+    × (step (Signals h) b u .board ≡ b)
 
 -- ---- no row of the table is empty
 
@@ -55,8 +55,10 @@ pub record Given (c : Call) (n : ℕ) : Type 0 where
   pub log : List ℕ
   pub refused : refusalOf c block log ≡ n
 
--- 1 and 2 by every call, 3 by every call that tests the rules; 4 for each thing that may not be there; 5 by
--- each call with an address, 6 by the one with a select number; and each call is done for some input
+-- 1 and 2 by every call, 3 by every call that tests the rules; 4 for each thing that may not be there, and
+-- by a move for each thing that bars it: its access, old and new the same, either of them no guest file,
+-- and, with numbers that do not bar it, the child domain in direct mode; 5 by each call with an address, 6
+-- by the one with a select number; and each call is done for some input
 unfoldable pub Claim-92 : Type 0
 Claim-92 =
     ((c : Call) → Given c 1 × Given c 2)
@@ -66,12 +68,16 @@ Claim-92 =
     × (Given (PageRead 4 0 0) 4 × Given (PageRead 0 5 0) 4 × Given (PageWrite 4 0 0 1) 4)
     × (Given (Register 4 0 0 0x70 0) 4 × Given (Register 0 0 4 0x70 0) 4)
     × (Given (Top 4 0) 4 × Given (Claim 0 5) 4 × Given (Signals 4) 4)
+    × (Given (Move 0 2 1 3 0) 4 × Given (Move 0 2 1 3 90) 4 × Given (Move 0 2 0 2 1) 4)
+    × (Given (Move 4 2 1 3 1) 4 × Given (Move 0 1 1 3 1) 4 × Given (Move 0 5 1 3 1) 4)
+    × (Given (Move 0 2 4 3 1) 4 × Given (Move 0 2 1 1 1) 4 × Given (Move 0 2 1 5 1) 4)
+    × Given (Move 0 2 1 3 1) 4
     × (Given (DomainRead 0 0x5000) 5 × Given (DomainWrite 1 2 0) 5)
     × (Given (PageRead 0 0 0x1000) 5 × Given (PageWrite 0 0 1 1) 5)
     × Given (Register 0 0 0 0x81 0) 6
     × (Given Reset 0 × Given (Wire 1 1) 0 × Given (DomainRead 0 0) 0 × Given (DomainWrite 0 0 0) 0)
     × (Given (PageRead 0 0 0) 0 × Given (PageWrite 0 0 0 1) 0 × Given (Register 0 0 0 0x70 0) 0)
-    × (Given (Top 0 0) 0 × Given (Claim 0 0) 0 × Given (Signals 0) 0)
+    × (Given (Top 0 0) 0 × Given (Claim 0 0) 0 × Given (Signals 0) 0) × Given (Move 0 2 1 3 1) 0
 
 -- ---- the functions that C calls
 
@@ -80,26 +86,26 @@ unfoldable pub Claim-93 : Type 0
 Claim-93 =
     (l : Lfts 2) (b b′ g g′ : RefT (List ℕ)) (r : VskAnswer)
     → (vsk-reset.Learnt l (b, (g, tt)) r (b′, (g′, tt))
-    → Told (outcome Reset (now b) (now g)) r (now b′) (now g′))
+    → Tells Reset (now b) (now g) r (now b′) (now g′))
     × ((i level : ℕ) → vsk-wire.Learnt l (b, (g, (i, (level, tt)))) r (b′, (g′, (i, (level, tt))))
-    → Told (outcome (Wire i level) (now b) (now g)) r (now b′) (now g′))
+    → Tells (Wire i level) (now b) (now g) r (now b′) (now g′))
     × ((d a : ℕ) → vsk-domain-read.Learnt l (b, (g, (d, (a, tt)))) r (b′, (g′, (d, (a, tt))))
-    → Told (outcome (DomainRead d a) (now b) (now g)) r (now b′) (now g′))
+    → Tells (DomainRead d a) (now b) (now g) r (now b′) (now g′))
     × ((d a v : ℕ)
     → vsk-domain-write.Learnt l (b, (g, (d, (a, (v, tt))))) r (b′, (g′, (d, (a, (v, tt)))))
-    → Told (outcome (DomainWrite d a v) (now b) (now g)) r (now b′) (now g′))
+    → Tells (DomainWrite d a v) (now b) (now g) r (now b′) (now g′))
     × ((h f a : ℕ) → vsk-page-read.Learnt l (b, (g, (h, (f, (a, tt))))) r (b′, (g′, (h, (f, (a, tt)))))
-    → Told (outcome (PageRead h f a) (now b) (now g)) r (now b′) (now g′))
+    → Tells (PageRead h f a) (now b) (now g) r (now b′) (now g′))
     × ((h f a v : ℕ)
     → vsk-page-write.Learnt l (b, (g, (h, (f, (a, (v, tt)))))) r (b′, (g′, (h, (f, (a, (v, tt))))))
-    → Told (outcome (PageWrite h f a v) (now b) (now g)) r (now b′) (now g′))
+    → Tells (PageWrite h f a v) (now b) (now g) r (now b′) (now g′))
     × ((h f k s v : ℕ)
     → vsk-register.Learnt l (b, (g, (h, (f, (k, (s, (v, tt))))))) r
     (b′, (g′, (h, (f, (k, (s, (v, tt)))))))
-    → Told (outcome (Register h f k s v) (now b) (now g)) r (now b′) (now g′))
+    → Tells (Register h f k s v) (now b) (now g) r (now b′) (now g′))
     × ((h f : ℕ) → vsk-top.Learnt l (b, (g, (h, (f, tt)))) r (b′, (g′, (h, (f, tt))))
-    → Told (outcome (Top h f) (now b) (now g)) r (now b′) (now g′))
+    → Tells (Top h f) (now b) (now g) r (now b′) (now g′))
     × ((h f : ℕ) → vsk-claim.Learnt l (b, (g, (h, (f, tt)))) r (b′, (g′, (h, (f, tt))))
-    → Told (outcome (Claim h f) (now b) (now g)) r (now b′) (now g′))
+    → Tells (Claim h f) (now b) (now g) r (now b′) (now g′))
     × ((h : ℕ) → vsk-signals.Learnt l (b, (g, (h, tt))) r (b′, (g′, (h, tt)))
-    → Told (outcome (Signals h) (now b) (now g)) r (now b′) (now g′))
+    → Tells (Signals h) (now b) (now g) r (now b′) (now g′))

@@ -14,3 +14,5 @@ pub mod OneSource
 pub mod BoardCalls
 pub mod BoardFacts
 pub mod Modes
+pub mod MoveCall
+pub mod Station

@@ -6,7 +6,7 @@
 use Prim.Native.Nat.{ℕ, _≤_}
 use mathlib.Core.Path.{_≡_}
 use mathlib.Core.Bool.{Bool, true, false, not, _&&_}
-use mathlib.Core.List.{[], _∷_}
+use mathlib.Core.List.{List, [], _∷_}
 use mathlib.Core.Logic.{_≢_, _⊎_}
 use lib.Dec.{eqb}
 use Rattle.words.specs.Sets.{member}
@@ -80,8 +80,8 @@ pub record SentOne (c : Bool) (i : ℕ) (b : Board) (x : Stepped) : Type 0 where
 -- of these it is, Claim-97 says
 unfoldable pub Claim-99 : Type 0
 Claim-99 =
-    (b : Board) → Sound (b .wired) → (i : ℕ) → 1 ≤ i → i ≤ 63 → (level : ℕ)
-    → let x = step (Wire i level) b in
+    (b : Board) → Sound (b .wired) → (i : ℕ) → 1 ≤ i → i ≤ 63 → (level : ℕ) (s : List ℕ)
+    → let x = step (Wire i level) b s in
     let after = wireCall (b .wired) i (eqb level 1) in
     (x .board .wired ≡ after .wired) × (x .messages ≡ after .messages)
     × (SentNone b x ⊎ SentOne false i b x ⊎ SentOne true i b x)

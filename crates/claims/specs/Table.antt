@@ -21,6 +21,7 @@ use Rattle.direct.specs.Direct.{topiOf}
 use Rattle.region.specs.Region.{wordAt}
 use Rattle.registers.specs.Read.{valueOf as readOf, claimHart}
 use Rattle.call.specs.declared.Call.the-variants.{DomainRead}
+use Rattle.block.specs.Start.{startBoard}
 use Rattle.call.specs.Refusal.{nameRefusal}
 
 -- a row: the case's number, what the definitions give, what the table says
@@ -87,7 +88,7 @@ table =
       says = 0x80000104 ∷ [];
     }
     ∷ record { case = 10; given = claimHart (wordAt 0x407C) ∷ []; says = 3 ∷ [] }
-    ∷ record { case = 10; given = nameRefusal (DomainRead 0 0x5000) ∷ []; says = 5 ∷ [] }
+    ∷ record { case = 10; given = nameRefusal (DomainRead 0 0x5000) startBoard ∷ []; says = 5 ∷ [] }
     ∷ record { case = 11; given = numberOf (accessed 255 true empty Read 0x81 0 .answer) ∷ []; says = 6 ∷ [] }
     ∷ record {
       case = 11;

@@ -1,0 +1,120 @@
+-- Claims 104 to 112, the auditor's question: when the monitor moves a station in the middle of a shift, can
+-- a scan be dropped, doubled or handed to the wrong station? 01, "The move, with its premises". Assumes
+-- nothing.
+--   MovedWhere P     P holds of what is lent after every shift with a move and after the same shift without
+--                    it, where the premises of 01 are met: each is a definition of Rattle.transfer_laws,
+--                    Premises
+use Prim.Native.Nat.{ℕ, _+_, _*_, _<_}
+use mathlib.Core.Path.{_≡_}
+use mathlib.Core.Bool.{Bool, true, false}
+use mathlib.Core.List.{List}
+use mathlib.Core.Logic.{_≢_}
+use Rattle.words.specs.Sets.{member}
+use Rattle.file.specs.Top.{topIdentity}
+use Rattle.files.specs.Files.{fileNumber, theFile}
+use Rattle.wired.specs.Wired.{domainIn}
+use Rattle.call.specs.declared.Call.{Call}
+use Rattle.call.specs.declared.Call.the-variants.{Claim}
+use Rattle.call.specs.Outcome.{step}
+use Rattle.call.specs.Refusal.{nameRefusal, refusalOf}
+use Rattle.call_laws.specs.Small.{Small}
+use Rattle.runs.specs.Runs.{Lent, outcomeOn, after, ran}
+use Rattle.runs.specs.Ready.{boardIn, Ready}
+use Rattle.transfer_laws.specs.Shift.{Stations, Event, withMove, withoutMove}
+use Rattle.transfer_laws.specs.Premises.{Started, TwoGuests, ByMessages, NoneNamesNew, AllAccesses, PagesKept}
+use Rattle.transfer_laws.specs.Moved.{oldNumber, newNumber, oldIn, newIn, AccessesDone}
+use Rattle.transfer_laws.specs.After.{FileCall, saidOf, GoesOn, SmallCalls, SameSignal}
+use Rattle.transfer_cases.specs.Example.{Example}
+use Rattle.transfer_cases.specs.Needed.{PagesAre, NeedsAll, NeedsPagesNew, NeedsPagesOld, NeedsFresh}
+use Rattle.transfer_cases.specs.Needed.{NeedsMessages, NeedsGuestOld, NeedsGuestNew, NeedsStarted}
+
+-- calls one after the other: what a call leaves is ready for the next one, whether it is refused or not; a
+-- refused one leaves all as it was, and an accepted one the board and the record that `step` says. So a
+-- run, which folds the outcome of each call, speaks of the blocks that the code leaves
+unfoldable pub Claim-104 : Type 0
+Claim-104 =
+    (c : Call) (x : Lent) → Ready x → Small c
+    → let b = boardIn x in
+    (refusalOf c (x .block) (x .log) ≡ nameRefusal c b)
+    × (nameRefusal c b ≢ 0 → after c x ≡ x)
+    × (nameRefusal c b ≡ 0 → (boardIn (after c x) ≡ step c b (x .saved) .board)
+    × (after c x .saved ≡ step c b (x .saved) .saved))
+    × Ready (after c x)
+
+abbrev pub MovedWhere : (Stations → Lent → Lent → Type 0) → Type 0
+MovedWhere P =
+    (m : Stations) (x : Lent) (es : List Event) → Started x → TwoGuests m → ByMessages x → NoneNamesNew m x
+    → AllAccesses es → PagesKept m 0 es → P m (ran (withMove m 0 es) x) (ran (withoutMove m es) x)
+
+-- demand 3: the new file is the one that the station would have had with no move; every file but old and
+-- new, every wire, and every pending and enable bit of both domains is the same as with no move; and so is
+-- all else of the machine domain, and the sourcecfg words and delivery structures of the child
+unfoldable pub Claim-105 : Type 0
+Claim-105 =
+    MovedWhere (λ m x y. let b = boardIn x in
+    let b′ = boardIn y in
+    (theFile (b .files) (fileNumber (m .newHart) (m .newFile))
+    ≡ theFile (b′ .files) (fileNumber (m .oldHart) (m .oldFile)))
+    × ((k : ℕ) → k < 20 → k ≢ fileNumber (m .oldHart) (m .oldFile) → k ≢ fileNumber (m .newHart) (m .newFile)
+    → theFile (b .files) k ≡ theFile (b′ .files) k)
+    × (b .wired .wires ≡ b′ .wired .wires)
+    × ((c : Bool) → domainIn (b .wired) c .pending ≡ domainIn (b′ .wired) c .pending)
+    × ((c : Bool) → domainIn (b .wired) c .enable ≡ domainIn (b′ .wired) c .enable)
+    × (b .wired .root ≡ b′ .wired .root) × (b .wired .child .source ≡ b′ .wired .child .source)
+    × (b .wired .child .delivery ≡ b′ .wired .child .delivery))
+
+-- and every one of the 89 accesses is done: with these premises none is refused
+unfoldable pub Claim-106 : Type 0
+Claim-106 =
+    (m : Stations) (x : Lent) (es : List Event) → Started x → TwoGuests m → ByMessages x → NoneNamesNew m x
+    → AllAccesses es → PagesKept m 0 es → AccessesDone m 0 es x
+
+-- no scan is dropped: what is pending for the station with no move is pending in its new file
+unfoldable pub Claim-107 : Type 0
+Claim-107 =
+    MovedWhere (λ m x y. (i : ℕ) → member (oldIn m (boardIn y) .pending) i ≡ true
+    → member (newIn m (boardIn x) .pending) i ≡ true)
+
+-- none is doubled or made up: what is pending in the new file is pending with no move; and a claim
+-- afterwards answers the lowest identity that qualifies, or 0, as it would have, that identity is then gone,
+-- and the file is again the one that there would have been
+unfoldable pub Claim-108 : Type 0
+Claim-108 =
+    MovedWhere (λ m x y. ((i : ℕ) → member (newIn m (boardIn x) .pending) i ≡ true
+    → member (oldIn m (boardIn y) .pending) i ≡ true)
+    × (let new = Claim (m .newHart) (m .newFile) in
+    let old = Claim (m .oldHart) (m .oldFile) in
+    let i = topIdentity 255 (newIn m (boardIn x)) in
+    (saidOf (outcomeOn new x) ≡ record { number = 0; value = i * 65536 + i; count = 0 })
+    × (saidOf (outcomeOn new x) ≡ saidOf (outcomeOn old y))
+    × (i ≢ 0 → member (newIn m (boardIn (after new x)) .pending) i ≡ false)
+    × (newIn m (boardIn (after new x)) ≡ oldIn m (boardIn (after old y)))))
+
+-- none is handed to another station: every file but old and new is the same, bit by bit
+unfoldable pub Claim-109 : Type 0
+Claim-109 =
+    MovedWhere (λ m x y. (k : ℕ) → k < 20 → k ≢ oldNumber m → k ≢ newNumber m
+    → (i : ℕ)
+    → member (theFile (boardIn x .files) k .pending) i ≡ member (theFile (boardIn y .files) k .pending) i)
+
+-- and the shift goes on: any calls on the new file answer what the same calls on the old file would have
+-- answered, and leave the same file; and the new file signals its hart exactly if the old one would have
+-- signalled its own
+unfoldable pub Claim-110 : Type 0
+Claim-110 =
+    MovedWhere (λ m x y. ((cs : List FileCall) → SmallCalls cs → GoesOn m x y cs)
+    × SameSignal m (boardIn x) (boardIn y))
+
+-- ---- the premises
+
+-- they can be met: a start and a shift in full, in which a device and a wire bring messages to old before
+-- they change over, and to new after it
+unfoldable pub Claim-111 : Type 0
+Claim-111 = Example
+
+-- and each of them is needed: without it, or with a bound that is off by one, and with all the others,
+-- there is a start and a shift whose end differs
+unfoldable pub Claim-112 : Type 0
+Claim-112 =
+    NeedsAll × PagesAre × NeedsPagesNew × NeedsPagesOld × NeedsFresh × NeedsMessages × NeedsGuestOld
+    × NeedsGuestNew × NeedsStarted
