@@ -6,15 +6,15 @@
  * A call is lent two blocks, the state of the board and the message log; there is no memory behind the calls.
  * It answers a vsk_answer. Any number may be given in any place: what names nothing is refused.
  *
- * A refused call answers value 0 and count 0 and changes neither block. Of the refusals that apply the lowest
- * is given. Every call may be refused with 1, 2 and 3, but reset with 1 and 2 only; the comment of a function
- * names the further ones.
+ * A refused call answers value 0 and count 0 and changes neither block, nor a move's record. Of the refusals
+ * that apply the lowest is given. Every call may be refused with 1, 2 and 3, but reset with 1 and 2 only; the
+ * comment of a function names the further ones.
  *
  * What each call answers and leaves is proved for all numbers and all contents of both blocks. The proof asks
  * of C, and nothing checks:
  *   - both pointers are not null, are aligned for uint32_t, and have as many words behind them as their
- *     lengths say;
- *   - the two blocks do not overlap;
+ *     lengths say; vsk_move's record is not null, aligned for uint64_t, and has VSK_SAVED_NUMBERS numbers;
+ *   - the two blocks do not overlap, nor does the record overlap either;
  *   - one call at a time is made on one state or one log, and nothing else touches them meanwhile.
  * Link with target/staticlib/libmonitor.a, which `rt staticlib monitor` writes for x86-64. */
 #ifndef VARSKUMO_H
@@ -37,7 +37,7 @@ typedef enum vsk_refusal {
     VSK_STATE_LENGTH = 1,  /* the state has not VSK_STATE_WORDS words */
     VSK_LOG_LENGTH = 2,    /* the log has not VSK_LOG_WORDS words */
     VSK_BROKEN_RULE = 3,   /* the state breaks a state rule */
-    VSK_NO_SUCH = 4,       /* no such hart, file, domain, wire, level or kind of access */
+    VSK_NO_SUCH = 4,       /* no such hart, file, domain, wire, level or kind of access; or a barred move */
     VSK_BAD_ADDRESS = 5,   /* the address is no multiple of 4, or outside the region or page */
     VSK_ILLEGAL_SELECT = 6 /* the select number is below 0x70, above 0xFF, or odd and above 0x80 */
 } vsk_refusal;
@@ -180,6 +180,39 @@ VSK_CALL vsk_answer vsk_claim(uint32_t *state, size_t state_len, uint32_t *log, 
  * Refuses 4: no such hart. */
 VSK_CALL vsk_answer vsk_signals(uint32_t *state, size_t state_len, uint32_t *log, size_t log_len,
                                 uint64_t hart);
+
+/* The move of a station from one guest file, old, to another, new: 89 accesses, each a call, so that wires
+ * may change and messages arrive between any two of them. */
+#define VSK_ACCESSES 89
+
+/* The record of a move, which its accesses fill and use: old's delivery and threshold, its four words of
+ * pending bits and its four of enable bits. It may hold any numbers at first; each access is given what the
+ * last one left. */
+#define VSK_SAVED_NUMBERS 10
+
+/* Makes one access of a move, 1 to VSK_ACCESSES:
+ *    1 to  3   save old's delivery and threshold, set its delivery to 0;
+ *    4 to  8   set new's delivery to 0, clear its pending bits;
+ *    9 to 71   the targets of sources 1 to 63 in the supervisor domain: one that names old is rewritten to
+ *              name new, with the same identity; devices that write to old's page change over to new's now,
+ *              each once, after access 8 and before access 72;
+ *   72 to 79   read old's pending and enable bits into the record;
+ *   80 to 87   set the saved pending bits in new, write the saved enable bits;
+ *   88 and 89  write the saved threshold and delivery to new.
+ * A refused access leaves the record as it was. Made in this order, each once, with one old, one new and one
+ * record, and with no call between the first and the last but vsk_wire and vsk_page_write, they leave new as
+ * the file that the station would have had with no move: the theorem, and what it asks for at the start and of
+ * the page writes, is claim 105 of docs/AUDIT.md.
+ * It takes ten arguments, of which the last are passed on the stack (four on x86-64, two on RISC-V), and less
+ * than 512 bytes of stack beside them, as the archive for x86-64 is built.
+ * Refuses 4: no such access; old and new are not two different guest files; the supervisor domain delivers
+ * directly. */
+#if defined(__GNUC__)
+__attribute__((nonnull(1, 3, 10), warn_unused_result))
+#endif
+vsk_answer vsk_move(uint32_t *state, size_t state_len, uint32_t *log, size_t log_len,
+                    uint64_t old_hart, uint64_t old_file, uint64_t new_hart, uint64_t new_file,
+                    uint64_t access, uint64_t saved[VSK_SAVED_NUMBERS]);
 
 #undef VSK_CALL
 
