@@ -19,8 +19,7 @@ use Rattle.select.specs.Size.{identities}
 use Rattle.file.specs.declared.File.{File}
 use Rattle.file.specs.Page.{pageWritten}
 use Rattle.file_laws.proofs.Keeps.{Rules}
-use Rattle.files.specs.Files.{fileNumber, theFile, namedBy, reached, allReached}
-use Rattle.sending.specs.Delivered.{identityIn}
+use Rattle.files.specs.Files.{fileNumber, theFile, reached, allReached}
 use Rattle.target.specs.Target.{hartOf, guestOf, numberOf, messageOf}
 use Rattle.target.proofs.TargetLaws.{hartOf-lt, guestOf-lt}
 use Rattle.domain.specs.Domain.{configOf, byMessages}
@@ -35,7 +34,7 @@ use Rattle.transfer_files.specs.Related.{Three, Related}
 use Rattle.transfer_files.proofs.RelatedEffects.{related-act}
 use Rattle.transfer_wired.specs.Retargeted.{TargetsOnly, Same, Rewritten, TargetsMoved}
 use Rattle.transfer_wired.proofs.TargetNames.{names-number, names-other, numberOf-renamed, hartOf-renamed}
-use Rattle.transfer_wired.proofs.TargetNames.{guestOf-renamed, message-named-machine, message-reaches}
+use Rattle.transfer_wired.proofs.TargetNames.{guestOf-renamed, message-reaches}
 use Rattle.transfer_wired.proofs.WireRelated.{only-messages, wire-frame, wire-related, targets-wire}
 use Rattle.transfer_wired.proofs.WireRelated.{wire-moved}
 use Rattle.transfer_wired.proofs.StepThree.{retargeted-only, retargeted-moved, moved-else}
@@ -164,16 +163,14 @@ module _ (m : Stations) (g : TwoGuests m) where
     -- the message of the machine domain goes to a machine file, which is neither old nor new
     machine-comes : (t : ℕ) → Files (reached (b .files) (messageOf false t))
         (reached (b′ .files) (messageOf false t))
-    unfolding reached
     machine-comes t =
-        let k = namedBy (messageOf false t) in
-        let e = message-named-machine t in
+        let k = fileNumber (hartOf t) 0 in
         let apart : (h f : ℕ) → isGuestFile h f ≡ true → k ≢ fileNumber h f = λ h f there q.
-        let parts = number-parts (hartOf t) 0 h f (omega arith) (guest-high h f there) (sym e ∙ q) in
+        let parts = number-parts (hartOf t) 0 h f (omega arith) (guest-high h f there) q in
         omega (arith, guest-low h f there, parts .1) in
-        come-same k (identityIn (messageOf false t)) (rw e (number-below (hartOf t) 0 (hartOf-lt t) (omega
-        arith)))
-        (apart (m .newHart) (m .newFile) (g .new)) (λ q. absurd (apart (m .oldHart) (m .oldFile) (g .old) q))
+        rw (message-reaches false t (b .files), message-reaches false t (b′ .files))
+        (come-same k (numberOf t) (number-below (hartOf t) 0 (hartOf-lt t) (omega arith))
+        (apart (m .newHart) (m .newFile) (g .new)) (λ q. absurd (apart (m .oldHart) (m .oldFile) (g .old) q)))
 
     -- that of the child goes where its target says: the same file, or new for old
     child-comes : (i t t′ : ℕ) → 1 ≤ i → i < 64
@@ -181,7 +178,7 @@ module _ (m : Stations) (g : TwoGuests m) where
         ⊎ Rewritten (m .oldHart) (m .oldFile) (m .newHart) (m .newFile) n i t t′
         → Files (reached (b .files) (messageOf true t)) (reached (b′ .files) (messageOf true t′))
     child-comes i t t′ l h (inl q) =
-        rw (q .same, message-reaches t′ (b .files), message-reaches t′ (b′ .files))
+        rw (q .same, message-reaches true t′ (b .files), message-reaches true t′ (b′ .files))
         (come-same (fileNumber (hartOf t′) (guestOf t′ + 1)) (numberOf t′)
         (number-below (hartOf t′) (guestOf t′ + 1) (hartOf-lt t′) (omega (arith, guestOf-lt t′)))
         (names-other t′ (m .newHart) (m .newFile) (guest-high _ _ (g .new)) (q .not-new))
@@ -199,11 +196,11 @@ module _ (m : Stations) (g : TwoGuests m) where
         let old = names-number t′ (m .oldHart) (m .oldFile) (q .was-old) in
         rw (
           q .now-new,
-          message-reaches (renamed t′ (m .newHart) (m .newFile)) (b .files),
+          message-reaches true (renamed t′ (m .newHart) (m .newFile)) (b .files),
           hartOf-renamed t′ (m .newHart) (m .newFile) nh lo hi,
           guestOf-renamed t′ (m .newHart) (m .newFile) nh lo hi,
           numberOf-renamed t′ (m .newHart) (m .newFile) nh lo hi,
-          message-reaches t′ (b′ .files),
+          message-reaches true t′ (b′ .files),
           old .0,
           old .1,
         )

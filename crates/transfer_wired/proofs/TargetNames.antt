@@ -1,8 +1,8 @@
 -- The file that a target of the child names: what rewriting a target does to it, and that a message reaches
 -- the file that its target names, which one law says. No contract cites this file. Assumes nothing.
 use Prim.Native.Nat.{ℕ, _+_, _-_, _≤_, _<_}
-use mathlib.Core.Path.{_≡_, refl, sym, ap, ap₂, _∙_}
-use mathlib.Core.Bool.{true, false}
+use mathlib.Core.Path.{_≡_, refl, sym, ap₂, _∙_}
+use mathlib.Core.Bool.{Bool, true, false, cond}
 use mathlib.Core.List.{List}
 use mathlib.Core.Logic.{_≢_}
 use native.Mathlib.Omega.{arith}
@@ -15,10 +15,9 @@ use Rattle.file.specs.declared.File.{File}
 use Rattle.file.specs.Page.{arrived}
 use Rattle.target.specs.Target.{hartOf, guestOf, numberOf, keptTarget, messageOf}
 use Rattle.target.proofs.TargetLaws.{hartOf-lt, guestOf-lt, numberOf-lt, kept-child}
-use Rattle.target.proofs.TargetLaws.{message-child, message-machine}
-use Rattle.sending.specs.Delivered.{hartIn, identityIn}
+use Rattle.sending.specs.Delivered.{identityIn}
 use Rattle.sending_laws.proofs.MessageEffects.{hartIn-logWord, identityIn-logWord}
-use Rattle.sending_laws.proofs.MessageEffects.{fileIn-child, fileIn-machine}
+use Rattle.sending_laws.proofs.MessageEffects.{fileIn-logWord}
 use Rattle.files.specs.Files.{fileNumber, theFile, withFile, namedBy, reached}
 use Rattle.transfer_steps.specs.Names.{namesFile, renamed}
 
@@ -81,32 +80,30 @@ module _ (t h f : ℕ) (hh : h < 4) (lf : 1 ≤ f) (hf : f < 5) where
 
 -- ---- a message and the file that it names
 
-module _ (t : ℕ) where
-  hartIn-child : hartIn (messageOf true t) ≡ hartOf t
-  hartIn-child =
-      ap hartIn (message-child true t refl)
-      ∙ hartIn-logWord (hartOf t) (guestOf t + 1) (numberOf t) (hartOf-lt t) (omega (arith, guestOf-lt t))
-      (numberOf-lt t)
+-- the file of its hart that a domain's target names: the machine file, or 1 + guest index in the child
+abbrev pub fileOf : Bool → ℕ → ℕ
+fileOf c t = cond c (guestOf t + 1) 0
 
-  pub message-named-child : namedBy (messageOf true t) ≡ fileNumber (hartOf t) (guestOf t + 1)
-  unfolding namedBy
-  message-named-child = ap₂ fileNumber hartIn-child (fileIn-child true t refl)
+-- a message is the log word of its target
+module _ (c : Bool) (t : ℕ) where
+  file-lt : fileOf c t < 8
+  file-lt = tested c (λ e. rw e (omega (arith, guestOf-lt t))) (λ e. rw e (omega arith))
 
-  pub message-identity-child : identityIn (messageOf true t) ≡ numberOf t
-  message-identity-child =
-      ap identityIn (message-child true t refl)
-      ∙ identityIn-logWord (hartOf t) (guestOf t + 1) (numberOf t) (hartOf-lt t)
-      (omega (arith, guestOf-lt t)) (numberOf-lt t)
+  pub message-named : namedBy (messageOf c t) ≡ fileNumber (hartOf t) (fileOf c t)
+  unfolding namedBy messageOf
+  message-named =
+      ap₂ fileNumber (hartIn-logWord (hartOf t) (fileOf c t) (numberOf t) (hartOf-lt t) file-lt (numberOf-lt
+      t))
+      (fileIn-logWord (hartOf t) (fileOf c t) (numberOf t) (hartOf-lt t) file-lt (numberOf-lt t))
 
-  pub message-named-machine : namedBy (messageOf false t) ≡ fileNumber (hartOf t) 0
-  unfolding namedBy
-  message-named-machine =
-      let hart = hartIn-logWord (hartOf t) 0 (numberOf t) (hartOf-lt t) (omega arith) (numberOf-lt t) in
-      ap₂ fileNumber (ap hartIn (message-machine false t refl) ∙ hart) (fileIn-machine false t refl)
+  message-identity : identityIn (messageOf c t) ≡ numberOf t
+  unfolding messageOf
+  message-identity =
+      identityIn-logWord (hartOf t) (fileOf c t) (numberOf t) (hartOf-lt t) file-lt (numberOf-lt t)
 
-  -- a message of the child reaches the file that its target names: the one law of where it goes
+  -- a message reaches the file that its target names: the one law of where it goes
   pub message-reaches : (fs : List File)
-      → let k = fileNumber (hartOf t) (guestOf t + 1) in
-      reached fs (messageOf true t) ≡ withFile fs k (arrived identities (theFile fs k) (numberOf t))
+      → let k = fileNumber (hartOf t) (fileOf c t) in
+      reached fs (messageOf c t) ≡ withFile fs k (arrived identities (theFile fs k) (numberOf t))
   unfolding reached
-  message-reaches fs = rw (message-named-child, message-identity-child)
+  message-reaches fs = rw (message-named, message-identity)
