@@ -29,7 +29,7 @@ use Rattle.controller.specs.Controller.{generatedBy}
 use Rattle.transfer_steps.specs.Steps.{actOf}
 use Rattle.block.specs.Block.{Board}
 use Rattle.block.specs.Start.{startBoard}
-use Rattle.call.specs.Move.{registerOn, Moved, acted}
+use Rattle.call.specs.Move.{registerOn, Acted, acted}
 use Rattle.call.specs.declared.Call.{Call}
 use Rattle.call.specs.declared.Call.the-variants as call
 
@@ -68,7 +68,7 @@ onFile b k f v s =
 abbrev pub answering : Board → ℕ → List ℕ → Changed
 answering b v s = record { board = b; value = v; own = []; saved = s }
 
-abbrev pub moving : Moved → Changed
+abbrev pub moving : Acted → Changed
 moving x = answering (x .board) 0 (x .saved)
 
 unfoldable pub change : Call → Board → List ℕ → Changed

@@ -5,7 +5,7 @@
 --   withOne b h f x            b with x as file f of hart h
 --   retargetedIn .. w i        w after target[i] of the child, if it names old, was written to name new, with
 --                              the same identity
---   Moved                      the board and the record of saved numbers
+--   Acted                      the board and the record of saved numbers
 --   acted a .. b s             b and the record s after the act a
 -- oh and of are the hart and the file of old, nh and nf those of new.
 use Prim.Native.Nat.{ℕ}
@@ -39,11 +39,11 @@ retargetedIn oh of nh nf w i =
     let t = readIn w true (word.Target i) in
     cond (namesFile t oh of) (writtenIn w true (word.Target i) (renamed t nh nf)) w
 
-pub record Moved : Type 0 where
+pub record Acted : Type 0 where
   pub board : Board
   pub saved : List ℕ
 
-unfoldable pub acted : Act → ℕ → ℕ → ℕ → ℕ → Board → List ℕ → Moved
+unfoldable pub acted : Act → ℕ → ℕ → ℕ → ℕ → Board → List ℕ → Acted
 acted (Save select place) oh of nh nf b s =
     record { board = b; saved = set s place (valueOf (registerOn b oh of Read select 0 .answer)) }
 acted (Zero new select) oh of nh nf b s =

@@ -35,7 +35,7 @@ use Rattle.controller.specs.Controller.{flushed}
 use Rattle.transfer_steps.specs.Names.{namesFile, renamed}
 use Rattle.transfer_steps.specs.Steps.{actOf}
 use Rattle.call.specs.declared.Call.{Call}
-use Rattle.call.specs.Move.{retargetedIn, Moved, acted}
+use Rattle.call.specs.Move.{retargetedIn, Acted, acted}
 use Rattle.call.specs.Change.{change}
 use Rattle.call.specs.Refusal.{isWire, isFile, isGuestFile, isMove, isPageAddress, named, addressed, selected}
 use Rattle.call.specs.Refusal.{nameRefusal}
@@ -46,16 +46,16 @@ use Rattle.runs.specs.Ready.{boardIn, Ready, AllSmall}
 use Rattle.runs.proofs.RunsEffects.{after-refused, ready-refusal, after-board, after-saved, ready-after}
 use Rattle.transfer_laws.specs.Shift.{Stations, Event, withMove, withoutMove}
 
-abbrev pub heldBy : Lent → Moved
+abbrev pub heldBy : Lent → Acted
 heldBy x = record { board = boardIn x; saved = x .saved }
 
-unfoldable pub stepOn : Call → Moved → Moved
+unfoldable pub stepOn : Call → Acted → Acted
 stepOn c y =
     let z = step c (y .board) (y .saved) in
-    let w : Moved = record { board = z .board; saved = z .saved } in
+    let w : Acted = record { board = z .board; saved = z .saved } in
     cond (eqb (nameRefusal c (y .board)) 0) w y
 
-unfoldable pub boardRun : List Call → Moved → Moved
+unfoldable pub boardRun : List Call → Acted → Acted
 unfolding stepOn step settled change acted retargetedIn actOf nameRefusal named addressed selected isWire
     isFile isGuestFile isMove isPageAddress namesFile renamed flushed hartIn fileIn identityIn candidate
     servedAt messagesAt sentFrom sent sourceWired wireSet domainIn withDomain sourceOf writtenIn

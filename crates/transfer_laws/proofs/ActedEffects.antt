@@ -22,7 +22,7 @@ use Rattle.transfer_steps.specs.declared.Act.the-variants.{Save, Zero, Target, 
 use Rattle.transfer_files.proofs.TableLaws.{isTarget}
 use Rattle.transfer_files.specs.Related.{Three, guestAccess, actedOn}
 use Rattle.block.specs.Block.{Board}
-use Rattle.call.specs.Move.{registerOn, retargetedIn, Moved, acted}
+use Rattle.call.specs.Move.{registerOn, retargetedIn, Acted, acted}
 use Rattle.call.specs.Refusal.{isGuestFile}
 use Rattle.call_laws.proofs.FileCallEffects.{guest-file}
 use Rattle.call_laws.proofs.MoveCallEffects.{guest-there}
@@ -51,7 +51,7 @@ module _ (oh of nh nf : ℕ) (oldThere : isGuestFile oh of ≡ true) (newThere :
   abbrev new : ℕ
   new = fileNumber nh nf
 
-  abbrev left : Act → Moved
+  abbrev left : Act → Acted
   left a = acted a oh of nh nf b s
 
   -- a file put in the place of new, or of old

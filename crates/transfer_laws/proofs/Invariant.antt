@@ -39,7 +39,7 @@ use Rattle.transfer_wired.proofs.WireRelated.{only-messages, wire-frame, wire-r
 use Rattle.transfer_wired.proofs.WireRelated.{wire-moved}
 use Rattle.transfer_wired.proofs.StepThree.{retargeted-only, retargeted-moved, moved-else}
 use Rattle.block.specs.Block.{Board}
-use Rattle.call.specs.Move.{Moved, acted}
+use Rattle.call.specs.Move.{Acted, acted}
 use Rattle.call.specs.Refusal.{isFile, isGuestFile, isMove}
 use Rattle.call_laws.proofs.FileCallEffects.{onlyFile, file-lt, number-lt, number-read}
 use Rattle.call_laws.specs.Fit.{Fit}
@@ -238,7 +238,7 @@ module _ (m : Stations) (g : TwoGuests m) where
     next = actOf (suc n)
 
     module _ (more : n < accesses) where
-      abbrev moved : Moved
+      abbrev moved : Acted
       moved = acted next (m .oldHart) (m .oldFile) (m .newHart) (m .newFile) b s
 
       next-files : FilesMoved (oldNumber m) (newNumber m) (suc n) (moved .board .files) (b′ .files)
