@@ -38,7 +38,7 @@ help:
 	@echo "make          prove every crate, build and run the programs and the C example, print the table cases"
 	@echo "make test     the whole gate: style, layout, then rt ci, from nothing; its last line is the verdict"
 	@echo "make check    prove what changed since it was last proved, and run the programs"
-	@echo "make example  prove what the C functions need, build examples/station.c on them, run and compare it"
+	@echo "make example  prove what the C functions need, build the examples in C on them, run and compare them"
 	@echo "make tools    install what the example needs (Debian, as root): a C compiler, an emulator off x86-64"
 	@echo "make fmt      bring every source file under crates/ into the layout"
 	@echo "make style    what the checker does not see: width, headers, holes, contracts, edits, names, paths"
