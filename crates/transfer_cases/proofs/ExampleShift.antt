@@ -57,7 +57,7 @@ example-premises =
 -- ---- the run so far, and the rise of the wire after it
 
 module _ (es : List Event) where
-  abbrev computed : call.Moved
+  abbrev computed : call.Acted
   computed = boardRun (withMove stations 0 es) (startOf board)
 
   so-far : heldBy (soFar es) ≡ computed
@@ -66,7 +66,7 @@ module _ (es : List Event) where
 
   -- what is read of the board
   seen : {A : Type 0} (t : Board → A) → t (boardIn (soFar es)) ≡ t (computed .board)
-  seen t = ap (λ (y : call.Moved). t (y .board)) so-far
+  seen t = ap (λ (y : call.Acted). t (y .board)) so-far
 
   ready : Ready (soFar es)
   unfolding start
@@ -82,7 +82,7 @@ module _ (es : List Event) where
   rise = step wireRises (computed .board) (computed .saved)
 
   rises : step wireRises (boardIn (soFar es)) (soFar es .saved) ≡ rise
-  rises = ap (λ (y : call.Moved). step wireRises (y .board) (y .saved)) so-far
+  rises = ap (λ (y : call.Acted). step wireRises (y .board) (y .saved)) so-far
 
   rise-outcome : outcomeOn wireRises (soFar es) ≡ doneAs rise (soFar es .log)
   rise-outcome =

@@ -89,7 +89,7 @@ barred false q e h = absurd (false≢true h)
 
 -- ---- what is lent, where the board of its block is the board that it was made of
 
-abbrev pub startOf : Board → call.Moved
+abbrev pub startOf : Board → call.Acted
 startOf b = record { board = b; saved = replicate saved 0 }
 
 pub ready-started : (x : Lent) → Started x → Ready x
@@ -164,8 +164,8 @@ module _ (b : Board) (good : Good b) where
       let w = lent-ran (withMove m 0 es) (small-with m 0 es) in
       let u = lent-ran (withoutMove m es) (small-without m es) in
       not-same _ old
-      (sym (ap (λ (y : call.Moved). t (oldIn m (y .board))) u) ∙ sym (ap t (e .station))
-      ∙ ap (λ (y : call.Moved). t (newIn m (y .board))) w ∙ new)
+      (sym (ap (λ (y : call.Acted). t (oldIn m (y .board))) u) ∙ sym (ap t (e .station))
+      ∙ ap (λ (y : call.Acted). t (newIn m (y .board))) w ∙ new)
 
 -- ---- the three starts
 
