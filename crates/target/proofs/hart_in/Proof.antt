@@ -1,0 +1,18 @@
+-- `target::hart_in` meets its contract: a field of its size. Assumes nothing.
+use mathlib.Core.Path.{_∙_}
+use Rattle.target.proofs.TargetLaws.{hartIn-lt, hartIn-field}
+use borrow.Author.Needs.{needs}
+use Rattle.target.proofs.hart_in.Statement.{statement}
+use Rattle.target.proofs.hart_in.Tie as tie
+
+field32-requires : tie.Need-field32-requires
+field32-requires c κs = search needs
+
+returns : tie.Need-returns
+returns c =
+    let m = c .before .args .word in
+    let is = c .field32 .ensures ∙ hartIn-field m in
+    (is, rw is (hartIn-lt m))
+
+pub hart-in-spec : {M : Type 1} → statement M
+hart-in-spec = tie.close (tie.spec field32-requires returns)
