@@ -11,6 +11,8 @@ use denote.Ref.{now}
 use Rattle.region.specs.declared.Word.the-variants.{Sourcecfg}
 use Rattle.wired.specs.Wired.{Wired, wiredOf, sourceOf}
 use Rattle.wired.proofs.WiredLaws.{written-part, written-source}
+use Rattle.files.specs.Files.{wordsOf}
+use Rattle.files_laws.proofs.BlockBack.{words-back}
 use Rattle.claims.specs.WiredCalls.{Claim-60, Claim-61, Claim-62, Claim-63, Claim-64, Claim-65}
 use Rattle.claims.specs.WiredCalls.{Claim-66, Claim-67, Claim-68, Claim-69, Claim-70, Claim-71}
 
@@ -36,7 +38,8 @@ claim-64 l b b′ g g′ c r learnt = learnt
 
 pub claim-65 : Claim-65
 unfolding Claim-65
-claim-65 l f f′ g n learnt = learnt
+claim-65 l f f′ g n learnt =
+    (learnt, λ long. sym (words-back (now f′) long) ∙ ap wordsOf learnt)
 
 -- ---- a list is its stretches
 

@@ -9,13 +9,13 @@ use mathlib.Core.Logic.{_⊎_}
 use lib.ListN.{length, getD}
 use contract.Lifetimes.{Lfts}
 use denote.Ref.{RefT, now}
+use Rattle.target.specs.Target.{fileIn}
 use Rattle.region.specs.Region.{Within}
 use Rattle.region.specs.declared.Word.{Word}
 use Rattle.region.specs.declared.Word.the-variants.{Genmsi}
 use Rattle.wired.specs.Wired.{Wired, wiredOf, domainIn, readIn, claimedIn, writtenIn, wireSet}
 use Rattle.rules.specs.Rules.{wiredSound}
 use Rattle.sending.specs.Sending.{sent}
-use Rattle.sending.specs.Delivered.{fileIn}
 use Rattle.genmsi.specs.Genmsi.{generatedSent}
 use Rattle.controller.specs.Controller.{Out, isGenmsi, wireCall, readCall, writeCall, Leaves}
 use Rattle.controller.proofs.set_wire.Reads as set-wire

@@ -17,15 +17,15 @@ use Rattle.direct.specs.Direct.{signalOf}
 use Rattle.registers.specs.Read.{valueOf, claimedBy}
 use Rattle.registers.specs.Write.{registerWritten}
 use Rattle.sending.specs.Sending.{sent, logged}
-use Rattle.sending.specs.Delivered.{delivered}
 use Rattle.genmsi.specs.Genmsi.{generatedSent}
+use Rattle.files.specs.Files.{filesOf, wordsOf, allReached}
 use Rattle.wired.specs.Wired.{wiredOf, readIn, claimedIn, partWritten, wireSet, sourceWritten, sourceOf}
 use Rattle.region.proofs.word_at.Reads as word-at
 use Rattle.registers.proofs.read.Reads as read
 use Rattle.registers.proofs.write.Reads as write
 use Rattle.direct.proofs.signal.Reads as signal
 use Rattle.sending.proofs.send.Reads as send
-use Rattle.sending.proofs.deliver.Reads as deliver
+use Rattle.files.proofs.deliver.Reads as deliver
 use Rattle.genmsi.proofs.send_generated.Reads as send-generated
 use Rattle.wires.proofs.set_wire.Reads as set-wire
 use Rattle.wired.proofs.read.Reads as wired-read
@@ -65,11 +65,13 @@ Claim-64 =
     × (now g′ ≡ logged (now g) (sent c (domainOf (now b)) .messages))
     × (r ≡ length (sent c (domainOf (now b)) .messages))
 
--- what the messages do to the files
+-- what the messages do to the files, and so to each of their 360 words
 unfoldable pub Claim-65 : Type 0
 Claim-65 =
     (l : Lfts 2) (f f′ g : RefT (List ℕ)) (n : ℕ)
-    → deliver.Learnt l (f, (g, (n, tt))) tt (f′, (g, (n, tt))) → now f′ ≡ delivered (now f) (take n (now g))
+    → deliver.Learnt l (f, (g, (n, tt))) tt (f′, (g, (n, tt)))
+    → (filesOf (now f′) ≡ allReached (filesOf (now f)) (take n (now g)))
+    × (length (now f′) ≡ 360 → now f′ ≡ wordsOf (allReached (filesOf (now f)) (take n (now g))))
 
 -- a block determines its domain and the domain its block: so these claims determine every word
 unfoldable pub Claim-66 : Type 0

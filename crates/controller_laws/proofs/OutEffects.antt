@@ -8,14 +8,13 @@ use mathlib.Core.Logic.{inl, inr}
 use native.Mathlib.Omega.{arith}
 use lib.ListN.{length}
 use Rattle.words.proofs.TestsLaws.{tested}
-use Rattle.target.specs.Target.{generatedOf}
+use Rattle.target.specs.Target.{fileIn, generatedOf}
 use Rattle.region.specs.Region.{Within}
 use Rattle.region.specs.declared.Word.{Word}
 use Rattle.domain.specs.Domain.{Domain, byMessages}
 use Rattle.wired.specs.Wired.{Wired, domainIn, wireSet, writtenIn, claimedIn}
 use Rattle.rules.specs.Rules.{wiredSound}
 use Rattle.sending.specs.Sending.{sent}
-use Rattle.sending.specs.Delivered.{fileIn}
 use Rattle.sending_laws.proofs.MessageEffects.{Every, every-none, every-one, every-append, sent-named}
 use Rattle.sending_laws.proofs.MessageEffects.{generated-names}
 use Rattle.sending_laws.proofs.SendingEffects.{sent-count}

@@ -3,24 +3,22 @@
 use Prim.Native.Nat.{ℕ, zero, suc, _+_, _*_, _%_, _≤_, _<_}
 use mathlib.Core.Path.{_≡_, refl, sym, ap, _∙_}
 use mathlib.Core.Logic.{_≢_, _⊎_, inl, inr}
-use mathlib.Core.List.{List, [], _∷_}
+use mathlib.Core.List.{List, [], _∷_, _++_}
 use native.Mathlib.Decide.{ℕ-discrete, decLt}
+use native.Mathlib.Numerals.{add-one}
 use native.Mathlib.Omega.{arith}
 use lib.Dec.{leb}
-use lib.ListN.{length, take, length-set}
-use lib.Seq.{getD-set-same, getD-set-other, ext-getD}
+use lib.ListN.{length, getD, take, length-set}
+use lib.Seq.{getD-set-same, getD-set-other, ext-getD, take-suc}
 use Rattle.select.specs.Size.{identities}
+use Rattle.target.specs.Target.{hartIn, fileIn, identityIn}
 use Rattle.file.specs.declared.File.{File}
 use Rattle.file.specs.Page.{arrived}
 use Rattle.file.specs.Rules.{fileSound}
-use Rattle.file_laws.proofs.PageEffects.{arrived-length, arrived-rest}
-use Rattle.file_laws.proofs.Stored.{Long, long-back, long-apart, length-put, loaded-long}
+use Rattle.file_laws.proofs.Stored.{Long, long-back, long-apart}
 use Rattle.stored.specs.Stored.{fileAt, putFile}
-use Rattle.sending.specs.Delivered.{fileIn, identityIn, place, delivered1, delivered, Named}
-use Rattle.sending.proofs.DeliveredLaws.{hartIn-lt, place-at, delivered1-put, delivered-none, delivered-next}
-use Rattle.sending.proofs.DeliveredLaws.{named-first, named-rest}
 use Rattle.files.specs.Files.{fileNumber, isGuest, zeroFile, filesFrom, filesOf, theFile, withFile}
-use Rattle.files.specs.Files.{namedBy, reached, allReached, soundAt}
+use Rattle.files.specs.Files.{namedBy, reached, allReached, Named, soundAt}
 
 -- ---- one file of the block
 
@@ -103,49 +101,44 @@ module _ (l : List ℕ) (long : length l ≡ 360) (k : ℕ) (h : k < 20) (f : Fi
 
 -- ---- messages
 
-pub named-lt : (m : ℕ) → fileIn m < 5 → namedBy m < 20
+-- five files for each hart
+pub namedBy-is : (m h f : ℕ) → h ≡ hartIn m → f ≡ fileIn m → 5 * h + f ≡ namedBy m
 unfolding namedBy fileNumber
-named-lt m h = omega (arith, hartIn-lt m)
+namedBy-is m h f eh ef = omega arith
 
-place-named : (m : ℕ) → place m ≡ 18 * namedBy m
-unfolding namedBy fileNumber
-place-named m = place-at m
+-- the file that the message names is loaded, the identity arrives, the file is stored
+pub reached-is : (fs : List File) (m k i : ℕ) (f g : File) → k ≡ namedBy m → f ≡ theFile fs k
+    → i ≡ identityIn m → g ≡ arrived identities f i → withFile fs k g ≡ reached fs m
+unfolding reached
+reached-is fs m k i f g ek ef ei eg = rw (eg, ef, ei, ek)
 
-pub arrived-long : (f : File) (i : ℕ) → Long f → Long (arrived identities f i)
-arrived-long f i s =
-    record {
-      pendingLong = arrived-length identities f i ∙ s .pendingLong;
-      enableLong = ap length (arrived-rest identities f i .2) ∙ s .enableLong;
-    }
-
-module _ (b : List ℕ) (long : length b ≡ 360) (m : ℕ) (exists : fileIn m < 5) where
-  pub length-delivered1 : length (delivered1 b m) ≡ 360
-  length-delivered1 =
-      ap length (delivered1-put b m)
-      ∙ length-put b (place m) (arrived 255 (fileAt b (place m)) (identityIn m)) ∙ long
-
-  -- one message in the block is one that reached its file
-  pub filesOf-delivered1 : filesOf (delivered1 b m) ≡ reached (filesOf b) m
-  unfolding reached
-  filesOf-delivered1 =
-      let k = namedBy m in
-      let h = named-lt m exists in
-      let f = arrived 255 (fileAt b (18 * k)) (identityIn m) in
-      rw (delivered1-put b m, place-named m, theFile-filesOf b k h)
-      (filesOf-put b long k h f (arrived-long (fileAt b (18 * k)) (identityIn m)
-      (loaded-long b (18 * k) (omega arith))))
-
-pub filesOf-delivered : (n : ℕ) (b l : List ℕ) → length b ≡ 360 → n ≤ length l → Named l n
-    → filesOf (delivered b (take n l)) ≡ allReached (filesOf b) (take n l)
+pub allReached-none : (fs : List File) → allReached fs [] ≡ fs
 unfolding allReached
-filesOf-delivered zero b l long h named = ap filesOf (delivered-none b)
-filesOf-delivered (suc n) b [] long h named = absurd (omega arith)
-filesOf-delivered (suc n) b (m ∷ l) long h named =
-    let exists = named-first m l n named in
-    ap filesOf (delivered-next b m (take n l))
-    ∙ filesOf-delivered n (delivered1 b m) l (length-delivered1 b long m exists) (omega arith)
-    (named-rest m l n named)
-    ∙ ap (λ (fs : List File). allReached fs (take n l)) (filesOf-delivered1 b long m exists)
+allReached-none fs = refl
+
+allReached-append : (us vs : List ℕ) (fs : List File)
+    → allReached fs (us ++ vs) ≡ allReached (allReached fs us) vs
+unfolding allReached
+allReached-append [] vs fs = refl
+allReached-append (u ∷ us) vs fs = allReached-append us vs (reached fs u)
+
+-- one message more
+pub allReached-more : (fs : List File) (l : List ℕ) (k : ℕ) → k < length l
+    → allReached fs (take (k + 1) l) ≡ reached (allReached fs (take k l)) (getD l k 0)
+unfolding allReached
+allReached-more fs l k h =
+    ap (λ (n : ℕ). allReached fs (take n l)) (add-one k) ∙ ap (allReached fs) (take-suc l k 0 h)
+    ∙ allReached-append (take k l) (getD l k 0 ∷ []) fs
+
+-- `Named` said of each word of the log
+module _ (l : List ℕ) (n : ℕ) where
+  pub named-each : Named l n → (k : ℕ) → k < n → fileIn (getD l k 0) < 5
+  unfolding Named
+  named-each named = named
+
+  pub named-of : ((k : ℕ) → k < n → fileIn (getD l k 0) < 5) → Named l n
+  unfolding Named
+  named-of each = each
 
 -- ---- the state rules
 

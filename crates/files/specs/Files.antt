@@ -10,20 +10,21 @@
 --   namedBy m           the number of the file that the log word m names
 --   reached fs m        fs after the message m arrived at its file; identity 0 changes nothing
 --   allReached fs ms    fs after the messages ms, in order
+--   Named l n           the first n words of the log l name files that exist, of 0 to 4
 --   soundAt fs k        file number k keeps its own state rules
 --   filesSound fs       each of the 20 does
-use Prim.Native.Nat.{ℕ, zero, suc, _+_, _*_, _%_}
+use Prim.Native.Nat.{ℕ, zero, suc, _+_, _*_, _%_, _<_}
 use mathlib.Core.Bool.{Bool}
 use mathlib.Core.List.{List, [], _∷_, _++_}
 use lib.Dec.{leb}
 use lib.ListN.{getD, set, replicate}
 use Rattle.words.specs.Every.{every}
 use Rattle.select.specs.Size.{identities}
+use Rattle.target.specs.Target.{hartIn, fileIn, identityIn}
 use Rattle.file.specs.declared.File.{File}
 use Rattle.file.specs.Page.{arrived}
 use Rattle.file.specs.Rules.{fileSound}
 use Rattle.stored.specs.Stored.{fileWords, fileAt}
-use Rattle.sending.specs.Delivered.{hartIn, fileIn, identityIn}
 
 unfoldable pub fileNumber : ℕ → ℕ → ℕ
 fileNumber h f = 5 * h + f
@@ -60,6 +61,9 @@ reached fs m = withFile fs (namedBy m) (arrived identities (theFile fs (namedBy 
 unfoldable pub allReached : List File → List ℕ → List File
 allReached fs [] = fs
 allReached fs (m ∷ ms) = allReached (reached fs m) ms
+
+unfoldable pub Named : List ℕ → ℕ → Type 0
+Named l n = (k : ℕ) → k < n → fileIn (getD l k 0) < 5
 
 unfoldable pub soundAt : List File → ℕ → Bool
 soundAt fs k = fileSound identities (isGuest k) (theFile fs k)

@@ -1,10 +1,13 @@
 // The 20 message files in their 360 lent words: one file, the messages of a log, the files' state rules.
 ghost use mathlib.Core.Path.{_≡_};
-ghost use Prim.Native.Nat.{_≤_, _<_};
-ghost use lib.ListN.{length, take};
-ghost use Rattle.sending.specs.Delivered.{Named};
-ghost use Rattle.files.specs.Files.{filesOf, theFile, withFile, allReached, soundAt, filesSound};
+ghost use Prim.Native.Nat.{_<_};
+ghost use lib.ListN.{length};
+ghost use Rattle.files.specs.Files.{filesOf, theFile, withFile, soundAt, filesSound};
 use file::File;
+
+mod messages;
+
+pub use messages::deliver;
 
 pub fn load(files: &[u32], k: usize) -> File
     requires { ⌜ (length (now files) ≡ 360) × (k < 20) ⌝ }
@@ -18,16 +21,6 @@ pub fn store(files: &mut [u32], k: usize, f: File)
     ensures { λ r. ⌜ filesOf (now (files .exit)) ≡ withFile (filesOf (now (files .entry))) k f ⌝ }
 {
     stored::store(files, 18 * k, f);
-}
-
-// The first `count` messages of `log` reach their files, in order.
-pub fn deliver(files: &mut [u32], log: &[u32], count: usize)
-    requires { ⌜ (length (now files) ≡ 360) × (length (now log) ≡ 63) × (count ≤ 63)
-        × Named (now log) count ⌝ }
-    ensures { λ r. ⌜ filesOf (now (files .exit))
-        ≡ allReached (filesOf (now (files .entry))) (take count (now (log .entry))) ⌝ }
-{
-    sending::deliver(files, log, count);
 }
 
 fn file_sound(files: &[u32], k: usize) -> bool

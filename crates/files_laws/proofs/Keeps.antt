@@ -18,8 +18,7 @@ use Rattle.file_laws.proofs.Keeps.{rules-of, sound-of, arrived-rules, arrived-s
 use Rattle.file_laws.proofs.Stored.{Long, loaded-long, loaded-shaped}
 use Rattle.files.specs.Files.{isGuest, filesOf, theFile, withFile, allReached, soundAt, filesSound}
 use Rattle.files.proofs.FilesLaws.{theFile-filesOf, theFile-withFile-same, theFile-withFile-other}
-use Rattle.files.proofs.FilesLaws.{arrived-long}
-use Rattle.files_laws.proofs.ReachedEffects.{withFile-past, allReached-keeps}
+use Rattle.files_laws.proofs.ReachedEffects.{arrived-long, withFile-past, allReached-keeps}
 
 -- ---- one file put in
 

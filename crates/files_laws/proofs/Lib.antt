@@ -3,3 +3,4 @@ pub mod BlockBack
 pub mod AnyLaws
 pub mod ReachedEffects
 pub mod Keeps
+pub mod MessageCases

@@ -4,7 +4,7 @@ use Prim.Native.Nat.{ℕ, _≤_, _<_}
 use mathlib.Core.Path.{_≡_, refl, sym, ap, _∙_, subst}
 use mathlib.Core.Logic.{_≢_}
 use mathlib.Core.Bool.{Bool, false, _&&_, _||_, or-false, or-assoc}
-use mathlib.Core.List.{List, [], _∷_, _++_}
+use mathlib.Core.List.{List, [], _∷_}
 use native.Mathlib.Decide.{ℕ-discrete, decLt}
 use native.Mathlib.Omega.{arith}
 use lib.Dec.{eqb, leb}
@@ -15,22 +15,18 @@ use Rattle.words.specs.Sets.{member}
 use Rattle.words.proofs.SetsLaws.{member-insert-other}
 use Rattle.words.proofs.TestsLaws.{tested}
 use Rattle.select.specs.Size.{identities}
+use Rattle.target.specs.Target.{identityIn}
+use Rattle.target.proofs.TargetLaws.{identityIn-lt}
 use Rattle.file.specs.declared.File.{File}
 use Rattle.file.specs.Page.{arrived}
-use Rattle.file_laws.proofs.PageEffects.{arrived-ignored, arrived-pending, arrived-rest}
+use Rattle.file_laws.proofs.PageEffects.{arrived-ignored, arrived-pending, arrived-rest, arrived-length}
 use Rattle.file_laws.proofs.Stored.{Long}
-use Rattle.sending.specs.Delivered.{identityIn}
 use Rattle.files.specs.Files.{zeroFile, theFile, withFile, namedBy, reached, allReached}
 use Rattle.files.proofs.FilesLaws.{length-withFile, theFile-withFile-same, theFile-withFile-other}
-use Rattle.files.proofs.FilesLaws.{arrived-long}
 use Rattle.files_laws.specs.Messages.{names, brings, anyOf, PendingOnly}
 use Rattle.files_laws.proofs.AnyLaws.{or-first, or-second}
 
 -- ---- one message
-
-identityIn-lt : (m : ℕ) → identityIn m < 256
-unfolding identityIn
-identityIn-lt m = omega arith
 
 -- an identity that comes is one of 1 to 255 unless it is 0
 came : (i j : ℕ) → 1 ≤ i → j < 256 → (eqb i j && (leb 1 j && leb j identities)) ≡ eqb j i
@@ -40,6 +36,13 @@ came i j l h = at (ℕ-discrete j i)
     at (yes e) =
         simp (eq-eqb j i e, eq-eqb i j (sym e), le-leb 1 j (omega arith), le-leb j 255 (omega arith))
     at (no n) = simp (ne-eqb j i n, ne-eqb i j (λ e. n (sym e)))
+
+pub arrived-long : (f : File) (i : ℕ) → Long f → Long (arrived identities f i)
+arrived-long f i s =
+    record {
+      pendingLong = arrived-length identities f i ∙ s .pendingLong;
+      enableLong = ap length (arrived-rest identities f i .2) ∙ s .enableLong;
+    }
 
 -- identity 0 changes nothing
 pub arrived-zero : (f : File) (i : ℕ) → i ≡ 0 → arrived identities f i ≡ f
@@ -143,12 +146,6 @@ module _ (fs : List File) (m : ℕ) where
       (record { delivery = refl; threshold = refl; enable = refl })
 
 -- ---- messages in order
-
-pub allReached-append : (us vs : List ℕ) (fs : List File)
-    → allReached fs (us ++ vs) ≡ allReached (allReached fs us) vs
-unfolding allReached
-allReached-append [] vs fs = refl
-allReached-append (u ∷ us) vs fs = allReached-append us vs (reached fs u)
 
 -- what every identity keeps, messages keep of every file
 pub allReached-keeps : (P : File → Type 0) → ((f : File) (i : ℕ) → P f → P (arrived identities f i))

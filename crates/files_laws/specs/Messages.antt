@@ -8,8 +8,8 @@ use mathlib.Core.Path.{_≡_}
 use mathlib.Core.Bool.{Bool, false, _&&_, _||_}
 use mathlib.Core.List.{List, [], _∷_}
 use lib.Dec.{eqb}
+use Rattle.target.specs.Target.{identityIn}
 use Rattle.file.specs.declared.File.{File}
-use Rattle.sending.specs.Delivered.{identityIn}
 use Rattle.files.specs.Files.{namedBy}
 
 unfoldable pub names : ℕ → ℕ → Bool

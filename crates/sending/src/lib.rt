@@ -1,7 +1,5 @@
-// Interrupts forwarded by messages: which messages a domain sends, and what they do to the files.
-mod files;
+// Interrupts forwarded by messages: which messages a domain sends, and the log.
 mod sources;
 mod waiting;
 
-pub use files::deliver;
 pub use sources::send;

@@ -1,5 +1,5 @@
--- The parts of a message in the log are those of its source's target, and every message that is sent names a
--- file that exists. No contract cites this file. Assumes nothing.
+-- The file that a message names is that of its source's target, so every message that is sent names a file
+-- that exists. No contract cites this file. Assumes nothing.
 use Prim.Native.Nat.{ℕ, zero, suc, _+_, _-_, _≤_, _<_}
 use mathlib.Core.Path.{_≡_, refl, sym, ap, _∙_, subst}
 use mathlib.Core.Bool.{Bool, true, false, _&&_}
@@ -9,30 +9,14 @@ use native.Mathlib.Omega.{arith}
 use lib.ListN.{length, getD, take, drop, length-append, List·getD-append}
 use lib.Seq.{getD-append-add, take-at}
 use Rattle.words.proofs.TestsLaws.{tested, not-same}
-use Rattle.target.specs.Target.{hartOf, guestOf, numberOf, logWord, messageOf, generatedOf}
+use Rattle.target.specs.Target.{hartOf, guestOf, numberOf, logWord, fileIn, messageOf, generatedOf}
 use Rattle.target.proofs.TargetLaws.{hartOf-lt, guestOf-lt, numberOf-lt, message-child, message-machine}
-use Rattle.target.proofs.TargetLaws.{generated-child, generated-machine}
+use Rattle.target.proofs.TargetLaws.{fileIn-logWord, generated-child, generated-machine}
 use Rattle.domain.specs.Domain.{Domain, isEnabled, byMessages}
 use Rattle.domain.specs.Slot.{sourceAt}
 use Rattle.sending.specs.Sending.{candidate, servedAt, messagesAt, sentFrom, sent, logged}
-use Rattle.sending.specs.Delivered.{hartIn, fileIn, identityIn, Named}
 use Rattle.sending.proofs.SendingLaws.{messages-hit, messages-miss, sent-on, sent-off}
 use Rattle.sending_laws.specs.Candidates.{Names}
-
--- ---- the parts of a log word
-
-module _ (h f i : ℕ) (hh : h < 4) (hf : f < 8) (hi : i < 256) where
-  pub hartIn-logWord : hartIn (logWord h f i) ≡ h
-  unfolding hartIn logWord
-  hartIn-logWord = omega arith
-
-  pub fileIn-logWord : fileIn (logWord h f i) ≡ f
-  unfolding fileIn logWord
-  fileIn-logWord = omega arith
-
-  pub identityIn-logWord : identityIn (logWord h f i) ≡ i
-  unfolding identityIn logWord
-  identityIn-logWord = omega arith
 
 -- ---- a message, to the file that its target names
 
@@ -121,16 +105,11 @@ module _ (c : Bool) (d : Domain) where
       tested (isEnabled d && byMessages d) (λ t. rw (sent-on c d t) (from-named c d 1 63))
       (λ f. rw (sent-off c d f) (every-none (Names c)))
 
--- messages that name files that exist can be delivered from the log
-pub deliverable : (ms : List ℕ) → Every (λ m. fileIn m < 5) ms → (l : List ℕ)
-    → Named (logged l ms) (length ms)
-unfolding Named logged
-deliverable ms exist l k h =
-    subst (λ (m : ℕ). fileIn m < 5) (sym (List·getD-append ms (drop (length ms) l) 0 k h)) (exist k h)
-
-pub sent-deliverable : (c : Bool) (d : Domain) (l : List ℕ)
-    → Named (logged l (sent c d .messages)) (length (sent c d .messages))
-sent-deliverable c d = deliverable (sent c d .messages) (λ k h. sent-named c d k h .exists)
+-- what holds of every message holds of the words that they take in the log
+pub logged-every : (P : ℕ → Type 0) (ms l : List ℕ) → Every P ms → (k : ℕ) → k < length ms
+    → P (getD (logged l ms) k 0)
+unfolding logged
+logged-every P ms l every k h = subst P (sym (List·getD-append ms (drop (length ms) l) 0 k h)) (every k h)
 
 -- what was logged first is read back
 pub logged-back : (ms l : List ℕ) (n : ℕ) → n ≡ length ms → take n (logged l ms) ≡ ms

@@ -1,21 +1,18 @@
--- Cases by computing: what a domain sends, and what its message does. 01, "Table cases", T8. No contract
--- cites this file. Assumes nothing.
+-- Cases by computing: what a domain sends. 01, "Table cases", T8. No contract cites this file. Assumes
+-- nothing.
 use Prim.Native.Nat.{ℕ}
 use mathlib.Core.Path.{_≡_, refl}
 use mathlib.Core.Bool.{true, false}
 use mathlib.Core.List.{[], _∷_}
-use lib.ListN.{getD, set, replicate}
-use Rattle.words.specs.Bits.{bitOf, hasBit, withBit, withoutBit}
+use lib.ListN.{set, replicate}
+use Rattle.words.specs.Bits.{bitOf, hasBit, withoutBit}
 use Rattle.words.specs.Parts.{fieldOf}
-use Rattle.words.specs.Sets.{member, insert, remove, put}
+use Rattle.words.specs.Sets.{member, remove, put}
 use Rattle.mode.specs.Mode.{isActive}
 use Rattle.target.specs.Target.{hartOf, guestOf, numberOf, logWord, messageOf}
-use Rattle.file.specs.Page.{arrived}
-use Rattle.stored.specs.Stored.{fileWords, fileAt, putFile}
 use Rattle.domain.specs.Domain.{Domain, configOf, isEnabled, byMessages}
 use Rattle.domain.specs.Slot.{sourceAt, withSource}
 use Rattle.sending.specs.Sending.{candidate, servedAt, messagesAt, sentFrom, sent, logged}
-use Rattle.sending.specs.Delivered.{hartIn, fileIn, identityIn, place, delivered1, delivered}
 
 -- a domain with domaincfg v. Sources 2, 7 and 40 are Edge1; 2 and 7 are pending, 7 and 40 are enabled; the
 -- target of 7 is hart 2, guest 1, identity 40.
@@ -50,9 +47,3 @@ case-off = (refl, refl)
 case-logged : logged (9 ∷ 8 ∷ 7 ∷ []) (4648 ∷ []) ≡ 4648 ∷ 8 ∷ 7 ∷ []
 unfolding logged
 case-logged = refl
-
--- identity 40 is bit 8 of the second pending word of hart 2's file 2, whose words begin at 216
-case-delivered : getD (delivered (replicate 360 0) (4648 ∷ [])) 219 0 ≡ 256
-unfolding delivered delivered1 place hartIn fileIn identityIn putFile fileWords fileAt arrived insert
-    withBit bitOf
-case-delivered = refl

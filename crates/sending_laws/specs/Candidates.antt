@@ -12,13 +12,12 @@ use Prim.Native.Nat.{ℕ, zero, suc, _≤_, _<_}
 use mathlib.Core.Path.{_≡_}
 use mathlib.Core.Bool.{Bool, true, false, cond}
 use mathlib.Core.List.{List, [], _∷_}
-use Rattle.target.specs.Target.{messageOf}
+use Rattle.target.specs.Target.{fileIn, messageOf}
 use Rattle.source.specs.declared.Source.{Source}
 use Rattle.source.specs.Pending.{withPending}
 use Rattle.domain.specs.Domain.{Domain}
 use Rattle.domain.specs.Slot.{sourceAt}
 use Rattle.sending.specs.Sending.{candidate}
-use Rattle.sending.specs.Delivered.{fileIn}
 
 unfoldable pub numbersFrom : ℕ → ℕ → List ℕ
 numbersFrom i zero = []

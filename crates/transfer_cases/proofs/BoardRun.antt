@@ -22,6 +22,7 @@ use Rattle.file.specs.Register.{held, written, accessedAt, accessed}
 use Rattle.files.specs.Files.{fileNumber, isGuest, theFile, withFile, namedBy, reached, allReached}
 use Rattle.mode.specs.Mode.{isActive, isLevel, isRectified}
 use Rattle.target.specs.Target.{hartOf, guestOf, numberOf, receiverOf, keptTarget, logWord, messageOf}
+use Rattle.target.specs.Target.{hartIn, fileIn, identityIn}
 use Rattle.source.specs.Pending as source
 use Rattle.domain.specs.Domain.{configOf, isEnabled, byMessages}
 use Rattle.domain.specs.Slot.{sourceAt, withSource}
@@ -30,7 +31,6 @@ use Rattle.writes.specs.Writes.{targetWritten}
 use Rattle.registers.specs.Write.{registerWritten}
 use Rattle.wired.specs.Wired.{sourceWired, wireSet, domainIn, withDomain, sourceOf, writtenIn}
 use Rattle.sending.specs.Sending.{candidate, servedAt, messagesAt, sentFrom, sent}
-use Rattle.sending.specs.Delivered.{hartIn, fileIn, identityIn}
 use Rattle.controller.specs.Controller.{flushed}
 use Rattle.transfer_steps.specs.Names.{namesFile, renamed}
 use Rattle.transfer_steps.specs.Steps.{actOf}

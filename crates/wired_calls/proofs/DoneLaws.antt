@@ -6,14 +6,14 @@ use mathlib.Core.Bool.{Bool, true}
 use mathlib.Core.List.{List, []}
 use native.Mathlib.Omega.{arith}
 use lib.ListN.{length, take, drop}
-use Rattle.files.specs.Files.{filesOf, allReached}
+use Rattle.files.specs.Files.{filesOf, allReached, Named}
+use Rattle.files.proofs.FilesLaws.{named-of}
 use Rattle.region.specs.Region.{Within}
 use Rattle.region.specs.declared.Word.{Word}
 use Rattle.wired.specs.Wired.{Wired, wiredOf}
 use Rattle.rules.specs.Rules.{wiredSound}
-use Rattle.sending.specs.Delivered.{Named}
 use Rattle.sending.specs.Sending.{logged}
-use Rattle.sending_laws.proofs.MessageEffects.{logged-back, deliverable, Every}
+use Rattle.sending_laws.proofs.MessageEffects.{logged-back, logged-every, Every}
 use Rattle.controller.specs.Controller.{Out, Leaves, wireCall, readCall, writeCall}
 use Rattle.controller.proofs.CallLaws.{words-steady, words-quiet, read-silent}
 use Rattle.controller_laws.proofs.OutEffects.{Exists, wire-count, write-count}
@@ -71,7 +71,8 @@ pub left-named : (o : Out) (w : Wired) (g g′ : List ℕ) (n : ℕ) → Leaves 
     → Every Exists (o .messages) → Named g′ n
 left-named o w g g′ n (a, b, k) exist =
     subst (λ (x : List ℕ). Named x n) (sym b)
-    (subst (Named (logged g (o .messages))) (sym k) (deliverable (o .messages) exist g))
+    (named-of (logged g (o .messages)) n
+    (λ j h. logged-every Exists (o .messages) g exist j (omega arith)))
 
 module _ (l zs ys g g′ : List ℕ) (n : ℕ) (long : length l ≡ 650) (wired : length zs ≡ 290)
     (files : length ys ≡ 360) where

@@ -1,17 +1,19 @@
--- `sending::files::deliver` meets its contract: at message k, those before it have arrived. Assumes nothing.
+-- `files::deliver` meets its contract: at message k, those before it have reached their files. Assumes
+-- nothing.
 use Prim.Native.Nat.{ℕ, _-_, _≤_}
 use mathlib.Core.Path.{_≡_, sym, ap, _∙_}
 use mathlib.Core.List.{List}
 use native.Mathlib.Omega.{arith}
 use lib.ListN.{length, getD, take}
-use Rattle.sending.specs.Delivered.{delivered1, delivered, Named}
-use Rattle.sending.proofs.DeliveredLaws.{delivered-none, delivered-more}
-use Rattle.sending.proofs.files.deliver.Statement.{statement}
-use Rattle.sending.proofs.files.deliver.Tie as tie
+use Rattle.file.specs.declared.File.{File}
+use Rattle.files.specs.Files.{filesOf, reached, allReached}
+use Rattle.files.proofs.FilesLaws.{allReached-none, allReached-more, named-each}
+use Rattle.files.proofs.messages.deliver.Statement.{statement}
+use Rattle.files.proofs.messages.deliver.Tie as tie
 
 abbrev Inv-loop : tie.InvT-loop
 Inv-loop files₀ log count k₀ files k =
-    (k ≤ count) × (length files ≡ 360) × (files ≡ delivered files₀ (take k log))
+    (k ≤ count) × (length files ≡ 360) × (filesOf files ≡ allReached (filesOf files₀) (take k log))
 
 abbrev μ-loop : tie.MeasureT-loop
 μ-loop files₀ log count k₀ files k = count - k
@@ -19,7 +21,7 @@ abbrev μ-loop : tie.MeasureT-loop
 loop-holds : tie.Need-loop-holds Inv-loop μ-loop
 loop-holds c =
     let start = c .before .before in
-    (omega arith, start .pre .0, sym (delivered-none (start .args .files .now)))
+    (omega arith, start .pre .0, sym (allReached-none (filesOf (start .args .files .now))))
 
 mul-deliver-one : tie.Need-mul-deliver-one Inv-loop μ-loop
 mul-deliver-one c = omega arith
@@ -28,11 +30,13 @@ shared-slice-read-deliver-one : tie.Need-shared-slice-read-deliver-one Inv-loop 
 shared-slice-read-deliver-one c = omega arith
 
 deliver-one-requires : tie.Need-deliver-one-requires Inv-loop μ-loop
-unfolding Named
 deliver-one-requires c κs =
     let turn = c .before .before in
-    let start = turn .before .before .before .before in
-    (turn .before .loop .inv .1, start .pre .3 (turn .before .loop .k) (turn .loop-test .taken))
+    let start = turn .before .before .before .before in (
+      turn .before .loop .inv .1,
+      named-each (start .args .log .now) (start .args .count) (start .pre .3) (turn .before .loop .k)
+          (turn .loop-test .taken),
+    )
 
 add-k : tie.Need-add-k Inv-loop μ-loop
 add-k c = omega arith
@@ -49,8 +53,8 @@ loop-again c =
     let m = getD (args .log .now) (at-loop .k) 0 in (
       omega arith,
       one .kept .0 ∙ at-loop .inv .1,
-      one .ensures ∙ ap (λ (b : List ℕ). delivered1 b m) (at-loop .inv .2)
-          ∙ sym (delivered-more (args .files .now) (args .log .now) (at-loop .k) (omega arith)),
+      one .ensures ∙ ap (λ (fs : List File). reached fs m) (at-loop .inv .2)
+          ∙ sym (allReached-more (filesOf (args .files .now)) (args .log .now) (at-loop .k) (omega arith)),
     )
 
 same-length : tie.Need-same-length Inv-loop μ-loop
@@ -61,7 +65,7 @@ returns c =
     let at-loop = c .before .loop in
     let args = c .before .before .before .before .args in
     let all : at-loop .k ≡ args .count = omega arith in
-    at-loop .inv .2 ∙ ap (λ (n : ℕ). delivered (args .files .now) (take n (args .log .now))) all
+    at-loop .inv .2 ∙ ap (λ (n : ℕ). allReached (filesOf (args .files .now)) (take n (args .log .now))) all
 
 pub deliver-spec : {M : Type 1} → statement M
 deliver-spec =

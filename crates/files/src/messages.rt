@@ -1,0 +1,36 @@
+// The messages of a log reach their files. Nowhere else does a sent message meet a file.
+ghost use mathlib.Core.Path.{_≡_};
+ghost use Prim.Native.Nat.{_≤_, _<_};
+ghost use lib.ListN.{length, take};
+ghost use Rattle.target.specs.Target.{fileIn};
+ghost use Rattle.files.specs.Files.{filesOf, reached, allReached, Named};
+use super::load;
+use super::store;
+use target::file_in;
+use target::hart_in;
+use target::identity_in;
+
+fn deliver_one(files: &mut [u32], word: u32)
+    requires { ⌜ (length (now files) ≡ 360) × (fileIn word < 5) ⌝ }
+    ensures { λ r. ⌜ filesOf (now (files .exit)) ≡ reached (filesOf (now (files .entry))) word ⌝ }
+{
+    let hart = hart_in(word) as usize;
+    let file = file_in(word) as usize;
+    let k = 5 * hart + file;
+    let f = load(files, k);
+    store(files, k, f.arrive(identity_in(word)));
+}
+
+// The first `count` messages of `log` reach their files, in order.
+pub fn deliver(files: &mut [u32], log: &[u32], count: usize)
+    requires { ⌜ (length (now files) ≡ 360) × (length (now log) ≡ 63) × (count ≤ 63)
+        × Named (now log) count ⌝ }
+    ensures { λ r. ⌜ filesOf (now (files .exit))
+        ≡ allReached (filesOf (now (files .entry))) (take count (now (log .entry))) ⌝ }
+{
+    let mut k: usize = 0;
+    while k < count {
+        deliver_one(files, log[k]);
+        k += 1;
+    }
+}
