@@ -11,13 +11,18 @@
 --                        board b is in direct mode
 --   addressed c          its address is a multiple of 4 in its region or page
 --   selected c           its select number is legal
---   blockRefusal t l g   1: the block l has the wrong length; 2: so has the log g; 3: l breaks a state rule,
---                        where t says that this is tested; the lowest that applies, or 0
---   nameRefusal c b      4: not named; 5: not addressed; 6: not selected; the lowest that applies, or 0
---   refusalOf c l g      the lowest that applies of 1 to 6, or 0
+--   Test                 a test: the number of its refusal, and whether it is passed
+--   firstFailed ts       the number of the first test of ts that is not passed, or 0
+--   blockTests t l g     the tests of the blocks, in their order: 1 the length of the block l, 2 that of the
+--                        log g, 3 the state rules of l, where t says that they are tested
+--   nameTests c b        the tests of the numbers, in their order: 4 what is named, 5 the address, 6 the
+--                        select number
+--   blockRefusal t l g   the refusal by the blocks, or 0
+--   nameRefusal c b      the refusal by the numbers, or 0
+--   refusalOf c l g      the refusal: the first of all these tests that fails, or 0
 use Prim.Native.Nat.{ℕ, _%_}
-use mathlib.Core.Bool.{Bool, true, false, cond, not, _&&_}
-use mathlib.Core.List.{List}
+use mathlib.Core.Bool.{Bool, true, false, cond, not, _&&_, _||_}
+use mathlib.Core.List.{List, [], _∷_, _++_}
 use lib.Dec.{eqb, leb, ltb}
 use lib.ListN.{length}
 use Rattle.select.specs.Select.{selectLegal}
@@ -97,14 +102,33 @@ selected (Claim h f) = true
 selected (Signals h) = true
 selected (Move oh of nh nf n) = true
 
+pub record Test : Type 0 where
+  pub number : ℕ
+  pub passed : Bool
+
+unfoldable pub firstFailed : List Test → ℕ
+firstFailed [] = 0
+firstFailed (t ∷ ts) = cond (t .passed) (firstFailed ts) (t .number)
+
+unfoldable pub blockTests : Bool → List ℕ → List ℕ → List Test
+blockTests t l g =
+    record { number = 1; passed = eqb (length l) 650 }
+    ∷ record { number = 2; passed = eqb (length g) 63 }
+    ∷ record { number = 3; passed = not t || boardSound (boardOf l) }
+    ∷ []
+
+unfoldable pub nameTests : Call → Board → List Test
+nameTests c b =
+    record { number = 4; passed = named c b }
+    ∷ record { number = 5; passed = addressed c }
+    ∷ record { number = 6; passed = selected c }
+    ∷ []
+
 unfoldable pub blockRefusal : Bool → List ℕ → List ℕ → ℕ
-blockRefusal t l g =
-    cond (not (eqb (length l) 650)) 1
-    (cond (not (eqb (length g) 63)) 2 (cond (t && not (boardSound (boardOf l))) 3 0))
+blockRefusal t l g = firstFailed (blockTests t l g)
 
 unfoldable pub nameRefusal : Call → Board → ℕ
-nameRefusal c b = cond (not (named c b)) 4 (cond (not (addressed c)) 5 (cond (not (selected c)) 6 0))
+nameRefusal c b = firstFailed (nameTests c b)
 
 unfoldable pub refusalOf : Call → List ℕ → List ℕ → ℕ
-refusalOf c l g =
-    let n = blockRefusal (testsRules c) l g in cond (eqb n 0) (nameRefusal c (boardOf l)) n
+refusalOf c l g = firstFailed (blockTests (testsRules c) l g ++ nameTests c (boardOf l))

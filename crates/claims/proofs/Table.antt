@@ -26,7 +26,7 @@ use Rattle.direct.specs.Direct.{standing, eligible, precedes, topFrom, topSourc
 use Rattle.registers.specs.Read.{valueOf as readOf}
 use Rattle.region.specs.Region.{wordAt, wordIn, nameIn, registers, addressLegal}
 use Rattle.registers.specs.Read.{claimHart}
-use Rattle.call.specs.Refusal.{nameRefusal, named, addressed, selected}
+use Rattle.call.specs.Refusal.{nameRefusal, nameTests, firstFailed, named, addressed, selected}
 use Rattle.claims.specs.Table.{table, same, holds}
 
 pub table-holds : holds table ≡ true
@@ -35,7 +35,8 @@ unfolding holds table same topOf topIdentity lowest qualifies passes member hasB
     standing eligible precedes lets structureAt sourceAt byMessages configOf hartOf guestOf numberOf fieldOf
     keptTarget receiverOf packed messageOf logWord readOf configWritten modeSettled keptConfig
     withConfig withGenerated redeliveredFrom redeliveredAt redelivered withSource isActive put remove
-    withoutBit claimHart wordAt wordIn nameIn registers nameRefusal named addressed selected addressLegal
+    withoutBit claimHart wordAt wordIn nameIn registers nameRefusal nameTests firstFailed named addressed
+    selected addressLegal
 table-holds = refl
 
 -- what the test says of one row: the two lists are equal

@@ -38,7 +38,7 @@ use Rattle.call.specs.declared.Call.{Call}
 use Rattle.call.specs.Move.{retargetedIn, Acted, acted}
 use Rattle.call.specs.Change.{change}
 use Rattle.call.specs.Refusal.{isWire, isFile, isGuestFile, isMove, isPageAddress, named, addressed, selected}
-use Rattle.call.specs.Refusal.{nameRefusal}
+use Rattle.call.specs.Refusal.{firstFailed, nameTests, nameRefusal}
 use Rattle.call.specs.Outcome.{settled, step}
 use Rattle.call_laws.specs.Small.{Small}
 use Rattle.runs.specs.Runs.{Lent, after, ran}
@@ -56,15 +56,15 @@ stepOn c y =
     cond (eqb (nameRefusal c (y .board)) 0) w y
 
 unfoldable pub boardRun : List Call → Acted → Acted
-unfolding stepOn step settled change acted retargetedIn actOf nameRefusal named addressed selected isWire
-    isFile isGuestFile isMove isPageAddress namesFile renamed flushed hartIn fileIn identityIn candidate
-    servedAt messagesAt sentFrom sent sourceWired wireSet domainIn withDomain sourceOf writtenIn
-    registerWritten targetWritten valueOf sourceAt withSource configOf isEnabled byMessages source.settled
-    source.wireChanged source.retargeted hartOf guestOf numberOf receiverOf keptTarget logWord messageOf
-    isActive isLevel isRectified fileNumber isGuest theFile withFile namedBy reached allReached held written
-    accessedAt accessed arrived pageWritten deliveryLegal doubleword putHalves putDoubleword selectLegal
-    registerOf wordsFrom low high joined fieldOf packed member insert remove put bitOf hasBit withBit
-    withoutBit union
+unfolding stepOn step settled change acted retargetedIn actOf nameRefusal nameTests firstFailed named
+    addressed selected isWire isFile isGuestFile isMove isPageAddress namesFile renamed flushed hartIn
+    fileIn identityIn candidate servedAt messagesAt sentFrom sent sourceWired wireSet domainIn withDomain
+    sourceOf writtenIn registerWritten targetWritten valueOf sourceAt withSource configOf isEnabled
+    byMessages source.settled source.wireChanged source.retargeted hartOf guestOf numberOf receiverOf
+    keptTarget logWord messageOf isActive isLevel isRectified fileNumber isGuest theFile withFile namedBy
+    reached allReached held written accessedAt accessed arrived pageWritten deliveryLegal doubleword
+    putHalves putDoubleword selectLegal registerOf wordsFrom low high joined fieldOf packed member insert
+    remove put bitOf hasBit withBit withoutBit union
 boardRun [] y = y
 boardRun (c ∷ cs) y = boardRun cs (stepOn c y)
 

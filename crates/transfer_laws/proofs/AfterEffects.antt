@@ -3,7 +3,7 @@
 --   leaves c x, answers c x    what the call c leaves of a guest's file x, and what it answers
 use Prim.Native.Nat.{ℕ}
 use mathlib.Core.Path.{_≡_, refl, sym, ap, ap₂, _∙_}
-use mathlib.Core.Bool.{Bool, true, cond, not}
+use mathlib.Core.Bool.{Bool, true, cond}
 use mathlib.Core.List.{List, [], _∷_}
 use native.Mathlib.Decide.{ℕ-discrete}
 use native.Mathlib.Omega.{arith}
@@ -22,7 +22,8 @@ use Rattle.block.specs.Block.{Board}
 use Rattle.call.specs.declared.Call.{Call}
 use Rattle.call.specs.Change.{kindOf}
 use Rattle.call.specs.Outcome.{Stepped, step, doneAs}
-use Rattle.call.specs.Refusal.{isPageAddress, isGuestFile, named, addressed, selected, nameRefusal}
+use Rattle.call.specs.Refusal.{isPageAddress, isGuestFile, named, addressed, selected, firstFailed}
+use Rattle.call.specs.Refusal.{nameTests, nameRefusal}
 use Rattle.call_laws.specs.Fit.{Fit}
 use Rattle.call_laws.specs.Small.{Small}
 use Rattle.call_laws.proofs.CallTests.{quiet}
@@ -60,15 +61,15 @@ answers FileCall.claim x = topOf identities x
 
 -- the refusal of a call on a file that is there
 abbrev refusalIn : FileCall → ℕ
-refusalIn (FileCall.pageRead a) = cond (not (isPageAddress a)) 5 0
-refusalIn (FileCall.pageWrite a v) = cond (not (isPageAddress a)) 5 0
-refusalIn (FileCall.register k s v) = cond (not (ltb k 4)) 4 (cond (not (selectLegal s)) 6 0)
+refusalIn (FileCall.pageRead a) = cond (isPageAddress a) 0 5
+refusalIn (FileCall.pageWrite a v) = cond (isPageAddress a) 0 5
+refusalIn (FileCall.register k s v) = cond (ltb k 4) (cond (selectLegal s) 0 6) 4
 refusalIn FileCall.top = 0
 refusalIn FileCall.claim = 0
 
 module _ (h f : ℕ) (there : isGuestFile h f ≡ true) where
   refusal-on : (b : Board) (c : FileCall) → nameRefusal (callOn h f c) b ≡ refusalIn c
-  unfolding nameRefusal named addressed selected
+  unfolding nameRefusal nameTests firstFailed named addressed selected
   refusal-on b (FileCall.pageRead a) = simp (guest-there h f there)
   refusal-on b (FileCall.pageWrite a v) = simp (guest-there h f there)
   refusal-on b (FileCall.register k s v) = simp (guest-there h f there)

@@ -4,7 +4,7 @@
 --                   their boards are those of a move after n accesses
 use Prim.Native.Nat.{ℕ, suc, _+_, _≤_, _<_}
 use mathlib.Core.Path.{_≡_, refl, sym, ap, ap₂, subst, _∙_}
-use mathlib.Core.Bool.{Bool, true, false, cond, not}
+use mathlib.Core.Bool.{Bool, true, false, cond}
 use mathlib.Core.List.{List, [], _∷_}
 use native.Mathlib.Decide.{ℕ-discrete}
 use native.Mathlib.Omega.{arith}
@@ -20,7 +20,7 @@ use Rattle.call.specs.declared.Call.{Call}
 use Rattle.call.specs.declared.Call.the-variants.{Wire, PageWrite}
 use Rattle.call.specs.Outcome.{Outcome, step}
 use Rattle.call.specs.Refusal.{isWire, isFile, isPageAddress, isMove, named, addressed, selected}
-use Rattle.call.specs.Refusal.{nameRefusal}
+use Rattle.call.specs.Refusal.{firstFailed, nameTests, nameRefusal}
 use Rattle.call.proofs.RefusalLaws.{numbers-name}
 use Rattle.call_laws.specs.Small.{Small}
 use Rattle.call_laws.proofs.FileCallEffects.{step-pageWrite}
@@ -91,7 +91,7 @@ module _ (m : Stations) (g : TwoGuests m) where
     beside-wire i level = both (Wire i level) (Wire i level) same wired
       where
         same : nameRefusal (Wire i level) (boardIn x) ≡ nameRefusal (Wire i level) (boardIn y)
-        same = unfold nameRefusal named in refl
+        same = unfold nameRefusal nameTests named in refl
 
         wired : nameRefusal (Wire i level) (boardIn x) ≡ 0 → nameRefusal (Wire i level) (boardIn y) ≡ 0
             → Beside n (after (Wire i level) x) (after (Wire i level) y)
@@ -129,8 +129,8 @@ module _ (m : Stations) (g : TwoGuests m) where
         where
           same : nameRefusal (PageWrite h f a v) (boardIn x) ≡ nameRefusal (PageWrite h′ f′ a v) (boardIn y)
           same =
-              unfold nameRefusal named addressed selected in
-              ap (λ (b : Bool). cond (not b) 4 (cond (not (isPageAddress a)) 5 0)) same-file
+              unfold nameRefusal nameTests firstFailed named addressed selected in
+              ap (λ (b : Bool). cond b (cond (isPageAddress a) 0 5) 4) same-file
 
           written : nameRefusal (PageWrite h f a v) (boardIn x) ≡ 0
               → nameRefusal (PageWrite h′ f′ a v) (boardIn y) ≡ 0
