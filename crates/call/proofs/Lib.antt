@@ -1,2 +1,3 @@
 -- The laws of the calls. Assumes nothing.
+pub mod AnswerLaws
 pub mod RefusalLaws

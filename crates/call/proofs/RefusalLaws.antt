@@ -1,8 +1,8 @@
 -- Laws of specs/Refusal.antt: which number each failed test gives, and what holds where none fails. No
 -- contract cites this file. Assumes nothing.
-use Prim.Native.Nat.{ℕ, _≤_}
+use Prim.Native.Nat.{ℕ}
 use mathlib.Core.Path.{_≡_, refl, sym, _∙_}
-use mathlib.Core.Bool.{Bool, true, false, cond, not, _&&_, _||_, false≢true}
+use mathlib.Core.Bool.{Bool, true, false, cond, not, _&&_, false≢true}
 use mathlib.Core.List.{List, [], _∷_, _++_}
 use mathlib.Core.Logic.{_≢_}
 use native.Mathlib.Decide.{ℕ-discrete}
@@ -12,9 +12,12 @@ use lib.ListN.{length}
 use borrow.Author.Tests.{eq-eqb, ne-eqb}
 use Rattle.words.proofs.TestsLaws.{tested, and-first, and-second, or-right}
 use Rattle.block.specs.Block.{Board, boardOf, boardSound}
+use Rattle.call.specs.declared.Answer.{Answer}
 use Rattle.call.specs.declared.Call.{Call}
+use Rattle.call.specs.Answer.{Refuses}
 use Rattle.call.specs.Refusal.{testsRules, named, addressed, selected, Test, firstFailed, blockTests}
 use Rattle.call.specs.Refusal.{nameTests, blockRefusal, nameRefusal, refusalOf}
+use Rattle.call.proofs.AnswerLaws.{NotDone, refused-case}
 
 not-true : (t : Bool) → not t ≡ true → t ≡ false
 not-true true e = absurd (false≢true e)
@@ -64,25 +67,17 @@ module _ (t : Bool) (l g : List ℕ) where
       unfolding blockRefusal blockTests firstFailed
       blocks-untested e = simp (eq-eqb (length l) 650 long, eq-eqb (length g) 63 full, e)
 
--- the number is at most 3
-pub block-le : (t : Bool) (l g : List ℕ) → blockRefusal t l g ≤ 3
-unfolding blockRefusal blockTests firstFailed
-block-le t l g =
-    tested (eqb (length l) 650)
-    (λ a. rw a (tested (eqb (length g) 63)
-    (λ b. rw b (tested (not t || boardSound (boardOf l)) (λ r. rw r (omega arith))
-    (λ r. rw r (omega arith))))
-    (λ b. rw b (omega arith))))
-    (λ a. rw a (omega arith))
-
 -- a refusal by the lengths is one where the rules are tested too
-pub refused-lengths : (t : Bool) (l g : List ℕ) (k : ℕ) → k ≡ blockRefusal false l g → k ≢ 0
-    → k ≡ blockRefusal t l g
+pub refused-lengths : (t : Bool) (l g : List ℕ) (r : Answer) → Refuses r (blockRefusal false l g) → NotDone r
+    → Refuses r (blockRefusal t l g)
 unfolding blockRefusal blockTests firstFailed
-refused-lengths t l g k e h =
+refused-lengths t l g r e d =
+    let same : blockRefusal false l g ≡ blockRefusal t l g =
     tested (eqb (length l) 650)
-    (λ a. tested (eqb (length g) 63) (λ b. absurd (h (e ∙ simp (a, b)))) (λ b. e ∙ simp (a, b)))
-    (λ a. e ∙ simp a)
+    (λ a. tested (eqb (length g) 63) (λ b. absurd (refused-case r d (e .number ∙ simp (a, b))))
+    (λ b. simp (a, b)))
+    (λ a. simp a) in
+    record { number = e .number ∙ same; value = e .value; count = e .count }
 
 -- where no test fails
 module _ (t : Bool) (l g : List ℕ) (z : blockRefusal t l g ≡ 0) where
@@ -139,6 +134,5 @@ module _ (c : Call) (l g : List ℕ) where
   refused-blocks k e h =
       refusal-append ∙ simp (ne-eqb (blockRefusal (testsRules c) l g) 0 (λ z. h (e ∙ z))) (sym e)
 
-  pub refused-numbers : (k : ℕ) → k ≡ blockRefusal (testsRules c) l g → k ≡ 0
-      → refusalOf c l g ≡ nameRefusal c (boardOf l)
-  refused-numbers k e z = refusal-append ∙ simp (eq-eqb (blockRefusal (testsRules c) l g) 0 (sym e ∙ z))
+  pub refused-numbers : blockRefusal (testsRules c) l g ≡ 0 → refusalOf c l g ≡ nameRefusal c (boardOf l)
+  refused-numbers z = refusal-append ∙ simp (eq-eqb (blockRefusal (testsRules c) l g) 0 z)

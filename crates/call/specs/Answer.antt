@@ -2,10 +2,9 @@
 --   numberOf r       the refusal, 0 if it is done
 --   valueOf r        the value, 0 if it is refused
 --   countOf r        the number of messages, 0 if it is refused
---   refusalCase n    the answer of the refusal with the number n, of 1 to 6
+--   Refuses r n      r is the refusal n, with 0 and 0; with the number 0 it is done, and no test fails
 use Prim.Native.Nat.{ℕ}
-use mathlib.Core.Bool.{cond}
-use lib.Dec.{eqb}
+use mathlib.Core.Path.{_≡_}
 use Rattle.call.specs.declared.Answer.{Answer}
 use Rattle.call.specs.declared.Answer.the-variants.{Done, StateLength, LogLength, BrokenRule, NoSuch}
 use Rattle.call.specs.declared.Answer.the-variants.{BadAddress, IllegalSelect}
@@ -37,8 +36,7 @@ countOf NoSuch = 0
 countOf BadAddress = 0
 countOf IllegalSelect = 0
 
-unfoldable pub refusalCase : ℕ → Answer
-refusalCase n =
-    cond (eqb n 1) StateLength
-    (cond (eqb n 2) LogLength
-    (cond (eqb n 3) BrokenRule (cond (eqb n 4) NoSuch (cond (eqb n 5) BadAddress IllegalSelect))))
+pub record Refuses (r : Answer) (n : ℕ) : Type 0 where
+  pub number : numberOf r ≡ n
+  pub value : valueOf r ≡ 0
+  pub count : countOf r ≡ 0

@@ -1,31 +1,33 @@
-// The tests of the two lent blocks: their lengths, and the state rules.
-ghost use mathlib.Core.Path.{_≡_};
+// The tests of the two lent blocks: their lengths, and the state rules. Each answers the refusal, or done if
+// no test fails.
 ghost use mathlib.Core.Bool.{true, false};
+ghost use Rattle.call.specs.Answer.{Refuses};
 ghost use Rattle.call.specs.Refusal.{blockRefusal};
+use super::Answer;
 
-// Refusal 1 or 2, or 0.
-pub fn lengths(state: &[u32], log: &[u32]) -> u32
-    ensures { λ r. ⌜ r ≡ blockRefusal false (now (state .entry)) (now (log .entry)) ⌝ }
+// Refusal 1 or 2.
+pub fn lengths(state: &[u32], log: &[u32]) -> Answer
+    ensures { λ r. ⌜ Refuses r (blockRefusal false (now (state .entry)) (now (log .entry))) ⌝ }
 {
     if state.len() != 650 {
-        return 1;
+        return Answer::StateLength;
     }
     if log.len() != 63 {
-        return 2;
+        return Answer::LogLength;
     }
-    0
+    Answer::Done(0, 0)
 }
 
-// Refusal 1, 2 or 3, or 0.
-pub fn check(state: &[u32], log: &[u32]) -> u32
-    ensures { λ r. ⌜ r ≡ blockRefusal true (now (state .entry)) (now (log .entry)) ⌝ }
+// Refusal 1, 2 or 3.
+pub fn check(state: &[u32], log: &[u32]) -> Answer
+    ensures { λ r. ⌜ Refuses r (blockRefusal true (now (state .entry)) (now (log .entry))) ⌝ }
 {
-    let number = lengths(state, log);
-    if number != 0 {
-        return number;
+    let answer = lengths(state, log);
+    let Answer::Done(_, _) = answer else {
+        return answer;
+    };
+    if !block::sound(state) {
+        return Answer::BrokenRule;
     }
-    if block::sound(state) {
-        return 0;
-    }
-    3
+    answer
 }

@@ -9,7 +9,6 @@ pub use numbers::is_move;
 pub use numbers::is_page_address;
 pub use numbers::is_wire;
 pub use numbers::kind_of;
-pub use numbers::refusal;
 
 // One case for each call, with its numbers.
 pub enum Call {

@@ -1,32 +1,8 @@
-// Which numbers name something, and the answer of a refusal by its number.
+// Which numbers name something.
 ghost use mathlib.Core.Path.{_≡_};
 ghost use Rattle.call.specs.Refusal.{isWire, isFile, isGuestFile, isMove, isPageAddress};
 ghost use Rattle.call.specs.Change.{kindOf};
-ghost use Rattle.call.specs.Answer.{refusalCase};
-use super::Answer;
 use file::Access;
-
-// The answer of a refusal by its number, of 1 to 6.
-pub fn refusal(number: u32) -> Answer
-    ensures { λ r. ⌜ r ≡ refusalCase number ⌝ }
-{
-    if number == 1 {
-        return Answer::StateLength;
-    }
-    if number == 2 {
-        return Answer::LogLength;
-    }
-    if number == 3 {
-        return Answer::BrokenRule;
-    }
-    if number == 4 {
-        return Answer::NoSuch;
-    }
-    if number == 5 {
-        return Answer::BadAddress;
-    }
-    Answer::IllegalSelect
-}
 
 pub fn is_wire(wire: u64, level: u64) -> bool
     ensures { λ r. ⌜ r ≡ isWire wire level ⌝ }

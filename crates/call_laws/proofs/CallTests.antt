@@ -4,10 +4,9 @@
 --                    address, its select number
 --   quiet b v s      what a call does that leaves the board b and the record s, answers v and sends nothing
 use Prim.Native.Nat.{ℕ}
-use mathlib.Core.Path.{_≡_, refl, sym, ap, _∙_}
+use mathlib.Core.Path.{_≡_, refl, sym, ap, subst, _∙_}
 use mathlib.Core.Bool.{Bool, true, false}
 use mathlib.Core.List.{List, []}
-use mathlib.Core.Logic.{_≢_}
 use lib.ListN.{length}
 use Rattle.sending.specs.Sending.{logged}
 use Rattle.sending.proofs.SendingLaws.{logged-none}
@@ -16,9 +15,10 @@ use Rattle.block.specs.Block.{Board, boardOf, boardSound}
 use Rattle.call.specs.declared.Answer.{Answer}
 use Rattle.call.specs.declared.Answer.the-variants.{Done, NoSuch, BadAddress, IllegalSelect}
 use Rattle.call.specs.declared.Call.{Call}
-use Rattle.call.specs.Answer.{refusalCase}
+use Rattle.call.specs.Answer.{Refuses}
 use Rattle.call.specs.Refusal.{testsRules, named, addressed, selected, blockRefusal, nameRefusal}
 use Rattle.call.specs.Outcome.{Stepped, step, outcome, Gives, Does}
+use Rattle.call.proofs.AnswerLaws.{NotDone}
 use Rattle.call.proofs.RefusalLaws.{passed-state, passed-rules, numbers-name}
 use Rattle.call_laws.proofs.OutcomeEffects.{gives-blocks, gives-name, gives-address, gives-select}
 use Rattle.call_laws.proofs.OutcomeEffects.{gives-done}
@@ -33,33 +33,36 @@ pub record Tests (c : Call) (n : Board → Bool) (a s : Bool) : Type 0 where
 abbrev pub quiet : Board → ℕ → List ℕ → Stepped
 quiet b v s = record { board = b; value = v; messages = []; saved = s }
 
--- where no test of the blocks fails; k is what that test answered
-module _ (l g : List ℕ) (k : ℕ) (e : k ≡ blockRefusal true l g) (z : k ≡ 0) where
+-- where no test of the blocks fails
+module _ (l g : List ℕ) (z : blockRefusal true l g ≡ 0) where
   pub checked-long : length l ≡ 650
-  checked-long = passed-state true l g (sym e ∙ z)
+  checked-long = passed-state true l g z
 
   pub checked-sound : boardSound (boardOf l) ≡ true
-  checked-sound = passed-rules true l g (sym e ∙ z) refl
+  checked-sound = passed-rules true l g z refl
 
-module _ {c : Call} {n : Board → Bool} {a s : Bool} (t : Tests c n a s) (l g : List ℕ) (k : ℕ)
-    (e : k ≡ blockRefusal true l g) where
-  by-rules : k ≡ blockRefusal (testsRules c) l g
-  by-rules = e ∙ ap (λ (b : Bool). blockRefusal b l g) (sym (t .rules))
+module _ {c : Call} {n : Board → Bool} {a s : Bool} (t : Tests c n a s) (l g : List ℕ) where
+  by-rules : blockRefusal (testsRules c) l g ≡ blockRefusal true l g
+  by-rules = ap (λ (b : Bool). blockRefusal b l g) (t .rules)
 
-  pub tests-blocks : k ≢ 0 → (r : Answer) → r ≡ refusalCase k → Does c l g r l g
-  tests-blocks = gives-blocks c l g k by-rules
+  -- r is what the test of the blocks answered
+  pub tests-blocks : (r : Answer) → Refuses r (blockRefusal true l g) → NotDone r → Does c l g r l g
+  tests-blocks r e = gives-blocks c l g r (subst (Refuses r) (sym by-rules) e)
 
-  module _ (z : k ≡ 0) where
+  module _ (z : blockRefusal true l g ≡ 0) where
+    passed : blockRefusal (testsRules c) l g ≡ 0
+    passed = by-rules ∙ z
+
     pub tests-name : n (boardOf l) ≡ false → Does c l g NoSuch l g
-    tests-name x = gives-name c l g k by-rules z (t .names (boardOf l) ∙ x)
+    tests-name x = gives-name c l g passed (t .names (boardOf l) ∙ x)
 
     module _ (x : n (boardOf l) ≡ true) where
       pub tests-address : a ≡ false → Does c l g BadAddress l g
-      tests-address y = gives-address c l g k by-rules z (t .names (boardOf l) ∙ x) (t .addresses ∙ y)
+      tests-address y = gives-address c l g passed (t .names (boardOf l) ∙ x) (t .addresses ∙ y)
 
       pub tests-select : a ≡ true → s ≡ false → Does c l g IllegalSelect l g
       tests-select y w =
-          gives-select c l g k by-rules z (t .names (boardOf l) ∙ x) (t .addresses ∙ y) (t .selects ∙ w)
+          gives-select c l g passed (t .names (boardOf l) ∙ x) (t .addresses ∙ y) (t .selects ∙ w)
 
       tests-numbers : a ≡ true → s ≡ true → nameRefusal c (boardOf l) ≡ 0
       tests-numbers y w = numbers-name c (boardOf l) (t .names (boardOf l) ∙ x) (t .addresses ∙ y)
@@ -72,7 +75,7 @@ module _ {c : Call} {n : Board → Bool} {a s : Bool} (t : Tests c n a s) (l g :
           → g′ ≡ logged g (o .messages) → m ≡ length (o .messages) → u′ ≡ o .saved
           → Gives (outcome c l g u) (Done v m) l′ g′ u′
       tests-left y w u o q v m l′ g′ u′ long value board log count kept =
-          gives-done c l g k by-rules z (tests-numbers y w) u o q v m value count l′ g′ u′ long board log kept
+          gives-done c l g passed (tests-numbers y w) u o q v m value count l′ g′ u′ long board log kept
 
       -- the call does o to the wired controller
       pub tests-sent : a ≡ true → s ≡ true → (o : Out)

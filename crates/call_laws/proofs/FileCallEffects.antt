@@ -134,27 +134,27 @@ module _ (b : Board) (sound : boardSound b ≡ true) (h f : ℕ) (x : File)
   unfolding step change
   step-claim u = rw here (step-onFile b sound _ _ _ u)
 
--- ---- what each call gives once it is accepted; k is what the test of the blocks answered
+-- ---- what each call gives once it is accepted
 
-module _ (l g : List ℕ) (k : ℕ) (e : k ≡ blockRefusal true l g) (z : k ≡ 0) (h f : ℕ) (x : File)
+module _ (l g : List ℕ) (z : blockRefusal true l g ≡ 0) (h f : ℕ) (x : File)
     (here : x ≡ theFile (boardOf l .files) (fileNumber h f)) where
   pub pageRead-done : (a : ℕ) → isFile h f ≡ true → isPageAddress a ≡ true → (v : ℕ) → v ≡ pageRead x a
       → Does (PageRead h f a) l g (Done v 0) l g
   pageRead-done a there at v p =
-      tests-done (tests-pageRead h f a) l g k e z there at refl (boardOf l) (pageRead x a)
-      (step-pageRead (boardOf l) (checked-sound l g k e z) h f x here a) v p l (checked-long l g k e z) refl
+      tests-done (tests-pageRead h f a) l g z there at refl (boardOf l) (pageRead x a)
+      (step-pageRead (boardOf l) (checked-sound l g z) h f x here a) v p l (checked-long l g z) refl
 
   pub top-done : isFile h f ≡ true → (v : ℕ) → v ≡ topOf identities x
       → Does (Top h f) l g (Done v 0) l g
   top-done there v p =
-      tests-done (tests-top h f) l g k e z there refl refl (boardOf l) (topOf identities x)
-      (step-top (boardOf l) (checked-sound l g k e z) h f x here) v p l (checked-long l g k e z) refl
+      tests-done (tests-top h f) l g z there refl refl (boardOf l) (topOf identities x)
+      (step-top (boardOf l) (checked-sound l g z) h f x here) v p l (checked-long l g z) refl
 
   -- the code stored y as that file, in a block of the same length
   module _ (y : File) (l′ : List ℕ) (kept : length l′ ≡ length l)
       (stored : boardOf l′ ≡ onlyFile (boardOf l) (fileNumber h f) y) where
     long : length l′ ≡ 650
-    long = kept ∙ checked-long l g k e z
+    long = kept ∙ checked-long l g z
 
     only : {y′ : File} → y ≡ y′ → boardOf l′ ≡ onlyFile (boardOf l) (fileNumber h f) y′
     only q = stored ∙ ap (onlyFile (boardOf l) (fileNumber h f)) q
@@ -162,19 +162,19 @@ module _ (l g : List ℕ) (k : ℕ) (e : k ≡ blockRefusal true l g) (z : k ≡
     pub pageWrite-done : (a v : ℕ) → isFile h f ≡ true → isPageAddress a ≡ true
         → y ≡ pageWritten identities x a v → Does (PageWrite h f a v) l g (Done 0 0) l′ g
     pageWrite-done a v there at q =
-        tests-done (tests-pageWrite h f a v) l g k e z there at refl _ 0
-        (step-pageWrite (boardOf l) (checked-sound l g k e z) h f x here a v) 0 refl l′ long (only q)
+        tests-done (tests-pageWrite h f a v) l g z there at refl _ 0
+        (step-pageWrite (boardOf l) (checked-sound l g z) h f x here a v) 0 refl l′ long (only q)
 
     pub register-done : (kind s v : ℕ) → (isFile h f && ltb kind 4) ≡ true → selectLegal s ≡ true
         → (r : Accessed) → r ≡ accessed identities (isGuest (fileNumber h f)) x (kindOf kind) s v
         → y ≡ r .file → (u : ℕ) → u ≡ valueOf (r .answer)
         → Does (Register h f kind s v) l g (Done u 0) l′ g
     register-done kind s v there legal r did q u p =
-        tests-done (tests-register h f kind s v) l g k e z there refl legal _ _
-        (step-register (boardOf l) (checked-sound l g k e z) h f x here kind s v r did) u p l′ long (only q)
+        tests-done (tests-register h f kind s v) l g z there refl legal _ _
+        (step-register (boardOf l) (checked-sound l g z) h f x here kind s v r did) u p l′ long (only q)
 
     pub claim-done : isFile h f ≡ true → y ≡ claimed identities x → (v : ℕ) → v ≡ topOf identities x
         → Does (Claim h f) l g (Done v 0) l′ g
     claim-done there q v p =
-        tests-done (tests-claim h f) l g k e z there refl refl _ (topOf identities x)
-        (step-claim (boardOf l) (checked-sound l g k e z) h f x here) v p l′ long (only q)
+        tests-done (tests-claim h f) l g z there refl refl _ (topOf identities x)
+        (step-claim (boardOf l) (checked-sound l g z) h f x here) v p l′ long (only q)

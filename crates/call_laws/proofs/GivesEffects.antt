@@ -2,22 +2,23 @@
 -- nothing.
 use Prim.Native.Nat.{ℕ}
 use mathlib.Core.Path.{_≡_, refl, sym, subst, _∙_}
-use mathlib.Core.Bool.{cond}
-use mathlib.Core.List.{List}
-use lib.Dec.{eqb}
+use mathlib.Core.List.{List, [], _∷_}
+use lib.ListN.{getD}
 use Rattle.call.specs.declared.Answer.{Answer}
 use Rattle.call.specs.declared.Answer.the-variants.{Done, StateLength, LogLength, BrokenRule, NoSuch}
 use Rattle.call.specs.declared.Answer.the-variants.{BadAddress, IllegalSelect}
-use Rattle.call.specs.Answer.{numberOf, valueOf, countOf, refusalCase}
+use Rattle.call.specs.Answer.{numberOf, valueOf, countOf}
 use Rattle.call.specs.declared.Call.{Call}
 use Rattle.call.specs.Outcome.{Outcome, outcome, Gives}
 
 -- the answer with these numbers
 told : ℕ → ℕ → ℕ → Answer
-told k v n = cond (eqb k 0) (Done v n) (refusalCase k)
+told k v n =
+    let cases = Done v n ∷ StateLength ∷ LogLength ∷ BrokenRule ∷ NoSuch ∷ BadAddress ∷ IllegalSelect ∷ [] in
+    getD cases k (Done v n)
 
 told-back : (r : Answer) → told (numberOf r) (valueOf r) (countOf r) ≡ r
-unfolding refusalCase told
+unfolding told
 told-back (Done v n) = refl
 told-back StateLength = refl
 told-back LogLength = refl

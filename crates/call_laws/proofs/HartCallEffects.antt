@@ -27,37 +27,37 @@ use Rattle.block.proofs.BlockLaws.{wired-part}
 use Rattle.call.specs.declared.Answer.{Answer}
 use Rattle.call.specs.declared.Answer.the-variants.{Done}
 use Rattle.call.specs.declared.Call.the-variants.{Reset, Signals}
-use Rattle.call.specs.Answer.{refusalCase}
+use Rattle.call.specs.Answer.{Refuses}
 use Rattle.call.specs.Change.{signalAt, signalsTo, change}
 use Rattle.call.specs.Refusal.{testsRules, named, addressed, selected, blockRefusal, nameRefusal}
 use Rattle.call.specs.Outcome.{step, Does}
+use Rattle.call.proofs.AnswerLaws.{NotDone}
 use Rattle.call.proofs.RefusalLaws.{passed-state, numbers-name}
 use Rattle.call_laws.proofs.OutcomeEffects.{gives-blocks, gives-done}
 use Rattle.call_laws.proofs.StepEffects.{step-answering, step-reset}
 use Rattle.call_laws.proofs.CallTests.{Tests, quiet, checked-long, checked-sound, tests-done}
 
--- ---- a reset; k is what the test of the lengths answered
+-- ---- a reset
 
 reset-names : (b : Board) → nameRefusal Reset b ≡ 0
 unfolding named addressed selected
 reset-names b = numbers-name Reset b refl refl refl
 
-module _ (l g : List ℕ) (k : ℕ) (e : k ≡ blockRefusal false l g) where
-  untested : k ≡ blockRefusal (testsRules Reset) l g
+module _ (l g : List ℕ) where
+  -- r is what the test of the lengths answered
+  pub reset-blocks : (r : Answer) → Refuses r (blockRefusal false l g) → NotDone r → Does Reset l g r l g
   unfolding testsRules
-  untested = e
+  reset-blocks = gives-blocks Reset l g
 
-  pub reset-blocks : k ≢ 0 → (r : Answer) → r ≡ refusalCase k → Does Reset l g r l g
-  reset-blocks = gives-blocks Reset l g k untested
-
-  module _ (z : k ≡ 0) where
+  module _ (z : blockRefusal false l g ≡ 0) where
     pub reset-long : length l ≡ 650
-    reset-long = passed-state false l g (sym e ∙ z)
+    reset-long = passed-state false l g z
 
     pub reset-done : (l′ : List ℕ) → length l′ ≡ length l → boardOf l′ ≡ startBoard
         → Does Reset l g (Done 0 0) l′ g
+    unfolding testsRules
     reset-done l′ kept board u =
-        gives-done Reset l g k untested z (reset-names (boardOf l)) u (quiet startBoard 0 u)
+        gives-done Reset l g z (reset-names (boardOf l)) u (quiet startBoard 0 u)
         (step-reset (boardOf l) u) 0 0 refl refl l′ g u (kept ∙ reset-long) board (sym (logged-none g)) refl
 
 -- ---- the signal of file f of hart h, where x is that file
@@ -118,7 +118,7 @@ signal-guest-own b h f l =
     tested (signals identities x) (λ t. signal-own b h f x refl t ∙ sym t)
     (λ u. signal-guest b h f x refl u l ∙ sym u)
 
--- ---- the signals of a hart; k is what the test of the blocks answered
+-- ---- the signals of a hart
 
 pub tests-signals : (h : ℕ) → Tests (Signals h) (λ b. ltb h 4) true true
 unfolding testsRules named addressed selected
@@ -129,9 +129,9 @@ step-signals : (b : Board) → boardSound b ≡ true → (h : ℕ) (u : List ℕ
 unfolding step change
 step-signals b sound h u = step-answering b sound _ u
 
-pub signals-done : (l g : List ℕ) (k : ℕ) (e : k ≡ blockRefusal true l g) (z : k ≡ 0) (h : ℕ) → h < 4
+pub signals-done : (l g : List ℕ) (z : blockRefusal true l g ≡ 0) (h : ℕ) → h < 4
     → (v : ℕ) → v ≡ signalsTo (boardOf l) h 5 → Does (Signals h) l g (Done v 0) l g
-signals-done l g k e z h there v p =
-    tests-done (tests-signals h) l g k e z (lt-ltb h 4 there) refl refl (boardOf l)
-    (signalsTo (boardOf l) h 5) (step-signals (boardOf l) (checked-sound l g k e z) h) v p l
-    (checked-long l g k e z) refl
+signals-done l g z h there v p =
+    tests-done (tests-signals h) l g z (lt-ltb h 4 there) refl refl (boardOf l)
+    (signalsTo (boardOf l) h 5) (step-signals (boardOf l) (checked-sound l g z) h) v p l
+    (checked-long l g z) refl

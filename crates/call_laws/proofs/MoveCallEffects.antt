@@ -149,23 +149,22 @@ pub tests-move : (oh of nh nf n : ℕ)
 unfolding testsRules named addressed selected
 tests-move oh of nh nf n = record { rules = refl; names = λ b. refl; addresses = refl; selects = refl }
 
--- k is what the test of the blocks answered
-module _ (l g : List ℕ) (k : ℕ) (e : k ≡ blockRefusal true l g) (z : k ≡ 0) (oh of nh nf n : ℕ) where
+module _ (l g : List ℕ) (z : blockRefusal true l g ≡ 0) (oh of nh nf n : ℕ) where
   pub move-unnamed : isMove oh of nh nf n ≡ false → Does (Move oh of nh nf n) l g NoSuch l g
-  move-unnamed f = tests-name (tests-move oh of nh nf n) l g k e z (simp f)
+  move-unnamed f = tests-name (tests-move oh of nh nf n) l g z (simp f)
 
   module _ (there : isMove oh of nh nf n ≡ true) where
     pub move-barred : byMessages (boardOf l .wired .child) ≡ false → Does (Move oh of nh nf n) l g NoSuch l g
-    move-barred f = tests-name (tests-move oh of nh nf n) l g k e z (simp (there, f))
+    move-barred f = tests-name (tests-move oh of nh nf n) l g z (simp (there, f))
 
     -- its code left the block l′ and the record s′
     pub move-done : byMessages (boardOf l .wired .child) ≡ true → (a : Act) → a ≡ actOf n
         → (l′ s s′ : List ℕ) → length l′ ≡ length l → Made a oh of nh nf (boardOf l) s (boardOf l′) s′
         → Gives (outcome (Move oh of nh nf n) l g s) (Done 0 0) l′ g s′
     move-done messages a act l′ s s′ kept made =
-        let long = checked-long l g k e z in
-        let sound = checked-sound l g k e z in
+        let long = checked-long l g z in
+        let sound = checked-sound l g z in
         let did : Made (actOf n) oh of nh nf (boardOf l) s (boardOf l′) s′ = rw act at made in
-        tests-left (tests-move oh of nh nf n) l g k e z (and-both _ _ there messages) refl refl s _
+        tests-left (tests-move oh of nh nf n) l g z (and-both _ _ there messages) refl refl s _
         (step-access (boardOf l) sound (block-steady l long sound) oh of nh nf n there s) 0 0 l′ g s′
         (kept ∙ long) refl (did .0) (sym (logged-none g)) refl (did .1)

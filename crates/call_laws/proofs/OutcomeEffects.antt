@@ -1,6 +1,6 @@
 -- What a refused call gives, and what an accepted one does. No contract cites this
 -- file. Assumes nothing.
-use Prim.Native.Nat.{ℕ, zero, suc, _≤_}
+use Prim.Native.Nat.{ℕ}
 use mathlib.Core.Path.{_≡_, refl, sym, ap, subst, _∙_}
 use mathlib.Core.Bool.{true, false}
 use mathlib.Core.List.{List}
@@ -14,12 +14,13 @@ use Rattle.block_laws.proofs.BlockBack.{block-back}
 use Rattle.call.specs.declared.Answer.{Answer}
 use Rattle.call.specs.declared.Answer.the-variants.{Done, NoSuch, BadAddress, IllegalSelect}
 use Rattle.call.specs.declared.Call.{Call}
-use Rattle.call.specs.Answer.{numberOf, valueOf, countOf, refusalCase}
+use Rattle.call.specs.Answer.{numberOf, valueOf, countOf, Refuses}
 use Rattle.call.specs.Refusal.{testsRules, named, addressed, selected, blockRefusal, nameRefusal}
 use Rattle.call.specs.Refusal.{refusalOf}
 use Rattle.call.specs.Outcome.{Stepped, step, Outcome, refusedAs, doneAs, outcome, Gives, Does}
+use Rattle.call.proofs.AnswerLaws.{NotDone, refused-case}
 use Rattle.call.proofs.RefusalLaws.{refused-blocks, refused-numbers, refused-name, refused-address}
-use Rattle.call.proofs.RefusalLaws.{refused-select, block-le}
+use Rattle.call.proofs.RefusalLaws.{refused-select}
 
 module _ (c : Call) (l g : List ℕ) where
   pub outcome-refused : (s : List ℕ) (k : ℕ) → refusalOf c l g ≡ k → k ≢ 0
@@ -40,45 +41,33 @@ module _ (c : Call) (l g : List ℕ) where
       subst (λ (o : Outcome). Gives o r l g s) (sym (outcome-refused s k e h))
       record { number = a; value = v; count = n; block = refl; log = refl; saved = refl }
 
-refusal-number : (k : ℕ) → 1 ≤ k → k ≤ 6
-    → (numberOf (refusalCase k) ≡ k) × (valueOf (refusalCase k) ≡ 0) × (countOf (refusalCase k) ≡ 0)
-unfolding refusalCase
-refusal-number zero a b = absurd (omega arith)
-refusal-number (suc zero) a b = (refl, refl, refl)
-refusal-number (suc (suc zero)) a b = (refl, refl, refl)
-refusal-number (suc (suc (suc zero))) a b = (refl, refl, refl)
-refusal-number (suc (suc (suc (suc zero)))) a b = (refl, refl, refl)
-refusal-number (suc (suc (suc (suc (suc zero))))) a b = (refl, refl, refl)
-refusal-number (suc (suc (suc (suc (suc (suc zero)))))) a b = (refl, refl, refl)
-refusal-number (suc (suc (suc (suc (suc (suc (suc k))))))) a b = absurd (omega arith)
+-- ---- what each test gives
 
--- ---- what each test gives; k is what the test of the blocks answered
+module _ (c : Call) (l g : List ℕ) where
+  -- r is what the test of the blocks answered
+  pub gives-blocks : (r : Answer) → Refuses r (blockRefusal (testsRules c) l g) → NotDone r → Does c l g r l g
+  gives-blocks r e d =
+      gives-number c l g (numberOf r) (refused-blocks c l g (numberOf r) (e .number) (refused-case r d))
+      (refused-case r d) r refl (e .value) (e .count)
 
-module _ (c : Call) (l g : List ℕ) (k : ℕ) (e : k ≡ blockRefusal (testsRules c) l g) where
-  pub gives-blocks : k ≢ 0 → (r : Answer) → r ≡ refusalCase k → Does c l g r l g
-  gives-blocks h r q =
-      let parts = refusal-number k (omega (arith, h)) (omega (arith, e, block-le (testsRules c) l g)) in
-      gives-number c l g k (refused-blocks c l g k e h) h r (ap numberOf q ∙ parts .0)
-      (ap valueOf q ∙ parts .1) (ap countOf q ∙ parts .2)
-
-  module _ (z : k ≡ 0) where
+  module _ (z : blockRefusal (testsRules c) l g ≡ 0) where
     abbrev b : Board
     b = boardOf l
 
     pub gives-name : named c b ≡ false → Does c l g NoSuch l g
     gives-name n =
-        gives-number c l g 4 (refused-numbers c l g k e z ∙ refused-name c b n) (λ q. omega arith) NoSuch
+        gives-number c l g 4 (refused-numbers c l g z ∙ refused-name c b n) (λ q. omega arith) NoSuch
         refl refl refl
 
     pub gives-address : named c b ≡ true → addressed c ≡ false → Does c l g BadAddress l g
     gives-address n a =
-        gives-number c l g 5 (refused-numbers c l g k e z ∙ refused-address c b n a) (λ q. omega arith)
+        gives-number c l g 5 (refused-numbers c l g z ∙ refused-address c b n a) (λ q. omega arith)
         BadAddress refl refl refl
 
     pub gives-select : named c b ≡ true → addressed c ≡ true → selected c ≡ false
         → Does c l g IllegalSelect l g
     gives-select n a s =
-        gives-number c l g 6 (refused-numbers c l g k e z ∙ refused-select c b n a s) (λ q. omega arith)
+        gives-number c l g 6 (refused-numbers c l g z ∙ refused-select c b n a s) (λ q. omega arith)
         IllegalSelect refl refl refl
 
     -- an accepted call, from what its code left
@@ -88,7 +77,7 @@ module _ (c : Call) (l g : List ℕ) (k : ℕ) (e : k ≡ blockRefusal (testsRul
         → Gives (outcome c l g s) (Done v n) l′ g′ s′
     gives-done a s x q v n ev en l′ g′ s′ long board log kept =
         subst (λ (o : Outcome). Gives o (Done v n) l′ g′ s′)
-        (sym (outcome-done c l g s (refused-numbers c l g k e z ∙ a) ∙ ap (λ (y : Stepped). doneAs y g) q))
+        (sym (outcome-done c l g s (refused-numbers c l g z ∙ a) ∙ ap (λ (y : Stepped). doneAs y g) q))
         record {
           number = refl;
           value = ev;

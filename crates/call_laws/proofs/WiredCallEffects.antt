@@ -59,12 +59,12 @@ tests-domainWrite d a v = record { rules = refl; names = λ b. refl; addresses =
 
 -- ---- what an accepted call gives
 
-module _ (l g : List ℕ) (k : ℕ) (e : k ≡ blockRefusal true l g) (z : k ≡ 0) where
+module _ (l g : List ℕ) (z : blockRefusal true l g ≡ 0) where
   pub wire-done : (i level : ℕ) → isWire i level ≡ true → (l′ g′ : List ℕ) (n : ℕ) → length l′ ≡ 650
       → Left (wireCall (boardOf l .wired) i (eqb level 1)) l l′ g g′ n
       → Does (Wire i level) l g (Done 0 n) l′ g′
   wire-done i level n l′ g′ m long (b, h, c) =
-      tests-sent (tests-wire i level) l g k e z n refl refl _ (step-wire (boardOf l) i level) m l′ g′ long
+      tests-sent (tests-wire i level) l g z n refl refl _ (step-wire (boardOf l) i level) m l′ g′ long
       b h c
 
   module _ (d a : ℕ) (n : d < 2) (b : addressLegal a ≡ true) where
@@ -79,7 +79,7 @@ module _ (l g : List ℕ) (k : ℕ) (e : k ≡ blockRefusal true l g) (z : k ≡
         → Does (DomainRead d a) l g (Done v 0) l′ g
     unfolding allReached
     domainRead-done l′ v long none value board =
-        tests-done (tests-domainRead d a) l g k e z (lt-ltb d 2 n) b refl _ _
+        tests-done (tests-domainRead d a) l g z (lt-ltb d 2 n) b refl _ _
         (λ s. step-domainRead (boardOf l) d a s
         ∙ ap (λ (ms : List ℕ). wiredSent (boardOf l) (readCall (boardOf l .wired) (eqb d 1) (wordAt a) .wired)
         (readIn (boardOf l .wired) (eqb d 1) (wordAt a)) ms s) none) v value l′ long board
@@ -88,5 +88,5 @@ module _ (l g : List ℕ) (k : ℕ) (e : k ≡ blockRefusal true l g) (z : k ≡
         → Left (writeCall (boardOf l .wired) (eqb d 1) (wordAt a) v) l l′ g g′ m
         → Does (DomainWrite d a v) l g (Done 0 m) l′ g′
     domainWrite-done v l′ g′ m long (x, h, c) =
-        tests-sent (tests-domainWrite d a v) l g k e z (lt-ltb d 2 n) b refl _
+        tests-sent (tests-domainWrite d a v) l g z (lt-ltb d 2 n) b refl _
         (step-domainWrite (boardOf l) d a v) m l′ g′ long x h c

@@ -72,7 +72,7 @@ module _ (c : Call) (l g : List ℕ) where
       (λ f. blocks-untested (testsRules c) l g long full f)
 
   then : Passes c l g → (k : ℕ) → nameRefusal c (boardOf l) ≡ k → refusalOf c l g ≡ k
-  then p k e = refused-numbers c l g 0 (sym (none p)) refl ∙ e
+  then p k e = refused-numbers c l g (none p) ∙ e
 
 pub claim-84 : Claim-84
 unfolding Claim-84
@@ -99,7 +99,7 @@ accepted c l g e = at (ℕ-discrete (blockRefusal (testsRules c) l g) 0)
   where
     at : Dec (blockRefusal (testsRules c) l g ≡ 0)
         → (blockRefusal (testsRules c) l g ≡ 0) × (nameRefusal c (boardOf l) ≡ 0)
-    at (yes z) = (z, sym (refused-numbers c l g 0 (sym z) refl) ∙ e)
+    at (yes z) = (z, sym (refused-numbers c l g z) ∙ e)
     at (no n) = absurd (n (sym (refused-blocks c l g _ refl n) ∙ e))
 
 names : (c : Call) (b : Board) → nameRefusal c b ≡ 0 → named c b ≡ true

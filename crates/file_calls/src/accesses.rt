@@ -7,7 +7,6 @@ use super::one::store_file;
 use super::one::value_of;
 use call::Answer;
 use call::check;
-use call::refusal;
 
 // The kind is 0 for read, 1 for write, 2 for set bits, 3 for clear bits.
 pub fn register(
@@ -22,10 +21,10 @@ pub fn register(
     ensures { λ r. ⌜ Does (the.Register hart file kind select value) (now (state .entry)) (now (log .entry)) r
         (now (state .exit)) (now (log .exit)) ⌝ }
 {
-    let number = check(state, log);
-    if number != 0 {
-        return refusal(number);
-    }
+    let answer = check(state, log);
+    let Answer::Done(_, _) = answer else {
+        return answer;
+    };
     if !is_access(hart, file, kind) {
         return Answer::NoSuch;
     }

@@ -6,16 +6,15 @@ use call::Answer;
 use call::check;
 use call::is_file;
 use call::is_page_address;
-use call::refusal;
 
 pub fn page_read(state: &mut [u32], log: &mut [u32], hart: u64, file: u64, offset: u64) -> Answer
     ensures { λ r. ⌜ Does (the.PageRead hart file offset) (now (state .entry)) (now (log .entry)) r
         (now (state .exit)) (now (log .exit)) ⌝ }
 {
-    let number = check(state, log);
-    if number != 0 {
-        return refusal(number);
-    }
+    let answer = check(state, log);
+    let Answer::Done(_, _) = answer else {
+        return answer;
+    };
     if !is_file(hart, file) {
         return Answer::NoSuch;
     }

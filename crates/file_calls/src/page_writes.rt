@@ -7,7 +7,6 @@ use call::Answer;
 use call::check;
 use call::is_file;
 use call::is_page_address;
-use call::refusal;
 
 pub fn page_write(
     state: &mut [u32],
@@ -20,10 +19,10 @@ pub fn page_write(
     ensures { λ r. ⌜ Does (the.PageWrite hart file offset value) (now (state .entry)) (now (log .entry)) r
         (now (state .exit)) (now (log .exit)) ⌝ }
 {
-    let number = check(state, log);
-    if number != 0 {
-        return refusal(number);
-    }
+    let answer = check(state, log);
+    let Answer::Done(_, _) = answer else {
+        return answer;
+    };
     if !is_file(hart, file) {
         return Answer::NoSuch;
     }

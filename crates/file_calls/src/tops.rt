@@ -5,16 +5,15 @@ use super::one::load_file;
 use call::Answer;
 use call::check;
 use call::is_file;
-use call::refusal;
 
 pub fn top(state: &mut [u32], log: &mut [u32], hart: u64, file: u64) -> Answer
     ensures { λ r. ⌜ Does (the.Top hart file) (now (state .entry)) (now (log .entry)) r
         (now (state .exit)) (now (log .exit)) ⌝ }
 {
-    let number = check(state, log);
-    if number != 0 {
-        return refusal(number);
-    }
+    let answer = check(state, log);
+    let Answer::Done(_, _) = answer else {
+        return answer;
+    };
     if !is_file(hart, file) {
         return Answer::NoSuch;
     }

@@ -5,16 +5,15 @@ use super::signal::all_signals;
 use call::Answer;
 use call::check;
 use call::lengths;
-use call::refusal;
 
 pub fn reset(state: &mut [u32], log: &mut [u32]) -> Answer
     ensures { λ r. ⌜ Does the.Reset (now (state .entry)) (now (log .entry)) r
         (now (state .exit)) (now (log .exit)) ⌝ }
 {
-    let number = lengths(state, log);
-    if number != 0 {
-        return refusal(number);
-    }
+    let answer = lengths(state, log);
+    let Answer::Done(_, _) = answer else {
+        return answer;
+    };
     block::start(state);
     Answer::Done(0, 0)
 }
@@ -23,10 +22,10 @@ pub fn signals(state: &mut [u32], log: &mut [u32], hart: u64) -> Answer
     ensures { λ r. ⌜ Does (the.Signals hart) (now (state .entry)) (now (log .entry)) r
         (now (state .exit)) (now (log .exit)) ⌝ }
 {
-    let number = check(state, log);
-    if number != 0 {
-        return refusal(number);
-    }
+    let answer = check(state, log);
+    let Answer::Done(_, _) = answer else {
+        return answer;
+    };
     if 4 <= hart {
         return Answer::NoSuch;
     }

@@ -53,9 +53,8 @@ module _ (c : Call) (x : Lent) where
     -- on what is ready only the numbers of the call can be refused
     pub ready-refusal : refusalOf c (x .block) (x .log) ≡ nameRefusal c (boardIn x)
     ready-refusal =
-        refused-numbers c (x .block) (x .log) 0
-        (sym (blocks-sound (testsRules c) (x .block) (x .log) (ready .long) (ready .full)
-        (ready .fit .sound))) refl
+        refused-numbers c (x .block) (x .log)
+        (blocks-sound (testsRules c) (x .block) (x .log) (ready .long) (ready .full) (ready .fit .sound))
 
     -- an accepted call named what is there
     pub accepted-named : nameRefusal c (boardIn x) ≡ 0 → named c (boardIn x) ≡ true

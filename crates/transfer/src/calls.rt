@@ -6,7 +6,6 @@ use super::targets::by_messages;
 use call::Answer;
 use call::check;
 use call::is_move;
-use call::refusal;
 use transfer_steps::act_of;
 
 // The caller lends the same record to each of the 89 accesses of a move.
@@ -24,10 +23,10 @@ pub fn make_access(
         (now (log .entry)) (now (saved .entry))) r
         (now (state .exit)) (now (log .exit)) (now (saved .exit)) ⌝ }
 {
-    let number = check(state, log);
-    if number != 0 {
-        return refusal(number);
-    }
+    let answer = check(state, log);
+    let Answer::Done(_, _) = answer else {
+        return answer;
+    };
     if !is_move(oldhart, oldfile, newhart, newfile, access) {
         return Answer::NoSuch;
     }

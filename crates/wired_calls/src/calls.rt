@@ -6,7 +6,6 @@ use super::seen::read_done;
 use super::written::write_done;
 use call::Answer;
 use call::check;
-use call::refusal;
 use region::address_legal;
 use region::word_at;
 
@@ -14,10 +13,10 @@ pub fn set_wire(state: &mut [u32], log: &mut [u32], wire: u64, level: u64) -> An
     ensures { λ r. ⌜ Does (the.Wire wire level) (now (state .entry)) (now (log .entry)) r
         (now (state .exit)) (now (log .exit)) ⌝ }
 {
-    let number = check(state, log);
-    if number != 0 {
-        return refusal(number);
-    }
+    let answer = check(state, log);
+    let Answer::Done(_, _) = answer else {
+        return answer;
+    };
     if !call::is_wire(wire, level) {
         return Answer::NoSuch;
     }
@@ -30,10 +29,10 @@ pub fn domain_read(state: &mut [u32], log: &mut [u32], domain: u64, address: u64
     ensures { λ r. ⌜ Does (the.DomainRead domain address) (now (state .entry)) (now (log .entry)) r
         (now (state .exit)) (now (log .exit)) ⌝ }
 {
-    let number = check(state, log);
-    if number != 0 {
-        return refusal(number);
-    }
+    let answer = check(state, log);
+    let Answer::Done(_, _) = answer else {
+        return answer;
+    };
     if 2 <= domain {
         return Answer::NoSuch;
     }
@@ -54,10 +53,10 @@ pub fn domain_write(
     ensures { λ r. ⌜ Does (the.DomainWrite domain address value) (now (state .entry)) (now (log .entry)) r
         (now (state .exit)) (now (log .exit)) ⌝ }
 {
-    let number = check(state, log);
-    if number != 0 {
-        return refusal(number);
-    }
+    let answer = check(state, log);
+    let Answer::Done(_, _) = answer else {
+        return answer;
+    };
     if 2 <= domain {
         return Answer::NoSuch;
     }

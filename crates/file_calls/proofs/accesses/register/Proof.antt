@@ -3,6 +3,7 @@
 use mathlib.Core.Path.{refl, sym, _∙_}
 use borrow.Author.Tests.{not-true, not-false}
 use Rattle.words.proofs.TestsLaws.{and-first}
+use Rattle.call.proofs.AnswerLaws.{done-case}
 use Rattle.call_laws.proofs.CallTests.{checked-long, tests-blocks, tests-name, tests-select}
 use Rattle.call_laws.proofs.FileCallEffects.{register-did, tests-register, register-done}
 use borrow.Author.Needs.{needs}
@@ -12,8 +13,8 @@ use Rattle.file_calls.proofs.accesses.register.Tie as tie
 check-requires : tie.Need-check-requires
 check-requires c κs = search needs
 
-refusal-requires : tie.Need-refusal-requires
-refusal-requires c κs = search needs
+enum-told : tie.Need-enum-told
+enum-told c = search needs
 
 same-length : tie.Need-same-length
 same-length c = search needs
@@ -23,8 +24,7 @@ same-length-2 c = search needs
 
 returns : tie.Need-returns
 returns c =
-    tests-blocks (tests-register _ _ _ _ _) _ _ _ (c .before .before .check .ensures)
-    (c .before .if1 .taken) _ (c .refusal .ensures)
+    tests-blocks (tests-register _ _ _ _ _) _ _ _ (c .before .check .ensures) (c .match .keys2)
 
 is-access-requires : tie.Need-is-access-requires
 is-access-requires c κs = search needs
@@ -37,9 +37,10 @@ same-length-4 c = search needs
 
 returns-2 : tie.Need-returns-2
 returns-2 c =
-    let at-check = c .before .before in
-    tests-name (tests-register _ _ _ _ _) _ _ _ (at-check .before .check .ensures) (at-check .if1 .left)
-    (sym (c .before .is-access .ensures) ∙ not-true _ (c .if2 .taken))
+    let at-told = c .before .before in
+    let none = done-case _ _ (at-told .before .before .check .ensures) (at-told .enum-told .given .1) in
+    tests-name (tests-register _ _ _ _ _) _ _ none
+    (sym (c .before .is-access .ensures) ∙ not-true _ (c .if1 .taken))
 
 select-legal-requires : tie.Need-select-legal-requires
 select-legal-requires c κs = search needs
@@ -53,17 +54,19 @@ same-length-6 c = search needs
 returns-3 : tie.Need-returns-3
 returns-3 c =
     let at-test = c .before .before in
-    let at-check = at-test .before .before in
-    tests-select (tests-register _ _ _ _ _) _ _ _ (at-check .before .check .ensures) (at-check .if1 .left)
-    (sym (at-test .before .is-access .ensures) ∙ not-false _ (at-test .if2 .left)) refl
-    (sym (c .before .select-legal .ensures) ∙ not-true _ (c .if3 .taken))
+    let at-told = at-test .before .before in
+    let none = done-case _ _ (at-told .before .before .check .ensures) (at-told .enum-told .given .1) in
+    tests-select (tests-register _ _ _ _ _) _ _ none
+    (sym (at-test .before .is-access .ensures) ∙ not-false _ (at-test .if1 .left)) refl
+    (sym (c .before .select-legal .ensures) ∙ not-true _ (c .if2 .taken))
 
 load-file-requires : tie.Need-load-file-requires
 load-file-requires c κs =
     let at-test = c .before .before .before in
-    let at-check = at-test .before .before in (
-      checked-long _ _ _ (at-check .before .check .ensures) (at-check .if1 .left),
-      and-first _ _ (sym (at-test .before .is-access .ensures) ∙ not-false _ (at-test .if2 .left)),
+    let at-told = at-test .before .before in
+    let none = done-case _ _ (at-told .before .before .check .ensures) (at-told .enum-told .given .1) in (
+      checked-long _ _ none,
+      and-first _ _ (sym (at-test .before .is-access .ensures) ∙ not-false _ (at-test .if1 .left)),
     )
 
 kind-of-requires : tie.Need-kind-of-requires
@@ -75,9 +78,10 @@ access-requires c κs = search needs
 store-file-requires : tie.Need-store-file-requires
 store-file-requires c κs =
     let at-test = c .before .before .before .before .before .before .before in
-    let at-check = at-test .before .before in (
-      checked-long _ _ _ (at-check .before .check .ensures) (at-check .if1 .left),
-      and-first _ _ (sym (at-test .before .is-access .ensures) ∙ not-false _ (at-test .if2 .left)),
+    let at-told = at-test .before .before in
+    let none = done-case _ _ (at-told .before .before .check .ensures) (at-told .enum-told .given .1) in (
+      checked-long _ _ none,
+      and-first _ _ (sym (at-test .before .is-access .ensures) ∙ not-false _ (at-test .if1 .left)),
     )
 
 value-of-requires : tie.Need-value-of-requires
@@ -97,12 +101,13 @@ returns-4 c =
     let at-load = at-kind .before in
     let at-select = at-load .before .before in
     let at-test = at-select .before .before in
-    let at-check = at-test .before .before in
-    let there = sym (at-test .before .is-access .ensures) ∙ not-false _ (at-test .if2 .left) in
-    register-done _ _ _ (at-check .before .check .ensures) (at-check .if1 .left) _ _ _
+    let at-told = at-test .before .before in
+    let none = done-case _ _ (at-told .before .before .check .ensures) (at-told .enum-told .given .1) in
+    let there = sym (at-test .before .is-access .ensures) ∙ not-false _ (at-test .if1 .left) in
+    register-done _ _ none _ _ _
     (at-load .load-file .ensures) _ _ (at-store .store-file .kept .0)
     (at-store .store-file .ensures) _ _ _ there
-    (sym (at-select .before .select-legal .ensures) ∙ not-false _ (at-select .if3 .left)) _
+    (sym (at-select .before .select-legal .ensures) ∙ not-false _ (at-select .if2 .left)) _
     (register-did _ _ (and-first _ _ there) _ _ _ _ _ (at-kind .kind-of .ensures) _
     (at-access .access .ensures)) refl _ (c .value-of .ensures)
 
@@ -111,7 +116,7 @@ register-spec =
     tie.close
     (tie.spec
     check-requires
-    refusal-requires
+    enum-told
     same-length
     same-length-2
     returns

@@ -2,6 +2,7 @@
 -- because each of four ways out asks for the lengths of both blocks. Assumes nothing.
 use mathlib.Core.Path.{sym, _∙_}
 use borrow.Author.Tests.{not-true, not-false}
+use Rattle.call.proofs.AnswerLaws.{done-case}
 use Rattle.call_laws.proofs.CallTests.{checked-long, tests-blocks, tests-name, tests-address}
 use Rattle.call_laws.proofs.FileCallEffects.{tests-pageWrite, pageWrite-done}
 use borrow.Author.Needs.{needs}
@@ -11,8 +12,8 @@ use Rattle.file_calls.proofs.page_writes.page_write.Tie as tie
 check-requires : tie.Need-check-requires
 check-requires c κs = search needs
 
-refusal-requires : tie.Need-refusal-requires
-refusal-requires c κs = search needs
+enum-told : tie.Need-enum-told
+enum-told c = search needs
 
 same-length : tie.Need-same-length
 same-length c = search needs
@@ -22,8 +23,7 @@ same-length-2 c = search needs
 
 returns : tie.Need-returns
 returns c =
-    tests-blocks (tests-pageWrite _ _ _ _) _ _ _ (c .before .before .check .ensures) (c .before .if1 .taken) _
-    (c .refusal .ensures)
+    tests-blocks (tests-pageWrite _ _ _ _) _ _ _ (c .before .check .ensures) (c .match .keys2)
 
 is-file-requires : tie.Need-is-file-requires
 is-file-requires c κs = search needs
@@ -36,9 +36,10 @@ same-length-4 c = search needs
 
 returns-2 : tie.Need-returns-2
 returns-2 c =
-    let at-check = c .before .before in
-    tests-name (tests-pageWrite _ _ _ _) _ _ _ (at-check .before .check .ensures) (at-check .if1 .left)
-    (sym (c .before .is-file .ensures) ∙ not-true _ (c .if2 .taken))
+    let at-told = c .before .before in
+    let none = done-case _ _ (at-told .before .before .check .ensures) (at-told .enum-told .given .1) in
+    tests-name (tests-pageWrite _ _ _ _) _ _ none
+    (sym (c .before .is-file .ensures) ∙ not-true _ (c .if1 .taken))
 
 is-page-address-requires : tie.Need-is-page-address-requires
 is-page-address-requires c κs = search needs
@@ -52,17 +53,19 @@ same-length-6 c = search needs
 returns-3 : tie.Need-returns-3
 returns-3 c =
     let at-test = c .before .before in
-    let at-check = at-test .before .before in
-    tests-address (tests-pageWrite _ _ _ _) _ _ _ (at-check .before .check .ensures) (at-check .if1 .left)
-    (sym (at-test .before .is-file .ensures) ∙ not-false _ (at-test .if2 .left))
-    (sym (c .before .is-page-address .ensures) ∙ not-true _ (c .if3 .taken))
+    let at-told = at-test .before .before in
+    let none = done-case _ _ (at-told .before .before .check .ensures) (at-told .enum-told .given .1) in
+    tests-address (tests-pageWrite _ _ _ _) _ _ none
+    (sym (at-test .before .is-file .ensures) ∙ not-false _ (at-test .if1 .left))
+    (sym (c .before .is-page-address .ensures) ∙ not-true _ (c .if2 .taken))
 
 load-file-requires : tie.Need-load-file-requires
 load-file-requires c κs =
     let at-test = c .before .before .before in
-    let at-check = at-test .before .before in (
-      checked-long _ _ _ (at-check .before .check .ensures) (at-check .if1 .left),
-      sym (at-test .before .is-file .ensures) ∙ not-false _ (at-test .if2 .left),
+    let at-told = at-test .before .before in
+    let none = done-case _ _ (at-told .before .before .check .ensures) (at-told .enum-told .given .1) in (
+      checked-long _ _ none,
+      sym (at-test .before .is-file .ensures) ∙ not-false _ (at-test .if1 .left),
     )
 
 page-write-requires : tie.Need-page-write-requires
@@ -71,9 +74,10 @@ page-write-requires c κs = search needs
 store-file-requires : tie.Need-store-file-requires
 store-file-requires c κs =
     let at-test = c .before .before .before .before .before .before in
-    let at-check = at-test .before .before in (
-      checked-long _ _ _ (at-check .before .check .ensures) (at-check .if1 .left),
-      sym (at-test .before .is-file .ensures) ∙ not-false _ (at-test .if2 .left),
+    let at-told = at-test .before .before in
+    let none = done-case _ _ (at-told .before .before .check .ensures) (at-told .enum-told .given .1) in (
+      checked-long _ _ none,
+      sym (at-test .before .is-file .ensures) ∙ not-false _ (at-test .if1 .left),
     )
 
 same-length-7 : tie.Need-same-length-7
@@ -89,12 +93,13 @@ returns-4 c =
     let at-load = at-write .before .before in
     let at-offset = at-load .before .before in
     let at-test = at-offset .before .before in
-    let at-check = at-test .before .before in
-    pageWrite-done _ _ _ (at-check .before .check .ensures) (at-check .if1 .left) _ _ _
+    let at-told = at-test .before .before in
+    let none = done-case _ _ (at-told .before .before .check .ensures) (at-told .enum-told .given .1) in
+    pageWrite-done _ _ none _ _ _
     (at-load .load-file .ensures) _ _ (at-store .store-file .kept .0)
     (at-store .store-file .ensures) _ _
-    (sym (at-test .before .is-file .ensures) ∙ not-false _ (at-test .if2 .left))
-    (sym (at-offset .before .is-page-address .ensures) ∙ not-false _ (at-offset .if3 .left))
+    (sym (at-test .before .is-file .ensures) ∙ not-false _ (at-test .if1 .left))
+    (sym (at-offset .before .is-page-address .ensures) ∙ not-false _ (at-offset .if2 .left))
     (at-write .page-write .ensures)
 
 pub page-write-spec : {M : Type 1} → statement M
@@ -102,7 +107,7 @@ page-write-spec =
     tie.close
     (tie.spec
     check-requires
-    refusal-requires
+    enum-told
     same-length
     same-length-2
     returns

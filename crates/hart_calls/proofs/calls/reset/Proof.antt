@@ -1,4 +1,5 @@
 -- `hart_calls::calls::reset` meets its contract: refused by a length, or the start. Assumes nothing.
+use Rattle.call.proofs.AnswerLaws.{done-case}
 use Rattle.call_laws.proofs.HartCallEffects.{reset-blocks, reset-long, reset-done}
 use borrow.Author.Needs.{needs}
 use Rattle.hart_calls.proofs.calls.reset.Statement.{statement}
@@ -7,8 +8,8 @@ use Rattle.hart_calls.proofs.calls.reset.Tie as tie
 lengths-requires : tie.Need-lengths-requires
 lengths-requires c κs = search needs
 
-refusal-requires : tie.Need-refusal-requires
-refusal-requires c κs = search needs
+enum-told : tie.Need-enum-told
+enum-told c = search needs
 
 same-length : tie.Need-same-length
 same-length c = search needs
@@ -17,11 +18,13 @@ same-length-2 : tie.Need-same-length-2
 same-length-2 c = search needs
 
 returns : tie.Need-returns
-returns c =
-    reset-blocks _ _ _ (c .before .before .lengths .ensures) (c .before .if1 .taken) _ (c .refusal .ensures)
+returns c = reset-blocks _ _ _ (c .before .lengths .ensures) (c .match .keys2)
 
 start-requires : tie.Need-start-requires
-start-requires c κs = reset-long _ _ _ (c .before .before .lengths .ensures) (c .before .if1 .left)
+start-requires c κs =
+    let at-told = c .before in
+    reset-long _ _
+    (done-case _ _ (at-told .before .before .lengths .ensures) (at-told .enum-told .given .1))
 
 same-length-3 : tie.Need-same-length-3
 same-length-3 c = search needs
@@ -32,8 +35,9 @@ same-length-4 c = search needs
 returns-2 : tie.Need-returns-2
 returns-2 c =
     let at-start = c .before .before in
-    let at-lengths = at-start .before .before in
-    reset-done _ _ _ (at-lengths .before .lengths .ensures) (at-lengths .if1 .left) _
+    let at-told = at-start .before .before in
+    reset-done _ _
+    (done-case _ _ (at-told .before .before .lengths .ensures) (at-told .enum-told .given .1)) _
     (at-start .start .kept .0) (at-start .start .ensures)
 
 pub reset-spec : {M : Type 1} → statement M
@@ -41,7 +45,7 @@ reset-spec =
     tie.close
     (tie.spec
     lengths-requires
-    refusal-requires
+    enum-told
     same-length
     same-length-2
     returns

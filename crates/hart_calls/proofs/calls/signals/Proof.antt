@@ -1,5 +1,6 @@
 -- `hart_calls::calls::signals` meets its contract: refused, or the signals of its hart. Assumes nothing.
 use borrow.Author.Tests.{le-ltb}
+use Rattle.call.proofs.AnswerLaws.{done-case}
 use Rattle.call_laws.proofs.CallTests.{checked-long, tests-blocks, tests-name}
 use Rattle.call_laws.proofs.HartCallEffects.{tests-signals, signals-done}
 use borrow.Author.Needs.{needs}
@@ -9,8 +10,8 @@ use Rattle.hart_calls.proofs.calls.signals.Tie as tie
 check-requires : tie.Need-check-requires
 check-requires c κs = search needs
 
-refusal-requires : tie.Need-refusal-requires
-refusal-requires c κs = search needs
+enum-told : tie.Need-enum-told
+enum-told c = search needs
 
 same-length : tie.Need-same-length
 same-length c = search needs
@@ -20,8 +21,7 @@ same-length-2 c = search needs
 
 returns : tie.Need-returns
 returns c =
-    tests-blocks (tests-signals _) _ _ _ (c .before .before .check .ensures) (c .before .if1 .taken) _
-    (c .refusal .ensures)
+    tests-blocks (tests-signals _) _ _ _ (c .before .check .ensures) (c .match .keys2)
 
 same-length-3 : tie.Need-same-length-3
 same-length-3 c = search needs
@@ -31,14 +31,16 @@ same-length-4 c = search needs
 
 returns-2 : tie.Need-returns-2
 returns-2 c =
-    let at-check = c .before in
-    tests-name (tests-signals _) _ _ _ (at-check .before .check .ensures) (at-check .if1 .left)
-    (le-ltb _ 4 (c .if2 .taken))
+    let at-told = c .before in
+    let none = done-case _ _ (at-told .before .before .check .ensures) (at-told .enum-told .given .1) in
+    tests-name (tests-signals _) _ _ none
+    (le-ltb _ 4 (c .if1 .taken))
 
 all-signals-requires : tie.Need-all-signals-requires
 all-signals-requires c κs =
-    let at-check = c .before .before in
-    (checked-long _ _ _ (at-check .before .check .ensures) (at-check .if1 .left), c .before .if2 .left)
+    let at-told = c .before .before in
+    let none = done-case _ _ (at-told .before .before .check .ensures) (at-told .enum-told .given .1) in
+    (checked-long _ _ none, c .before .if1 .left)
 
 cast-t14 : tie.Need-cast-t14
 cast-t14 c = search needs
@@ -52,8 +54,9 @@ same-length-6 c = search needs
 returns-3 : tie.Need-returns-3
 returns-3 c =
     let at-hart = c .before .before in
-    let at-check = at-hart .before in
-    signals-done _ _ _ (at-check .before .check .ensures) (at-check .if1 .left) _ (at-hart .if2 .left) _
+    let at-told = at-hart .before in
+    let none = done-case _ _ (at-told .before .before .check .ensures) (at-told .enum-told .given .1) in
+    signals-done _ _ none _ (at-hart .if1 .left) _
     (c .all-signals .ensures)
 
 pub signals-spec : {M : Type 1} → statement M
@@ -61,7 +64,7 @@ signals-spec =
     tie.close
     (tie.spec
     check-requires
-    refusal-requires
+    enum-told
     same-length
     same-length-2
     returns

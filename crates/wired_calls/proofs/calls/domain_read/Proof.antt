@@ -3,6 +3,7 @@ use mathlib.Core.Path.{refl, sym, _∙_}
 use mathlib.Core.Bool.{true}
 use native.Mathlib.Omega.{arith}
 use borrow.Author.Tests.{not-true, not-false, lt-ltb, le-ltb}
+use Rattle.call.proofs.AnswerLaws.{done-case}
 use Rattle.call.proofs.RefusalLaws.{passed-state, passed-rules}
 use mathlib.Core.Path.{ap, subst}
 use Rattle.region.specs.Region.{Within}
@@ -23,8 +24,8 @@ use Rattle.wired_calls.proofs.calls.domain_read.Tie as tie
 check-requires : tie.Need-check-requires
 check-requires c κs = search needs
 
-refusal-requires : tie.Need-refusal-requires
-refusal-requires c κs = search needs
+enum-told : tie.Need-enum-told
+enum-told c = search needs
 
 same-length : tie.Need-same-length
 same-length c = search needs
@@ -34,10 +35,10 @@ same-length-2 c = search needs
 
 returns : tie.Need-returns
 returns c =
-    let at-check = c .before .before in
+    let at-check = c .before in
     let args = at-check .before .before .before .before .before .args in
     tests-blocks (tests-domainRead (args .domain) (args .address)) (args .state .now) (args .log .now) _
-    (at-check .check .ensures) (c .before .if1 .taken) _ (c .refusal .ensures)
+    (at-check .check .ensures) (c .match .keys2)
 
 same-length-3 : tie.Need-same-length-3
 same-length-3 c = search needs
@@ -47,10 +48,11 @@ same-length-4 c = search needs
 
 returns-2 : tie.Need-returns-2
 returns-2 c =
-    let at-check = c .before .before in
+    let at-told = c .before in
+    let at-check = at-told .before .before in
     let args = at-check .before .before .before .before .before .args in
-    tests-name (tests-domainRead (args .domain) (args .address)) (args .state .now) (args .log .now) _
-    (at-check .check .ensures) (c .before .if1 .left) (le-ltb _ 2 (c .if2 .taken))
+    tests-name (tests-domainRead (args .domain) (args .address)) (args .state .now) (args .log .now)
+    (done-case _ _ (at-check .check .ensures) (at-told .enum-told .given .1)) (le-ltb _ 2 (c .if1 .taken))
 
 address-legal-requires : tie.Need-address-legal-requires
 address-legal-requires c κs = search needs
@@ -64,12 +66,13 @@ same-length-6 c = search needs
 returns-3 : tie.Need-returns-3
 returns-3 c =
     let at-name = c .before .before in
-    let at-check = at-name .before .before in
+    let at-told = at-name .before in
+    let at-check = at-told .before .before in
     let args = at-check .before .before .before .before .before .args in
-    tests-address (tests-domainRead (args .domain) (args .address)) (args .state .now) (args .log .now) _
-    (at-check .check .ensures) (at-name .before .if1 .left)
-    (lt-ltb (args .domain) 2 (omega (arith, at-name .if2 .left)))
-    (sym (c .before .address-legal .ensures) ∙ not-true _ (c .if3 .taken))
+    tests-address (tests-domainRead (args .domain) (args .address)) (args .state .now) (args .log .now)
+    (done-case _ _ (at-check .check .ensures) (at-told .enum-told .given .1))
+    (lt-ltb (args .domain) 2 (omega (arith, at-name .if1 .left)))
+    (sym (c .before .address-legal .ensures) ∙ not-true _ (c .if2 .taken))
 
 word-at-requires : tie.Need-word-at-requires
 word-at-requires c κs = search needs
@@ -77,8 +80,8 @@ word-at-requires c κs = search needs
 read-done-requires : tie.Need-read-done-requires
 read-done-requires c κs =
     let at-address = c .before .before in
-    let at-test = at-address .before .before .before in
-    let none = sym (at-test .before .check .ensures) ∙ at-test .if1 .left in (
+    let at-told = at-address .before .before .before in
+    let none = done-case _ _ (at-told .before .before .check .ensures) (at-told .enum-told .given .1) in (
       passed-state true _ _ none,
       subst Within (sym (c .word-at .ensures)) (word-within _),
       passed-rules true _ _ none refl,
@@ -98,17 +101,18 @@ returns-4 c =
     let at-done = c .before .before in
     let at-address = at-done .before .before .before in
     let at-name = at-address .before .before in
-    let at-check = at-name .before .before in
+    let at-told = at-name .before in
+    let at-check = at-told .before .before in
     let args = at-check .before .before .before .before .before .args in
     let l = args .state .now in
-    let none = sym (at-check .check .ensures) ∙ at-name .before .if1 .left in
+    let none = done-case _ _ (at-check .check .ensures) (at-told .enum-told .given .1) in
     let long = passed-state true l (args .log .now) none in
     let child = eqb (args .domain) 1 in
     let word = at-done .before .word-at .ensures in
     let read = at-done .read-done .ensures in
-    domainRead-done l (args .log .now) _ (at-check .check .ensures) (at-name .before .if1 .left)
-    (args .domain) (args .address) (omega (arith, at-name .if2 .left))
-    (sym (at-address .before .address-legal .ensures) ∙ not-false _ (at-address .if3 .left)) _ _
+    domainRead-done l (args .log .now) none
+    (args .domain) (args .address) (omega (arith, at-name .if1 .left))
+    (sym (at-address .before .address-legal .ensures) ∙ not-false _ (at-address .if2 .left)) _ _
     (at-done .read-done .kept .0 ∙ long)
     (read-none l long (passed-rules true l (args .log .now) none refl) child (wordAt (args .address)))
     (read .0 ∙ ap (readIn (boardOf l .wired) child) word)
@@ -122,7 +126,7 @@ domain-read-spec =
     tie.close
     (tie.spec
     check-requires
-    refusal-requires
+    enum-told
     same-length
     same-length-2
     returns

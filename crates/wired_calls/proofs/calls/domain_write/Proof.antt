@@ -3,6 +3,7 @@ use mathlib.Core.Path.{refl, sym, _∙_}
 use mathlib.Core.Bool.{true}
 use native.Mathlib.Omega.{arith}
 use borrow.Author.Tests.{not-true, not-false, lt-ltb, le-ltb}
+use Rattle.call.proofs.AnswerLaws.{done-case}
 use Rattle.call.proofs.RefusalLaws.{passed-state, passed-log, passed-rules}
 use mathlib.Core.Path.{ap, subst}
 use Rattle.region.specs.Region.{Within}
@@ -21,8 +22,8 @@ use Rattle.wired_calls.proofs.calls.domain_write.Tie as tie
 check-requires : tie.Need-check-requires
 check-requires c κs = search needs
 
-refusal-requires : tie.Need-refusal-requires
-refusal-requires c κs = search needs
+enum-told : tie.Need-enum-told
+enum-told c = search needs
 
 same-length : tie.Need-same-length
 same-length c = search needs
@@ -32,11 +33,11 @@ same-length-2 c = search needs
 
 returns : tie.Need-returns
 returns c =
-    let at-check = c .before .before in
+    let at-check = c .before in
     let args = at-check .before .before .before .before .before .args in
     tests-blocks (tests-domainWrite (args .domain) (args .address) (args .value)) (args .state .now)
     (args .log .now) _
-    (at-check .check .ensures) (c .before .if1 .taken) _ (c .refusal .ensures)
+    (at-check .check .ensures) (c .match .keys2)
 
 same-length-3 : tie.Need-same-length-3
 same-length-3 c = search needs
@@ -46,11 +47,12 @@ same-length-4 c = search needs
 
 returns-2 : tie.Need-returns-2
 returns-2 c =
-    let at-check = c .before .before in
+    let at-told = c .before in
+    let at-check = at-told .before .before in
     let args = at-check .before .before .before .before .before .args in
     tests-name (tests-domainWrite (args .domain) (args .address) (args .value)) (args .state .now)
-    (args .log .now) _
-    (at-check .check .ensures) (c .before .if1 .left) (le-ltb _ 2 (c .if2 .taken))
+    (args .log .now)
+    (done-case _ _ (at-check .check .ensures) (at-told .enum-told .given .1)) (le-ltb _ 2 (c .if1 .taken))
 
 address-legal-requires : tie.Need-address-legal-requires
 address-legal-requires c κs = search needs
@@ -64,13 +66,14 @@ same-length-6 c = search needs
 returns-3 : tie.Need-returns-3
 returns-3 c =
     let at-name = c .before .before in
-    let at-check = at-name .before .before in
+    let at-told = at-name .before in
+    let at-check = at-told .before .before in
     let args = at-check .before .before .before .before .before .args in
     tests-address (tests-domainWrite (args .domain) (args .address) (args .value)) (args .state .now)
-    (args .log .now) _
-    (at-check .check .ensures) (at-name .before .if1 .left)
-    (lt-ltb (args .domain) 2 (omega (arith, at-name .if2 .left)))
-    (sym (c .before .address-legal .ensures) ∙ not-true _ (c .if3 .taken))
+    (args .log .now)
+    (done-case _ _ (at-check .check .ensures) (at-told .enum-told .given .1))
+    (lt-ltb (args .domain) 2 (omega (arith, at-name .if1 .left)))
+    (sym (c .before .address-legal .ensures) ∙ not-true _ (c .if2 .taken))
 
 word-at-requires : tie.Need-word-at-requires
 word-at-requires c κs = search needs
@@ -78,8 +81,8 @@ word-at-requires c κs = search needs
 write-done-requires : tie.Need-write-done-requires
 write-done-requires c κs =
     let at-address = c .before .before .before in
-    let at-test = at-address .before .before .before in
-    let none = sym (at-test .before .check .ensures) ∙ at-test .if1 .left in (
+    let at-told = at-address .before .before .before in
+    let none = done-case _ _ (at-told .before .before .check .ensures) (at-told .enum-told .given .1) in (
       passed-state true _ _ none,
       passed-log true _ _ none,
       subst Within (sym (c .word-at .ensures)) (word-within _),
@@ -100,13 +103,14 @@ returns-4 c =
     let at-done = c .before .before .before .before in
     let at-address = at-done .before .before .before .before in
     let at-name = at-address .before .before in
-    let at-check = at-name .before .before in
+    let at-told = at-name .before in
+    let at-check = at-told .before .before in
     let args = at-check .before .before .before .before .before .args in
-    let none = sym (at-check .check .ensures) ∙ at-name .before .if1 .left in
+    let none = done-case _ _ (at-check .check .ensures) (at-told .enum-told .given .1) in
     let child = eqb (args .domain) 1 in
-    domainWrite-done (args .state .now) (args .log .now) _ (at-check .check .ensures)
-    (at-name .before .if1 .left) (args .domain) (args .address) (omega (arith, at-name .if2 .left))
-    (sym (at-address .before .address-legal .ensures) ∙ not-false _ (at-address .if3 .left)) (args .value)
+    domainWrite-done (args .state .now) (args .log .now) none (args .domain) (args .address)
+    (omega (arith, at-name .if1 .left))
+    (sym (at-address .before .address-legal .ensures) ∙ not-false _ (at-address .if2 .left)) (args .value)
     _ _ _
     (at-done .write-done .kept .0 ∙ passed-state true _ _ none)
     (left-of (ap (λ (r : Word). writeCall (boardOf (args .state .now) .wired) child r (args .value))
@@ -117,7 +121,7 @@ domain-write-spec =
     tie.close
     (tie.spec
     check-requires
-    refusal-requires
+    enum-told
     same-length
     same-length-2
     returns

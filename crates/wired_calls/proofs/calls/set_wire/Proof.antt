@@ -3,6 +3,7 @@ use mathlib.Core.Path.{refl, sym, _∙_}
 use mathlib.Core.Bool.{true}
 use native.Mathlib.Omega.{arith}
 use borrow.Author.Tests.{not-true, not-false}
+use Rattle.call.proofs.AnswerLaws.{done-case}
 use Rattle.call.proofs.RefusalLaws.{passed-state, passed-log, passed-rules}
 use Rattle.call_laws.proofs.WiredCallEffects.{wire-low, wire-high, tests-wire, wire-done}
 use Rattle.call_laws.proofs.CallTests.{tests-blocks, tests-name}
@@ -13,8 +14,8 @@ use Rattle.wired_calls.proofs.calls.set_wire.Tie as tie
 check-requires : tie.Need-check-requires
 check-requires c κs = search needs
 
-refusal-requires : tie.Need-refusal-requires
-refusal-requires c κs = search needs
+enum-told : tie.Need-enum-told
+enum-told c = search needs
 
 same-length : tie.Need-same-length
 same-length c = search needs
@@ -24,11 +25,11 @@ same-length-2 c = search needs
 
 returns : tie.Need-returns
 returns c =
-    let at-check = c .before .before in
+    let at-check = c .before in
     let args = at-check .before .before .before .before .before .args in
     tests-blocks (tests-wire (args .wire) (args .level)) (args .state .now) (args .log .now) _
     (at-check .check .ensures)
-    (c .before .if1 .taken) _ (c .refusal .ensures)
+    (c .match .keys2)
 
 is-wire-requires : tie.Need-is-wire-requires
 is-wire-requires c κs = search needs
@@ -41,21 +42,21 @@ same-length-4 c = search needs
 
 returns-2 : tie.Need-returns-2
 returns-2 c =
-    let at-test = c .before .before in
-    let at-check = at-test .before in
+    let at-told = c .before .before in
+    let at-check = at-told .before .before in
     let args = at-check .before .before .before .before .before .args in
-    tests-name (tests-wire (args .wire) (args .level)) (args .state .now) (args .log .now) _
-    (at-check .check .ensures)
-    (at-test .if1 .left) (sym (c .before .is-wire .ensures) ∙ not-true _ (c .if2 .taken))
+    tests-name (tests-wire (args .wire) (args .level)) (args .state .now) (args .log .now)
+    (done-case _ _ (at-check .check .ensures) (at-told .enum-told .given .1))
+    (sym (c .before .is-wire .ensures) ∙ not-true _ (c .if1 .taken))
 
 wire-done-requires : tie.Need-wire-done-requires
 wire-done-requires c κs =
     let at-name = c .before .before in
-    let at-test = at-name .before .before in
-    let at-check = at-test .before in
+    let at-told = at-name .before .before in
+    let at-check = at-told .before .before in
     let args = at-check .before .before .before .before .before .args in
-    let none = sym (at-check .check .ensures) ∙ at-test .if1 .left in
-    let there = sym (at-name .before .is-wire .ensures) ∙ not-false _ (at-name .if2 .left) in (
+    let none = done-case _ _ (at-check .check .ensures) (at-told .enum-told .given .1) in
+    let there = sym (at-name .before .is-wire .ensures) ∙ not-false _ (at-name .if1 .left) in (
       passed-state true _ _ none,
       passed-log true _ _ none,
       wire-low (args .wire) (args .level) there,
@@ -76,13 +77,13 @@ returns-3 : tie.Need-returns-3
 returns-3 c =
     let at-done = c .before .before .before .before in
     let at-name = at-done .before .before .before in
-    let at-test = at-name .before .before in
-    let at-check = at-test .before in
+    let at-told = at-name .before .before in
+    let at-check = at-told .before .before in
     let args = at-check .before .before .before .before .before .args in
-    let none = sym (at-check .check .ensures) ∙ at-test .if1 .left in
-    wire-done (args .state .now) (args .log .now) _ (at-check .check .ensures) (at-test .if1 .left)
+    let none = done-case _ _ (at-check .check .ensures) (at-told .enum-told .given .1) in
+    wire-done (args .state .now) (args .log .now) none
     (args .wire) (args .level) (sym (at-name .before .is-wire .ensures) ∙ not-false _
-    (at-name .if2 .left)) _ _ _
+    (at-name .if1 .left)) _ _ _
     (at-done .wire-done .kept .0 ∙ passed-state true _ _ none) (at-done .wire-done .ensures .1)
 
 pub set-wire-spec : {M : Type 1} → statement M
@@ -90,7 +91,7 @@ set-wire-spec =
     tie.close
     (tie.spec
     check-requires
-    refusal-requires
+    enum-told
     same-length
     same-length-2
     returns
