@@ -19,9 +19,9 @@ pub enum Call {
     DomainRead(u64, u64),
     // domain, address, value
     DomainWrite(u64, u64, u32),
-    // hart, file, offset
+    // hart, file, address
     PageRead(u64, u64, u64),
-    // hart, file, offset, value
+    // hart, file, address, value
     PageWrite(u64, u64, u64, u32),
     // hart, file, kind of access, select, value
     Register(u64, u64, u64, u64, u64),

@@ -35,10 +35,10 @@ pub fn is_move(oldhart: u64, oldfile: u64, newhart: u64, newfile: u64, access: u
 }
 
 // A file's page has 4,096 bytes.
-pub fn is_page_address(offset: u64) -> bool
-    ensures { λ r. ⌜ r ≡ isPageAddress offset ⌝ }
+pub fn is_page_address(address: u64) -> bool
+    ensures { λ r. ⌜ r ≡ isPageAddress address ⌝ }
 {
-    (offset % 4 == 0) & (offset < 4096)
+    (address % 4 == 0) & (address < 4096)
 }
 
 // 0 read, 1 write, 2 set bits, 3 clear bits.

@@ -7,8 +7,8 @@ use call::check;
 use call::is_file;
 use call::is_page_address;
 
-pub fn page_read(state: &mut [u32], log: &mut [u32], hart: u64, file: u64, offset: u64) -> Answer
-    ensures { λ r. ⌜ Does (the.PageRead hart file offset) (now (state .entry)) (now (log .entry)) r
+pub fn page_read(state: &mut [u32], log: &mut [u32], hart: u64, file: u64, address: u64) -> Answer
+    ensures { λ r. ⌜ Does (the.PageRead hart file address) (now (state .entry)) (now (log .entry)) r
         (now (state .exit)) (now (log .exit)) ⌝ }
 {
     let answer = check(state, log);
@@ -18,9 +18,9 @@ pub fn page_read(state: &mut [u32], log: &mut [u32], hart: u64, file: u64, offse
     if !is_file(hart, file) {
         return Answer::NoSuch;
     }
-    if !is_page_address(offset) {
+    if !is_page_address(address) {
         return Answer::BadAddress;
     }
     let f = load_file(state, hart, file);
-    Answer::Done(f.page_read(offset) as u64, 0)
+    Answer::Done(f.page_read(address) as u64, 0)
 }

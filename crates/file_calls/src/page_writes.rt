@@ -13,10 +13,10 @@ pub fn page_write(
     log: &mut [u32],
     hart: u64,
     file: u64,
-    offset: u64,
+    address: u64,
     value: u32,
 ) -> Answer
-    ensures { λ r. ⌜ Does (the.PageWrite hart file offset value) (now (state .entry)) (now (log .entry)) r
+    ensures { λ r. ⌜ Does (the.PageWrite hart file address value) (now (state .entry)) (now (log .entry)) r
         (now (state .exit)) (now (log .exit)) ⌝ }
 {
     let answer = check(state, log);
@@ -26,10 +26,10 @@ pub fn page_write(
     if !is_file(hart, file) {
         return Answer::NoSuch;
     }
-    if !is_page_address(offset) {
+    if !is_page_address(address) {
         return Answer::BadAddress;
     }
     let f = load_file(state, hart, file);
-    store_file(state, hart, file, f.page_write(offset, value));
+    store_file(state, hart, file, f.page_write(address, value));
     Answer::Done(0, 0)
 }

@@ -83,14 +83,14 @@ same-length-8 c = search needs
 returns-4 : tie.Need-returns-4
 returns-4 c =
     let at-load = c .before in
-    let at-offset = at-load .before .before in
-    let at-test = at-offset .before .before in
+    let at-address = at-load .before .before in
+    let at-test = at-address .before .before in
     let at-told = at-test .before .before in
     let none = done-case _ _ (at-told .before .before .check .ensures) (at-told .enum-told .given .1) in
     pageRead-done _ _ none _ _ _
     (at-load .load-file .ensures) _
     (sym (at-test .before .is-file .ensures) ∙ not-false _ (at-test .if1 .left))
-    (sym (at-offset .before .is-page-address .ensures) ∙ not-false _ (at-offset .if2 .left)) _
+    (sym (at-address .before .is-page-address .ensures) ∙ not-false _ (at-address .if2 .left)) _
     (c .page-read .ensures)
 
 pub page-read-spec : {M : Type 1} → statement M

@@ -91,15 +91,15 @@ returns-4 c =
     let at-store = c .before .before in
     let at-write = at-store .before in
     let at-load = at-write .before .before in
-    let at-offset = at-load .before .before in
-    let at-test = at-offset .before .before in
+    let at-address = at-load .before .before in
+    let at-test = at-address .before .before in
     let at-told = at-test .before .before in
     let none = done-case _ _ (at-told .before .before .check .ensures) (at-told .enum-told .given .1) in
     pageWrite-done _ _ none _ _ _
     (at-load .load-file .ensures) _ _ (at-store .store-file .kept .0)
     (at-store .store-file .ensures) _ _
     (sym (at-test .before .is-file .ensures) ∙ not-false _ (at-test .if1 .left))
-    (sym (at-offset .before .is-page-address .ensures) ∙ not-false _ (at-offset .if2 .left))
+    (sym (at-address .before .is-page-address .ensures) ∙ not-false _ (at-address .if2 .left))
     (at-write .page-write .ensures)
 
 pub page-write-spec : {M : Type 1} → statement M
