@@ -12,7 +12,6 @@ use hart_calls::signals;
 use transfer::make_access;
 use wired_calls::domain_read;
 use wired_calls::domain_write;
-use wired_calls::set_wire;
 
 // Only a move reads or writes the record.
 pub fn apply(state: &mut [u32], log: &mut [u32], saved: &mut [u64; 10], call: Call) -> Answer
@@ -21,7 +20,7 @@ pub fn apply(state: &mut [u32], log: &mut [u32], saved: &mut [u64; 10], call: Ca
 {
     match call {
         Call::Reset => reset(state, log),
-        Call::Wire(wire, level) => set_wire(state, log, wire, level),
+        Call::Wire(wire, level) => wired_calls::wire(state, log, wire, level),
         Call::DomainRead(domain, address) => domain_read(state, log, domain, address),
         Call::DomainWrite(domain, address, value) => domain_write(
             state,

@@ -31,7 +31,7 @@ use Rattle.call.specs.Change.{signalsTo}
 use Rattle.call.specs.Outcome.{Outcome, step, outcome, Gives, Does}
 use Rattle.call_laws.specs.Fit.{SavedFit}
 use Rattle.call_laws.specs.Small.{Small}
-use Rattle.wired_calls.proofs.set_wire.Reads as set-wire
+use Rattle.wired_calls.proofs.wire.Reads as wire
 use Rattle.wired_calls.proofs.domain_read.Reads as domain-read
 use Rattle.wired_calls.proofs.domain_write.Reads as domain-write
 use Rattle.file_calls.proofs.page_read.Reads as page-read
@@ -49,7 +49,7 @@ use Rattle.board.proofs.apply.Reads as apply
 unfoldable pub Claim-80 : Type 0
 Claim-80 =
     (l : Lfts 2) (b b′ g g′ : RefT (List ℕ)) (r : Answer)
-    → ((i level : ℕ) → set-wire.Learnt l (b, (g, (i, (level, tt)))) r (b′, (g′, (i, (level, tt))))
+    → ((i level : ℕ) → wire.Learnt l (b, (g, (i, (level, tt)))) r (b′, (g′, (i, (level, tt))))
     → Does (Wire i level) (now b) (now g) r (now b′) (now g′))
     × ((d a : ℕ) → domain-read.Learnt l (b, (g, (d, (a, tt)))) r (b′, (g′, (d, (a, tt))))
     → Does (DomainRead d a) (now b) (now g) r (now b′) (now g′))

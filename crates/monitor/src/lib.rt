@@ -21,7 +21,7 @@ pub extern "C" fn vsk_wire(state: &mut [u32], log: &mut [u32], wire: u64, level:
     ensures { λ r. ⌜ Tells (the.Wire wire level) (now (state .entry)) (now (log .entry)) r
         (now (state .exit)) (now (log .exit)) ⌝ }
 {
-    numbers(wired_calls::set_wire(state, log, wire, level))
+    numbers(wired_calls::wire(state, log, wire, level))
 }
 
 #[no_mangle]

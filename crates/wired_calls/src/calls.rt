@@ -9,7 +9,7 @@ use call::check;
 use region::address_legal;
 use region::word_at;
 
-pub fn set_wire(state: &mut [u32], log: &mut [u32], wire: u64, level: u64) -> Answer
+pub fn wire(state: &mut [u32], log: &mut [u32], wire: u64, level: u64) -> Answer
     ensures { λ r. ⌜ Does (the.Wire wire level) (now (state .entry)) (now (log .entry)) r
         (now (state .exit)) (now (log .exit)) ⌝ }
 {

@@ -6,4 +6,4 @@ mod written;
 
 pub use calls::domain_read;
 pub use calls::domain_write;
-pub use calls::set_wire;
+pub use calls::wire;

@@ -14,8 +14,8 @@ reset-requires c κs = search needs
 enum-known-call : tie.Need-enum-known-call
 enum-known-call c = search needs
 
-set-wire-requires : tie.Need-set-wire-requires
-set-wire-requires c κs = search needs
+wire-requires : tie.Need-wire-requires
+wire-requires c κs = search needs
 
 enum-known-call-2 : tie.Need-enum-known-call-2
 enum-known-call-2 c = search needs
@@ -93,7 +93,7 @@ returns-2 : tie.Need-returns-2
 returns-2 c =
     let at-call = c .before .before .before .before in
     gives-of (sym (at-call .before .before .before .before .call .given .1)) _ _ _ _ _ _ _
-    (at-call .set-wire .ensures _)
+    (at-call .wire .ensures _)
 
 same-length-5 : tie.Need-same-length-5
 same-length-5 c = search needs
@@ -210,7 +210,7 @@ apply-spec =
     enum-told
     reset-requires
     enum-known-call
-    set-wire-requires
+    wire-requires
     enum-known-call-2
     domain-read-requires
     enum-known-call-3

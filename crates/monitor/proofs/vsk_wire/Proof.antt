@@ -4,8 +4,8 @@ use Rattle.answer.proofs.ToldLaws.{told-of}
 use Rattle.monitor.proofs.vsk_wire.Statement.{statement}
 use Rattle.monitor.proofs.vsk_wire.Tie as tie
 
-set-wire-requires : tie.Need-set-wire-requires
-set-wire-requires c κs = search needs
+wire-requires : tie.Need-wire-requires
+wire-requires c κs = search needs
 
 numbers-requires : tie.Need-numbers-requires
 numbers-requires c κs = search needs
@@ -17,8 +17,8 @@ same-length-2 : tie.Need-same-length-2
 same-length-2 c = search needs
 
 returns : tie.Need-returns
-returns c s = told-of (c .numbers .ensures) (c .before .before .before .before .before .set-wire .ensures s)
+returns c s = told-of (c .numbers .ensures) (c .before .before .before .before .before .wire .ensures s)
 
 pub vsk-wire-spec : {M : Type 1} → statement M
 vsk-wire-spec =
-    tie.close (tie.spec set-wire-requires numbers-requires same-length same-length-2 returns)
+    tie.close (tie.spec wire-requires numbers-requires same-length same-length-2 returns)

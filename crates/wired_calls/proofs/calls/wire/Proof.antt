@@ -1,4 +1,4 @@
--- `wired_calls::calls::set_wire` meets its contract: refusal by refusal, and the call. Assumes nothing.
+-- `wired_calls::calls::wire` meets its contract: refusal by refusal, and the call. Assumes nothing.
 use mathlib.Core.Path.{refl, sym, _∙_}
 use mathlib.Core.Bool.{true}
 use native.Mathlib.Omega.{arith}
@@ -8,8 +8,8 @@ use Rattle.call.proofs.RefusalLaws.{passed-state, passed-log, passed-rules}
 use Rattle.call_laws.proofs.WiredCallEffects.{wire-low, wire-high, tests-wire, wire-done}
 use Rattle.call_laws.proofs.CallTests.{tests-blocks, tests-name}
 use borrow.Author.Needs.{needs}
-use Rattle.wired_calls.proofs.calls.set_wire.Statement.{statement}
-use Rattle.wired_calls.proofs.calls.set_wire.Tie as tie
+use Rattle.wired_calls.proofs.calls.wire.Statement.{statement}
+use Rattle.wired_calls.proofs.calls.wire.Tie as tie
 
 check-requires : tie.Need-check-requires
 check-requires c κs = search needs
@@ -86,8 +86,8 @@ returns-3 c =
     (at-name .if1 .left)) _ _ _
     (at-done .wire-done .kept .0 ∙ passed-state true _ _ none) (at-done .wire-done .ensures .1)
 
-pub set-wire-spec : {M : Type 1} → statement M
-set-wire-spec =
+pub wire-spec : {M : Type 1} → statement M
+wire-spec =
     tie.close
     (tie.spec
     check-requires
