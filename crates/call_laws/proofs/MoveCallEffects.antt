@@ -19,7 +19,7 @@ use Rattle.file.specs.Register.{accessed}
 use Rattle.files.specs.Files.{fileNumber, theFile}
 use Rattle.domain.specs.Domain.{configOf, byMessages}
 use Rattle.region.specs.declared.Word.the-variants as word
-use Rattle.registers.specs.Read.{claimHart, claimedBy}
+use Rattle.registers.specs.Read.{claimedAs, claimedBy}
 use Rattle.wired.specs.Wired.{Wired, domainIn, withDomain, readIn, claimedIn, writtenIn}
 use Rattle.rules_laws.proofs.ConfigEffects.{config-low}
 use Rattle.rules_laws.proofs.WiredEffects.{steady-domainIn}
@@ -64,7 +64,7 @@ module _ (h f : ℕ) (there : isGuestFile h f ≡ true) where
 module _ (oh of nh nf : ℕ) (w : Wired) (i : ℕ) where
   -- a read of it changes nothing
   target-back : claimedIn w true (word.Target i) ≡ w
-  unfolding claimedBy claimHart domainIn withDomain
+  unfolding claimedBy claimedAs domainIn withDomain
   target-back = refl
 
   -- t was read, and left the controller v

@@ -1,18 +1,20 @@
 -- Claims 76 to 79, by the laws of the wired controller's calls. Assumes nothing.
 use Prim.Native.Nat.{ℕ}
 use mathlib.Core.Path.{_≡_, refl, ap}
-use mathlib.Core.Bool.{Bool, false}
+use mathlib.Core.Bool.{Bool}
 use mathlib.Core.List.{[], append-nil}
-use mathlib.Core.Logic.{inl, inr}
+use mathlib.Core.Logic.{_≢_, inl, inr}
 use native.Mathlib.Omega.{arith}
 use Rattle.region.specs.declared.Word.{Word}
 use Rattle.region.specs.declared.Word.the-variants.{Genmsi}
+use Rattle.region.proofs.RoleLaws.{generates-only}
 use Rattle.wired.specs.Wired.{Wired, domainIn, writtenIn, wireSet}
 use Rattle.sending.specs.Sending.{Sent}
 use Rattle.genmsi.specs.Genmsi.{generatedSent}
 use Rattle.rules_laws.specs.Steady.{WiredSteady, WiredQuiet}
 use Rattle.rules_laws.proofs.SoundParts.{wired-sound-steady, wired-sound-quiet}
-use Rattle.controller.specs.Controller.{flushed, isGenmsi, generatedBy, wireCall, writeCall, OneSends}
+use Rattle.controller.specs.Controller.{flushed, generatedAs, generatedBy, wireCall, writeCall, OneSends}
+use Rattle.controller.proofs.ControllerLaws.{generated-else}
 use Rattle.controller.proofs.CallLaws.{one-wireSet, one-writtenIn, read-silent, genmsi-silent}
 use Rattle.controller_laws.proofs.OutEffects.{wire-count, wire-exists, write-count, write-exists}
 use Rattle.controller_laws.proofs.OutEffects.{wire-sound, read-sound, write-sound}
@@ -43,23 +45,24 @@ genmsi-alone : (w : Wired) (c : Bool) (v : ℕ)
     → flushed (writtenIn w c Genmsi v) ≡ record { wired = writtenIn w c Genmsi v; messages = [] }
     → writeCall w c Genmsi v
     ≡ record { wired = writtenIn w c Genmsi v; messages = generatedSent c (domainIn w c) v }
-unfolding writeCall generatedBy isGenmsi
+unfolding writeCall generatedBy generatedAs
 genmsi-alone w c v silent = rw (silent, append-nil (generatedSent c (domainIn w c) v))
 
 -- a write to any other register, with what is to be sent after it
-change-alone : (w : Wired) (c : Bool) (r : Word) (v : ℕ) → isGenmsi r ≡ false
+change-alone : (w : Wired) (c : Bool) (r : Word) (v : ℕ) → r ≢ Genmsi
     → Sends (writtenIn w c r v) (writeCall w c r v)
-unfolding writeCall generatedBy flushed
-change-alone w c r v e = rw e (refl, refl)
+unfolding writeCall flushed
+change-alone w c r v n =
+    rw (generated-else c (domainIn w c) r v (λ e. n (generates-only r e))) (refl, refl)
 
 pub claim-77 : Claim-77
-unfolding Claim-77 wireCall isGenmsi flushed
+unfolding Claim-77 wireCall flushed
 claim-77 w s =
     let a = steady w s in
     let q = quiet w s in (
       (λ i l h level. ((refl, refl), one (wireSet w i level) (one-wireSet w a q i l (omega arith) level))),
       (λ c r. read-silent w a q c r),
-      (λ c r b v e. (change-alone w c r v e, one (writtenIn w c r v) (one-writtenIn w a q c r b v))),
+      (λ c r b v n. (change-alone w c r v n, one (writtenIn w c r v) (one-writtenIn w a q c r b v))),
       (λ c v. genmsi-alone w c v (genmsi-silent w a q c Genmsi refl v)),
     )
 

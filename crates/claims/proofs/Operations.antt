@@ -25,7 +25,7 @@ use Rattle.writes_laws.proofs.WritesEffects.{touched-wordChanged, touched-numbe
 use Rattle.direct.specs.Direct.{topSource, released}
 use Rattle.direct.proofs.DirectLaws.{claimed-some}
 use Rattle.registers.specs.Write.{registerWritten}
-use Rattle.registers.specs.Read.{claimHart, claimedBy}
+use Rattle.registers.specs.Read.{claimedBy}
 use Rattle.registers.proofs.ReadLaws.{claimed-by}
 use Rattle.sending_laws.proofs.SendingEffects.{sent-source, spent-hit}
 use Rattle.wired.specs.Wired.{wireSet, sourceWired, sourceModed, childWritten, rootWritten}
@@ -50,12 +50,12 @@ module _ (d : Domain) (wires : List ℕ) (family : Change) (shaped : Shaped d) (
   number-does =
       touched-numberChanged d wires family i shaped .source i l h ∙ rw (eq-eqb i i refl)
 
-claim-does : (d : Domain) (h i : ℕ) → Shaped d → h < 4 → i < 64 → i ≢ 0 → byMessages d ≡ false
+claim-does : (d : Domain) (h i : ℕ) → Shaped d → i < 64 → i ≢ 0 → byMessages d ≡ false
     → topSource d h ≡ i → sourceAt (claimedBy d (Claimi h)) i ≡ cleared (sourceAt d i) (byMessages d)
-unfolding claimHart released
-claim-does d h i shaped q u n m e =
+unfolding released
+claim-does d h i shaped u n m e =
     let some : topSource d h ≢ 0 = λ z. n (sym e ∙ z) in
-    rw (claimed-by d (Claimi h) q, claimed-some d h m some, e, m)
+    rw (claimed-by d (Claimi h) h refl, claimed-some d h m some, e, m)
     (sourceAt-withSource-same d i (cleared (sourceAt d i) false) shaped u)
 
 pub claim-59 : Claim-59
@@ -69,7 +69,7 @@ claim-59 = (
         number-does d wires Pend shaped i l u,
         rw turned (number-does d wires Pend shaped i l u),
         number-does d wires Clear shaped i l u,
-        λ g q m e. claim-does d g i shaped q u (λ z. omega arith) m e,
+        λ g q m e. claim-does d g i shaped u (λ z. omega arith) m e,
         λ on to. sent-source c d on i l u ∙ spent-hit (sourceAt d i) to,
       ),
   λ w long i l h level. unfold wireSet sourceWired in (
@@ -77,9 +77,9 @@ claim-59 = (
     sourceAt-withSource-same (w .child) i _ (long .2) (omega arith),
   ),
   λ w long i l h v. (
-    rw (word-written w false i v l) (unfold sourceWritten rootWritten sourceModed in
+    rw (word-written w false i v) (unfold sourceWritten rootWritten sourceModed in
         sourceAt-withSource-same (w .root) i _ (long .1) (omega arith)),
-    rw (word-written w true i v l) (unfold sourceWritten childWritten sourceModed in
+    rw (word-written w true i v) (unfold sourceWritten childWritten sourceModed in
         sourceAt-withSource-same (w .child) i _ (long .2) (omega arith)),
   ),
 )

@@ -1,7 +1,7 @@
 -- Claims 60 to 71: what the contract says is the claim itself; and a block is known from its parts.
 -- Assumes nothing.
 use Prim.Native.Nat.{ℕ, _+_, _≤_}
-use mathlib.Core.Path.{_≡_, sym, ap, ap₂, _∙_}
+use mathlib.Core.Path.{_≡_, refl, sym, ap, ap₂, _∙_}
 use mathlib.Core.List.{List, _++_}
 use native.Mathlib.Omega.{arith}
 use lib.ListN.{length, take, drop, take-append-drop, length-take, length-drop}
@@ -9,7 +9,8 @@ use lib.Seq.{drop-drop, take-all}
 use Rattle.domain.specs.Domain.{Domain, domainOf}
 use denote.Ref.{now}
 use Rattle.region.specs.declared.Word.the-variants.{Sourcecfg}
-use Rattle.wired.specs.Wired.{Wired, wiredOf, sourceOf}
+use Rattle.region.proofs.RoleLaws.{configures-only}
+use Rattle.wired.specs.Wired.{Wired, wiredOf}
 use Rattle.wired.proofs.WiredLaws.{written-part, written-source}
 use Rattle.files.specs.Files.{wordsOf}
 use Rattle.files_laws.proofs.BlockBack.{words-back}
@@ -87,14 +88,15 @@ unfolding Claim-68
 claim-68 l b b′ i level learnt = learnt
 
 pub claim-69 : Claim-69
-unfolding Claim-69 sourceOf
-claim-69 l b b′ c i v h learnt =
-    learnt ∙ written-source (wiredOf (now b)) c (Sourcecfg i) v (λ z. omega arith)
+unfolding Claim-69
+claim-69 l b b′ c i v learnt = learnt ∙ written-source (wiredOf (now b)) c (Sourcecfg i) v i refl
 
 pub claim-70 : Claim-70
 unfolding Claim-70
-claim-70 l b b′ c w v r =
-    ((λ learnt. learnt), (λ e learnt. learnt ∙ written-part (wiredOf (now b)) c w v e))
+claim-70 l b b′ c w v r = (
+  (λ learnt. learnt),
+  (λ n learnt. learnt ∙ written-part (wiredOf (now b)) c w v (λ i e. n i (configures-only w i e))),
+)
 
 pub claim-71 : Claim-71
 unfolding Claim-71

@@ -1,5 +1,5 @@
 -- Claims 55 to 58, from the laws of writes and of the wired controller. Assumes nothing.
-use Prim.Native.Nat.{ℕ, _≤_, _<_}
+use Prim.Native.Nat.{ℕ, _<_}
 use mathlib.Core.Path.{_≡_, refl, sym, ap, _∙_}
 use mathlib.Core.Bool.{Bool, true, false, true≢false, false≢true, or-false}
 use mathlib.Core.List.{List}
@@ -35,7 +35,7 @@ use Rattle.writes_laws.proofs.ConfigEffects.{byMessages-configWritten, isEnable
 use Rattle.source_laws.proofs.ModeEffects.{active-level}
 use Rattle.source_laws.proofs.TargetEffects.{keptTarget-back}
 use Rattle.wired.specs.Wired.{Wired}
-use Rattle.wired.specs.Wired.{sourceWritten, sourceOf, writtenIn}
+use Rattle.wired.specs.Wired.{sourceWritten, writtenIn}
 use Rattle.wired.proofs.WiredLaws.{written-source}
 use Rattle.rules_laws.proofs.SoundParts.{wired-sound-steady}
 use Rattle.rules_laws.proofs.WiredSameEffects.{wireSet-same, delegated-again}
@@ -100,17 +100,15 @@ claim-56 = (
 
 -- ---- what changes nothing
 
-pub word-written : (w : Wired) (c : Bool) (i v : ℕ) → 1 ≤ i
-    → writtenIn w c (Sourcecfg i) v ≡ sourceWritten w c i v
-unfolding sourceOf
-word-written w c i v l = written-source w c (Sourcecfg i) v (λ z. omega arith)
+pub word-written : (w : Wired) (c : Bool) (i v : ℕ) → writtenIn w c (Sourcecfg i) v ≡ sourceWritten w c i v
+word-written w c i v = written-source w c (Sourcecfg i) v i refl
 
 pub claim-57 : Claim-57
 unfolding Claim-57
 claim-57 w p i l h =
     let s = wired-sound-steady w (p .1) (p .0 .0) (p .0 .1) (p .0 .2) in (
       wireSet-same w s i l (omega arith),
-      λ v t b. word-written w false i v l ∙ delegated-again w s i l (omega arith) v b t,
+      λ v t b. word-written w false i v ∙ delegated-again w s i l (omega arith) v b t,
     )
 
 -- ---- a target

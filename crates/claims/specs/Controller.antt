@@ -5,7 +5,7 @@ use Prim.Native.Nat.{ℕ, _≤_, _<_}
 use mathlib.Core.Path.{_≡_}
 use mathlib.Core.Bool.{Bool, true, false}
 use mathlib.Core.List.{List, [], _++_}
-use mathlib.Core.Logic.{_⊎_}
+use mathlib.Core.Logic.{_⊎_, _≢_}
 use lib.ListN.{length, getD}
 use contract.Lifetimes.{Lfts}
 use denote.Ref.{RefT, now}
@@ -17,7 +17,7 @@ use Rattle.wired.specs.Wired.{Wired, wiredOf, domainIn, readIn, claimedIn, writ
 use Rattle.rules.specs.Rules.{wiredSound}
 use Rattle.sending.specs.Sending.{sent}
 use Rattle.genmsi.specs.Genmsi.{generatedSent}
-use Rattle.controller.specs.Controller.{Out, isGenmsi, wireCall, readCall, writeCall, Leaves}
+use Rattle.controller.specs.Controller.{Out, wireCall, readCall, writeCall, Leaves}
 use Rattle.controller.proofs.set_wire.Reads as set-wire
 use Rattle.controller.proofs.read.Reads as read
 use Rattle.controller.proofs.write.Reads as write
@@ -60,7 +60,7 @@ Claim-77 =
     → Sends (wireSet w i level) (wireCall w i level)
     × OneAtMost (wireSet w i level))
     × ((c : Bool) (r : Word) → readCall w c r ≡ record { wired = claimedIn w c r; messages = [] })
-    × ((c : Bool) (r : Word) → Within r → (v : ℕ) → isGenmsi r ≡ false
+    × ((c : Bool) (r : Word) → Within r → (v : ℕ) → r ≢ Genmsi
     → Sends (writtenIn w c r v) (writeCall w c r v) × OneAtMost (writtenIn w c r v))
     × ((c : Bool) (v : ℕ)
     → writeCall w c Genmsi v

@@ -15,11 +15,14 @@ use Rattle.stored.specs.Stored.{fileWords}
 use Rattle.words.specs.Parts.{packed}
 use Rattle.target.specs.Target.{keptTarget, messageOf}
 use Rattle.region.specs.declared.Word.the-variants.{Domaincfg}
+use Rattle.region.specs.declared.role.Role.{Role}
+use Rattle.region.specs.declared.role.Role.the-variants.{Claims, Configures, Generates, Plain}
 use Rattle.domain.specs.Domain.{Domain}
 use Rattle.config.specs.Config.{configWritten}
 use Rattle.direct.specs.Direct.{topiOf}
 use Rattle.region.specs.Region.{wordAt}
-use Rattle.registers.specs.Read.{valueOf as readOf, claimHart}
+use Rattle.region.specs.Role.{roleOf}
+use Rattle.registers.specs.Read.{valueOf as readOf}
 use Rattle.call.specs.declared.Call.the-variants.{DomainRead}
 use Rattle.block.specs.Start.{startBoard}
 use Rattle.call.specs.Refusal.{nameRefusal}
@@ -29,6 +32,13 @@ pub record Row : Type 0 where
   pub case : ℕ
   pub given : List ℕ
   pub says : List ℕ
+
+-- the hart whose claimi a register is, if it is one
+abbrev pub claimHarts : Role → List ℕ
+claimHarts (Claims h) = h ∷ []
+claimHarts (Configures i) = []
+claimHarts Generates = []
+claimHarts Plain = []
 
 -- identities 5 and 9 pending and enabled: bits 5 and 9 of the first word
 abbrev pub fiveAndNine : ℕ → File
@@ -87,7 +97,7 @@ table =
       given = readOf (configWritten quiet wires 0x104) wires Domaincfg ∷ [];
       says = 0x80000104 ∷ [];
     }
-    ∷ record { case = 10; given = claimHart (wordAt 0x407C) ∷ []; says = 3 ∷ [] }
+    ∷ record { case = 10; given = claimHarts (roleOf (wordAt 0x407C)); says = 3 ∷ [] }
     ∷ record { case = 10; given = nameRefusal (DomainRead 0 0x5000) startBoard ∷ []; says = 5 ∷ [] }
     ∷ record { case = 11; given = numberOf (accessed 255 true empty Read 0x81 0 .answer) ∷ []; says = 6 ∷ [] }
     ∷ record {

@@ -2,10 +2,11 @@
 -- what the definitions say and nothing else. `Learnt l a r a′` is what a caller learns of a call with the
 -- arguments a that answered r and left a′. 01, "The wired controller", "Direct delivery and signals".
 -- Assumes nothing.
-use Prim.Native.Nat.{ℕ, _≤_}
+use Prim.Native.Nat.{ℕ}
 use mathlib.Core.Path.{_≡_}
 use mathlib.Core.Bool.{Bool}
 use mathlib.Core.List.{List}
+use mathlib.Core.Logic.{_≢_}
 use lib.ListN.{length, take}
 use contract.Lifetimes.{Lfts}
 use denote.Ref.{RefT, now}
@@ -19,7 +20,7 @@ use Rattle.registers.specs.Write.{registerWritten}
 use Rattle.sending.specs.Sending.{sent, logged}
 use Rattle.genmsi.specs.Genmsi.{generatedSent}
 use Rattle.files.specs.Files.{filesOf, wordsOf, allReached}
-use Rattle.wired.specs.Wired.{wiredOf, readIn, claimedIn, partWritten, wireSet, sourceWritten, sourceOf}
+use Rattle.wired.specs.Wired.{wiredOf, readIn, claimedIn, partWritten, wireSet, sourceWritten}
 use Rattle.region.proofs.word_at.Reads as word-at
 use Rattle.registers.proofs.read.Reads as read
 use Rattle.registers.proofs.write.Reads as write
@@ -91,7 +92,7 @@ Claim-68 =
 -- a sourcecfg is written; nothing is sent yet
 unfoldable pub Claim-69 : Type 0
 Claim-69 =
-    (l : Lfts 1) (b b′ : RefT (List ℕ)) (c : Bool) (i v : ℕ) → 1 ≤ i
+    (l : Lfts 1) (b b′ : RefT (List ℕ)) (c : Bool) (i v : ℕ)
     → wired-write.Learnt l (b, (c, (Sourcecfg i, (v, tt)))) tt (b′, (c, (Sourcecfg i, (v, tt))))
     → wiredOf (now b′) ≡ sourceWritten (wiredOf (now b)) c i v
 
@@ -101,7 +102,7 @@ Claim-70 =
     (l : Lfts 1) (b b′ : RefT (List ℕ)) (c : Bool) (w : Word) (v r : ℕ)
     → (wired-read.Learnt l (b, (c, (w, tt))) r (b′, (c, (w, tt)))
     → (r ≡ readIn (wiredOf (now b)) c w) × (wiredOf (now b′) ≡ claimedIn (wiredOf (now b)) c w))
-    × (sourceOf w ≡ 0 → wired-write.Learnt l (b, (c, (w, (v, tt)))) tt (b′, (c, (w, (v, tt))))
+    × (((i : ℕ) → w ≢ Sourcecfg i) → wired-write.Learnt l (b, (c, (w, (v, tt)))) tt (b′, (c, (w, (v, tt))))
     → wiredOf (now b′) ≡ partWritten (wiredOf (now b)) c w v)
 
 -- the message of a write to genmsi: the log after it, and how many

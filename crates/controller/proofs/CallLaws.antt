@@ -2,16 +2,13 @@
 -- No contract cites this file. Assumes nothing.
 use Prim.Native.Nat.{ℕ, _≤_, _<_}
 use mathlib.Core.Path.{_≡_, refl, sym, ap, subst}
-use mathlib.Core.Bool.{Bool, true, false, false≢true}
+use mathlib.Core.Bool.{Bool, true, false}
 use mathlib.Core.List.{List, [], _++_}
 use mathlib.Core.Logic.{_⊎_, inl, inr}
 use lib.ListN.{length, take, drop}
 use Rattle.region.specs.Region.{Within}
 use Rattle.region.specs.declared.Word.{Word}
-use Rattle.region.specs.declared.Word.the-variants.{Domaincfg, Sourcecfg, Setip, Setipnum, InClrip, Clripnum}
-use Rattle.region.specs.declared.Word.the-variants.{Setie, Setienum, Clrie, Clrienum, SetipnumLe, SetipnumBe}
-use Rattle.region.specs.declared.Word.the-variants.{Genmsi, Target, Idelivery, Iforce, Ithreshold, Topi}
-use Rattle.region.specs.declared.Word.the-variants.{Claimi, Unused}
+use Rattle.region.specs.declared.Word.the-variants.{Genmsi}
 use Rattle.domain_laws.specs.Shape.{Shaped}
 use Rattle.domain_laws.proofs.SlotEffects.{domainOf-shaped}
 use Rattle.wired.specs.Wired.{Wired, wiredOf, wireSet, writtenIn, claimedIn}
@@ -24,7 +21,7 @@ use Rattle.rules_laws.proofs.SoundParts.{wired-sound-steady, wired-sound-quiet}
 use Rattle.rules_laws.proofs.PassEffects.{sent-again}
 use Rattle.rules_laws.proofs.WiredQuietEffects.{wireSet-one, quiet-claimedIn, quiet-writtenIn-genmsi}
 use Rattle.rules_laws.proofs.WiredQuietEffects.{quiet-other}
-use Rattle.controller.specs.Controller.{flushed, isGenmsi, readCall, OneSends}
+use Rattle.controller.specs.Controller.{flushed, readCall, OneSends}
 
 -- 290 words that keep the rules
 module _ (l : List ℕ) (long : length l ≡ 290) (sound : wiredSound (wiredOf l) ≡ true) where
@@ -75,37 +72,13 @@ module _ (w : Wired) (s : WiredSteady w) (q : WiredQuiet w) where
 
 -- ---- a read, and a write to genmsi
 
-genmsi-only : (r : Word) → isGenmsi r ≡ true → r ≡ Genmsi
-unfolding isGenmsi
-genmsi-only Domaincfg e = absurd (false≢true e)
-genmsi-only (Sourcecfg i) e = absurd (false≢true e)
-genmsi-only (Setip k) e = absurd (false≢true e)
-genmsi-only Setipnum e = absurd (false≢true e)
-genmsi-only (InClrip k) e = absurd (false≢true e)
-genmsi-only Clripnum e = absurd (false≢true e)
-genmsi-only (Setie k) e = absurd (false≢true e)
-genmsi-only Setienum e = absurd (false≢true e)
-genmsi-only (Clrie k) e = absurd (false≢true e)
-genmsi-only Clrienum e = absurd (false≢true e)
-genmsi-only SetipnumLe e = absurd (false≢true e)
-genmsi-only SetipnumBe e = absurd (false≢true e)
-genmsi-only Genmsi e = refl
-genmsi-only (Target i) e = absurd (false≢true e)
-genmsi-only (Idelivery h) e = absurd (false≢true e)
-genmsi-only (Iforce h) e = absurd (false≢true e)
-genmsi-only (Ithreshold h) e = absurd (false≢true e)
-genmsi-only (Topi h) e = absurd (false≢true e)
-genmsi-only (Claimi h) e = absurd (false≢true e)
-genmsi-only Unused e = absurd (false≢true e)
-
 module _ (w : Wired) (s : WiredSteady w) (q : WiredQuiet w) where
   pub read-silent : (c : Bool) (r : Word) → readCall w c r ≡ record { wired = claimedIn w c r; messages = [] }
   unfolding readCall
   read-silent c r = flushed-quiet (claimedIn w c r) (quiet-claimedIn w q c r)
 
-  pub genmsi-silent : (c : Bool) (r : Word) → isGenmsi r ≡ true → (v : ℕ)
+  pub genmsi-silent : (c : Bool) (r : Word) → r ≡ Genmsi → (v : ℕ)
       → flushed (writtenIn w c r v) ≡ record { wired = writtenIn w c r v; messages = [] }
   genmsi-silent c r e v =
       flushed-quiet (writtenIn w c r v)
-      (subst (λ (x : Word). WiredQuiet (writtenIn w c x v)) (sym (genmsi-only r e))
-      (quiet-writtenIn-genmsi w q s c v))
+      (subst (λ (x : Word). WiredQuiet (writtenIn w c x v)) (sym e) (quiet-writtenIn-genmsi w q s c v))

@@ -7,7 +7,6 @@ use mathlib.Core.List.{List, [], _∷_, _++_, append-nil}
 use mathlib.Core.Logic.{_≢_, inl, inr}
 use native.Mathlib.Omega.{arith}
 use lib.ListN.{length}
-use Rattle.words.proofs.TestsLaws.{tested}
 use Rattle.domain.specs.Domain.{Domain}
 use Rattle.wired.specs.Wired.{Wired, domainIn, writtenIn}
 use Rattle.wires.proofs.WiresLaws.{wired-path}
@@ -15,7 +14,12 @@ use Rattle.sending.specs.Sending.{Sent, sent, sentNothing, logged}
 use Rattle.sending.proofs.SendingLaws.{logged-none}
 use Rattle.genmsi.specs.Genmsi.{generatedSent}
 use Rattle.region.specs.declared.Word.{Word}
-use Rattle.controller.specs.Controller.{Out, flushed, OneSends, Leaves, isGenmsi, generatedBy}
+use Rattle.region.specs.declared.Word.the-variants.{Genmsi}
+use Rattle.region.specs.declared.role.Role.{Role}
+use Rattle.region.specs.declared.role.Role.the-variants.{Claims, Configures, Generates, Plain}
+use Rattle.region.specs.Role.{roleOf}
+use Rattle.region.proofs.RoleLaws.{generates-only}
+use Rattle.controller.specs.Controller.{Out, flushed, OneSends, Leaves, generatedAs, generatedBy}
 use Rattle.controller.specs.Controller.{writeCall}
 
 -- what a call leaves and answers, from what it is to send
@@ -70,24 +74,42 @@ module _ (w : Wired) where
 -- ---- the message of a genmsi
 
 module _ (c : Bool) (d : Domain) (r : Word) (v : ℕ) where
-  abbrev Generates : List ℕ → List ℕ → ℕ → Type 0
-  Generates l l′ n = (l′ ≡ logged l (generatedBy c d r v)) × (n ≡ length (generatedBy c d r v))
+  abbrev Logs : List ℕ → List ℕ → ℕ → Type 0
+  Logs l l′ n = (l′ ≡ logged l (generatedBy c d r v)) × (n ≡ length (generatedBy c d r v))
 
-  generated-else : isGenmsi r ≡ false → generatedBy c d r v ≡ []
-  unfolding generatedBy
-  generated-else e = simp e
+  generated-genmsi : roleOf r ≡ Generates → generatedBy c d r v ≡ generatedSent c d v
+  unfolding generatedBy generatedAs
+  generated-genmsi e = ap (generatedAs c d v) e
 
-  generated-genmsi : isGenmsi r ≡ true → generatedBy c d r v ≡ generatedSent c d v
-  unfolding generatedBy
-  generated-genmsi e = simp e
+  pub generated-else : roleOf r ≢ Generates → generatedBy c d r v ≡ []
+  unfolding generatedBy generatedAs
+  generated-else n = at (roleOf r) n
+    where
+      at : (x : Role) → x ≢ Generates → generatedAs c d v x ≡ []
+      at (Claims h) n = refl
+      at (Configures i) n = refl
+      at Generates n = absurd (n refl)
+      at Plain n = refl
 
-  pub answered-else : isGenmsi r ≡ false → (l : List ℕ) → Generates l l 0
+  -- either case, with what tells it
+  pub generated-cases : (P : List ℕ → Type 0) → (roleOf r ≡ Generates → P (generatedSent c d v))
+      → P [] → P (generatedBy c d r v)
+  unfolding generatedBy generatedAs
+  generated-cases P sends none = at (roleOf r) refl
+    where
+      at : (x : Role) → roleOf r ≡ x → P (generatedAs c d v x)
+      at (Claims h) e = none
+      at (Configures i) e = none
+      at Generates e = sends e
+      at Plain e = none
+
+  pub answered-else : roleOf r ≢ Generates → (l : List ℕ) → Logs l l 0
   answered-else e l =
       let none = generated-else e in (sym (logged-none l) ∙ ap (logged l) (sym none), ap length (sym none))
 
-  pub answered-genmsi : isGenmsi r ≡ true → (b : Bool) → c ≡ b → (e : Domain) → e ≡ d
+  pub answered-genmsi : roleOf r ≡ Generates → (b : Bool) → c ≡ b → (e : Domain) → e ≡ d
       → (l l′ : List ℕ) (n : ℕ)
-      → (l′ ≡ logged l (generatedSent b e v)) × (n ≡ length (generatedSent b e v)) → Generates l l′ n
+      → (l′ ≡ logged l (generatedSent b e v)) × (n ≡ length (generatedSent b e v)) → Logs l l′ n
   answered-genmsi g b p e q l l′ n (x, y) =
       let same : generatedSent b e v ≡ generatedBy c d r v =
       ap₂ (λ (x : Bool) (y : Domain). generatedSent x y v) (sym p) q ∙ sym (generated-genmsi g) in
@@ -126,7 +148,7 @@ module _ (w : Wired) (c : Bool) (r : Word) (v : ℕ) where
       (a, b ∙ ap (λ (u : List ℕ). logged u after) same ∙ ap (logged l) (sym alone), d ∙ ap length (sym alone))
 
   -- what was sent at once was sent by genmsi
-  pub own-genmsi : (n : ℕ) → n ≡ length own → n ≢ 0 → isGenmsi r ≡ true
+  pub own-genmsi : (n : ℕ) → n ≡ length own → n ≢ 0 → r ≡ Genmsi
   own-genmsi n e h =
-      tested (isGenmsi r) (λ t. t)
-      (λ f. absurd (h (e ∙ ap length (generated-else c (domainIn w c) r v f))))
+      generated-cases c (domainIn w c) r v (λ (l : List ℕ). n ≡ length l → r ≡ Genmsi)
+      (λ t _. generates-only r t) (λ z. absurd (h z)) e

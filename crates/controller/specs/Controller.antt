@@ -2,8 +2,9 @@
 -- standard 4.5.15, 4.9. Assumes nothing.
 --   Out                  the controller after a call, and the messages sent, in order
 --   flushed w            each domain sends what is to be sent, the machine domain first
---   isGenmsi r           r is genmsi
---   generatedBy c d r v  what a write of v to register r of d sends at once: genmsi's message, else nothing
+--   generatedAs c d v x  what a write of v to a register of d whose role is x sends at once: genmsi's
+--                        message, else nothing
+--   generatedBy c d r v  what a write of v to register r of d sends at once
 --   wireCall w i level   wire i is set, and what is then to be sent is sent
 --   readCall w c r       register r of a domain is read; only a claimi changes anything
 --   writeCall w c r v    v is written to register r of a domain
@@ -13,15 +14,14 @@
 -- c says that the domain is the child.
 use Prim.Native.Nat.{ℕ}
 use mathlib.Core.Path.{_≡_}
-use mathlib.Core.Bool.{Bool, true, false, cond}
+use mathlib.Core.Bool.{Bool, true, false}
 use mathlib.Core.List.{List, [], _++_}
 use mathlib.Core.Logic.{_⊎_}
 use lib.ListN.{length}
 use Rattle.region.specs.declared.Word.{Word}
-use Rattle.region.specs.declared.Word.the-variants.{Domaincfg, Sourcecfg, Setip, Setipnum, InClrip, Clripnum}
-use Rattle.region.specs.declared.Word.the-variants.{Setie, Setienum, Clrie, Clrienum, SetipnumLe, SetipnumBe}
-use Rattle.region.specs.declared.Word.the-variants.{Genmsi, Target, Idelivery, Iforce, Ithreshold, Topi}
-use Rattle.region.specs.declared.Word.the-variants.{Claimi, Unused}
+use Rattle.region.specs.declared.role.Role.{Role}
+use Rattle.region.specs.declared.role.Role.the-variants.{Claims, Configures, Generates, Plain}
+use Rattle.region.specs.Role.{roleOf}
 use Rattle.domain.specs.Domain.{Domain}
 use Rattle.wired.specs.Wired.{Wired, domainIn, claimedIn, writtenIn, wireSet}
 use Rattle.sending.specs.Sending.{sent, sentNothing, logged}
@@ -40,30 +40,14 @@ flushed w =
       messages = first .messages ++ second .messages;
     }
 
-unfoldable pub isGenmsi : Word → Bool
-isGenmsi Domaincfg = false
-isGenmsi (Sourcecfg i) = false
-isGenmsi (Setip k) = false
-isGenmsi Setipnum = false
-isGenmsi (InClrip k) = false
-isGenmsi Clripnum = false
-isGenmsi (Setie k) = false
-isGenmsi Setienum = false
-isGenmsi (Clrie k) = false
-isGenmsi Clrienum = false
-isGenmsi SetipnumLe = false
-isGenmsi SetipnumBe = false
-isGenmsi Genmsi = true
-isGenmsi (Target i) = false
-isGenmsi (Idelivery h) = false
-isGenmsi (Iforce h) = false
-isGenmsi (Ithreshold h) = false
-isGenmsi (Topi h) = false
-isGenmsi (Claimi h) = false
-isGenmsi Unused = false
+unfoldable pub generatedAs : Bool → Domain → ℕ → Role → List ℕ
+generatedAs c d v (Claims h) = []
+generatedAs c d v (Configures i) = []
+generatedAs c d v Generates = generatedSent c d v
+generatedAs c d v Plain = []
 
 unfoldable pub generatedBy : Bool → Domain → Word → ℕ → List ℕ
-generatedBy c d r v = cond (isGenmsi r) (generatedSent c d v) []
+generatedBy c d r v = generatedAs c d v (roleOf r)
 
 unfoldable pub wireCall : Wired → ℕ → Bool → Out
 wireCall w i level = flushed (wireSet w i level)

@@ -7,11 +7,13 @@ ghost use Rattle.region.specs.Region.{Within};
 ghost use Rattle.wired.specs.Wired.{wiredOf, domainIn, readIn};
 ghost use Rattle.rules.specs.Rules.{wiredSound};
 ghost use Rattle.sending.specs.Sending.{logged};
-ghost use Rattle.controller.specs.Controller.{isGenmsi, generatedBy, wireCall, readCall, writeCall};
+ghost use Rattle.controller.specs.Controller.{generatedBy, wireCall, readCall, writeCall};
 ghost use Rattle.controller.specs.Controller.{Leaves};
 use super::pass::flush;
 use genmsi::send_generated;
+use region::Role;
 use region::Word;
+use region::role_of;
 
 // Answers the number of messages.
 pub fn set_wire(w: &mut [u32], log: &mut [u32], i: usize, level: bool) -> usize
@@ -33,33 +35,6 @@ pub fn read(w: &mut [u32], child: bool, word: Word) -> u32
     wired::read(w, child, word)
 }
 
-fn is_genmsi(word: Word) -> bool
-    ensures { λ r. ⌜ r ≡ isGenmsi word ⌝ }
-{
-    match word {
-        Word::Domaincfg => false,
-        Word::Sourcecfg(_) => false,
-        Word::Setip(_) => false,
-        Word::Setipnum => false,
-        Word::InClrip(_) => false,
-        Word::Clripnum => false,
-        Word::Setie(_) => false,
-        Word::Setienum => false,
-        Word::Clrie(_) => false,
-        Word::Clrienum => false,
-        Word::SetipnumLe => false,
-        Word::SetipnumBe => false,
-        Word::Genmsi => true,
-        Word::Target(_) => false,
-        Word::Idelivery(_) => false,
-        Word::Iforce(_) => false,
-        Word::Ithreshold(_) => false,
-        Word::Topi(_) => false,
-        Word::Claimi(_) => false,
-        Word::Unused => false,
-    }
-}
-
 // The message of a write to genmsi, which is sent at once.
 fn generate(w: &[u32], log: &mut [u32], child: bool, word: Word, value: u32) -> usize
     requires { ⌜ (length (now w) ≡ 290) × (length (now log) ≡ 63) ⌝ }
@@ -68,9 +43,9 @@ fn generate(w: &[u32], log: &mut [u32], child: bool, word: Word, value: u32) -> 
         (generatedBy child (domainIn (wiredOf (now (w .entry))) child) word value))
         × (r ≡ length (generatedBy child (domainIn (wiredOf (now (w .entry))) child) word value)) ⌝ }
 {
-    if !is_genmsi(word) {
+    let Role::Generates = role_of(word) else {
         return 0;
-    }
+    };
     if child {
         return send_generated(&w[146..290], true, value, log);
     }

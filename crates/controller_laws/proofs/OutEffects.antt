@@ -3,7 +3,7 @@
 use Prim.Native.Nat.{ℕ, _≤_, _<_}
 use mathlib.Core.Path.{_≡_}
 use mathlib.Core.Bool.{Bool, true, false}
-use mathlib.Core.List.{[], append-nil}
+use mathlib.Core.List.{List, _++_, append-nil}
 use mathlib.Core.Logic.{inl, inr}
 use native.Mathlib.Omega.{arith}
 use lib.ListN.{length}
@@ -11,6 +11,7 @@ use Rattle.words.proofs.TestsLaws.{tested}
 use Rattle.target.specs.Target.{fileIn, generatedOf}
 use Rattle.region.specs.Region.{Within}
 use Rattle.region.specs.declared.Word.{Word}
+use Rattle.region.proofs.RoleLaws.{generates-only}
 use Rattle.domain.specs.Domain.{Domain, byMessages}
 use Rattle.wired.specs.Wired.{Wired, domainIn, wireSet, writtenIn, claimedIn}
 use Rattle.rules.specs.Rules.{wiredSound}
@@ -18,12 +19,14 @@ use Rattle.sending.specs.Sending.{sent}
 use Rattle.sending_laws.proofs.MessageEffects.{Every, every-none, every-one, every-append, sent-named}
 use Rattle.sending_laws.proofs.MessageEffects.{generated-names}
 use Rattle.sending_laws.proofs.SendingEffects.{sent-count}
+use Rattle.genmsi.specs.Genmsi.{generatedSent}
 use Rattle.genmsi.proofs.GenmsiLaws.{generated-on, generated-off}
 use Rattle.rules_laws.specs.Steady.{WiredSteady, WiredQuiet}
 use Rattle.rules_laws.proofs.WiredEffects.{steady-wireSet, steady-claimedIn, sound-passed}
 use Rattle.rules_laws.proofs.DelegationEffects.{steady-writtenIn}
-use Rattle.controller.specs.Controller.{flushed, isGenmsi, generatedBy, wireCall, readCall, writeCall}
+use Rattle.controller.specs.Controller.{flushed, generatedBy, wireCall, readCall, writeCall}
 use Rattle.controller.specs.Controller.{OneSends}
+use Rattle.controller.proofs.ControllerLaws.{generated-cases}
 use Rattle.controller.proofs.CallLaws.{one-wireSet, one-writtenIn, genmsi-silent}
 
 abbrev pub Exists : ℕ → Type 0
@@ -38,13 +41,12 @@ flushed-exists w =
     (λ k h. sent-named false (w .root) k h .exists) (λ k h. sent-named true (w .child) k h .exists)
 
 pub generatedBy-exists : (c : Bool) (d : Domain) (r : Word) (v : ℕ) → Every Exists (generatedBy c d r v)
-unfolding generatedBy
 generatedBy-exists c d r v =
-    tested (isGenmsi r)
-    (λ t. rw t (tested (byMessages d)
+    generated-cases c d r v (Every Exists)
+    (λ _. tested (byMessages d)
     (λ m. rw (generated-on c d v m) (every-one Exists (generatedOf c v) (generated-names c v .exists)))
-    (λ n. rw (generated-off c d v n) (every-none Exists))))
-    (λ f. rw f (every-none Exists))
+    (λ n. rw (generated-off c d v n) (every-none Exists)))
+    (every-none Exists)
 
 pub wire-exists : (w : Wired) (i : ℕ) (level : Bool) → Every Exists (wireCall w i level .messages)
 unfolding wireCall
@@ -64,17 +66,10 @@ flushed-count w (inl e) = rw e (sent-count true (w .child))
 flushed-count w (inr e) =
     rw (e, append-nil (sent false (w .root) .messages)) (sent-count false (w .root))
 
-pub generatedBy-count : (c : Bool) (d : Domain) (r : Word) (v : ℕ) → length (generatedBy c d r v) ≤ 1
-unfolding generatedBy
-generatedBy-count c d r v =
-    tested (isGenmsi r)
-    (λ t. rw t (tested (byMessages d) (λ m. rw (generated-on c d v m) (omega arith))
-    (λ n. rw (generated-off c d v n) (omega arith))))
-    (λ f. rw f (omega arith))
-
-generatedBy-else : (c : Bool) (d : Domain) (r : Word) (v : ℕ) → isGenmsi r ≡ false → generatedBy c d r v ≡ []
-unfolding generatedBy
-generatedBy-else c d r v f = rw f
+generatedSent-count : (c : Bool) (d : Domain) (v : ℕ) → length (generatedSent c d v) ≤ 1
+generatedSent-count c d v =
+    tested (byMessages d) (λ m. rw (generated-on c d v m) (omega arith))
+    (λ n. rw (generated-off c d v n) (omega arith))
 
 module _ (w : Wired) (s : WiredSteady w) (q : WiredQuiet w) where
   pub wire-count : (i : ℕ) → 1 ≤ i → i < 64 → (level : Bool) → length (wireCall w i level .messages) ≤ 63
@@ -84,12 +79,12 @@ module _ (w : Wired) (s : WiredSteady w) (q : WiredQuiet w) where
   pub write-count : (c : Bool) (r : Word) → Within r → (v : ℕ) → length (writeCall w c r v .messages) ≤ 63
   unfolding writeCall
   write-count c r b v =
-      let own = generatedBy c (domainIn w c) r v in
-      tested (isGenmsi r)
-      (λ t. rw (genmsi-silent w s q c r t v, append-nil own)
-      (omega (arith, generatedBy-count c (domainIn w c) r v)))
-      (λ f. rw (generatedBy-else c (domainIn w c) r v f)
-      (flushed-count (writtenIn w c r v) (one-writtenIn w s q c r b v)))
+      let after = writtenIn w c r v in
+      let d = domainIn w c in
+      generated-cases c d r v (λ (ms : List ℕ). length (ms ++ flushed after .messages) ≤ 63)
+      (λ t. rw (genmsi-silent w s q c r (generates-only r t) v, append-nil (generatedSent c d v))
+      (omega (arith, generatedSent-count c d v)))
+      (flushed-count after (one-writtenIn w s q c r b v))
 
 -- ---- the rules hold again
 

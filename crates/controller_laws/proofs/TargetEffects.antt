@@ -13,16 +13,15 @@ use Rattle.domain_laws.specs.Shape.{Shaped}
 use Rattle.writes.specs.Writes.{targetWritten}
 use Rattle.writes_laws.proofs.WritesEffects.{sourceAt-targetWritten-same, sourceAt-targetWritten-other}
 use Rattle.registers.specs.Write.{registerWritten}
-use Rattle.wired.specs.Wired.{Wired, domainIn, withDomain, sourceOf, writtenIn}
-use Rattle.wired.proofs.WiredLaws.{written-part}
+use Rattle.wired.specs.Wired.{Wired, domainIn, withDomain, writtenAs, writtenIn}
 use Rattle.rules_laws.specs.Steady.{WiredSteady, WiredQuiet}
 use Rattle.rules_laws.proofs.WiredQuietEffects.{quiet-target, other-withDomain}
-use Rattle.controller.specs.Controller.{isGenmsi, generatedBy, writeCall}
+use Rattle.controller.specs.Controller.{generatedAs, generatedBy, writeCall}
 use Rattle.controller.proofs.CallLaws.{flushed-quiet}
 
 pub target-call : (w : Wired) → WiredSteady w → WiredQuiet w → (c : Bool) (i : ℕ) → 1 ≤ i → i < 64 → (v : ℕ)
     → writeCall w c (Target i) v ≡ record { wired = writtenIn w c (Target i) v; messages = [] }
-unfolding writeCall generatedBy isGenmsi
+unfolding writeCall generatedBy generatedAs
 target-call w s q c i l h v = rw (flushed-quiet (writtenIn w c (Target i) v) (quiet-target w q s c i l h v))
 
 -- ---- what it leaves
@@ -42,8 +41,8 @@ module _ (w : Wired) (c : Bool) (i v : ℕ) where
   target-after = targetWritten c (domainIn w c) i v
 
   target-part : writtenIn w c (Target i) v ≡ withDomain w c target-after
-  unfolding sourceOf registerWritten
-  target-part = written-part w c (Target i) v refl
+  unfolding writtenIn writtenAs registerWritten
+  target-part = refl
 
   target-domain : domainIn (writtenIn w c (Target i) v) c ≡ target-after
   target-domain = ap (λ (x : Wired). domainIn x c) target-part ∙ own-withDomain w c target-after

@@ -1,2 +1,3 @@
--- The laws of a region's definitions. Assumes nothing.
+-- The laws of the registers by address, and of their roles. Assumes nothing.
 pub mod RegionLaws
+pub mod RoleLaws

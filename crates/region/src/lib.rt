@@ -3,6 +3,11 @@ ghost use mathlib.Core.Path.{_≡_};
 ghost use Prim.Native.Nat.{_+_, _*_, _%_, _≤_, _<_};
 ghost use Rattle.region.specs.Region.{addressLegal, wordAt};
 
+mod role;
+
+pub use role::Role;
+pub use role::role_of;
+
 pub enum Word {
     Domaincfg,
     // of the source 1 to 63

@@ -4,40 +4,14 @@ ghost use Prim.Native.Nat.{_<_};
 ghost use lib.ListN.{length};
 ghost use Rattle.region.specs.Region.{Within};
 ghost use Rattle.domain.specs.Domain.{domainOf, configOf};
-ghost use Rattle.registers.specs.Read.{valueOf, claimHart, claimedBy};
+ghost use Rattle.registers.specs.Read.{valueOf, claimedBy};
 ghost use Rattle.registers.specs.Write.{registerWritten};
 use direct::Setting;
+use region::Role;
 use region::Word;
+use region::role_of;
 use source::Change;
 use values::value_of;
-
-// The hart whose claimi the register is, or 4.
-fn claim_hart(word: Word) -> u64
-    ensures { λ r. ⌜ r ≡ claimHart word ⌝ }
-{
-    match word {
-        Word::Domaincfg => 4,
-        Word::Sourcecfg(_) => 4,
-        Word::Setip(_) => 4,
-        Word::Setipnum => 4,
-        Word::InClrip(_) => 4,
-        Word::Clripnum => 4,
-        Word::Setie(_) => 4,
-        Word::Setienum => 4,
-        Word::Clrie(_) => 4,
-        Word::Clrienum => 4,
-        Word::SetipnumLe => 4,
-        Word::SetipnumBe => 4,
-        Word::Genmsi => 4,
-        Word::Target(_) => 4,
-        Word::Idelivery(_) => 4,
-        Word::Iforce(_) => 4,
-        Word::Ithreshold(_) => 4,
-        Word::Topi(_) => 4,
-        Word::Claimi(h) => h,
-        Word::Unused => 4,
-    }
-}
 
 // A read, with what it does.
 pub fn read(part: &mut [u32], wires: [u32; 2], word: Word) -> u32
@@ -45,11 +19,10 @@ pub fn read(part: &mut [u32], wires: [u32; 2], word: Word) -> u32
     ensures { λ r. ⌜ (r ≡ valueOf (domainOf (now (part .entry))) wires word)
         × (domainOf (now (part .exit)) ≡ claimedBy (domainOf (now (part .entry))) word) ⌝ }
 {
-    let h = claim_hart(word);
-    if h < 4 {
-        return direct::claim(part, h as usize);
+    match role_of(word) {
+        Role::Claims(h) => direct::claim(part, h as usize),
+        _ => value_of(part, wires, word),
     }
-    value_of(part, wires, word)
 }
 
 pub fn write(part: &mut [u32], child: bool, wires: [u32; 2], word: Word, value: u32)

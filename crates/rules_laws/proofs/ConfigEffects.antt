@@ -142,4 +142,4 @@ kept-settingWritten c ws d s h l g v =
     let sound = sound-writtenAt (structureAt d h) (s .structures h l) g v in
     tested (byMessages d) (λ t. rw (written-messages d h g v t) (kept-none c ws d s))
     (λ f. rw (written-direct d h g v f)
-    (kept-withStructure c ws d s h (writtenAt (structureAt d h) g v) l sound))
+    (kept-withStructure c ws d s h (writtenAt (structureAt d h) g v) (λ _. sound)))

@@ -5,7 +5,6 @@ use mathlib.Core.Path.{_≡_, refl, sym, ap, _∙_}
 use mathlib.Core.Bool.{Bool, true, false, Bool·beq}
 use mathlib.Core.Logic.{_≢_}
 use native.Mathlib.Decide.{ℕ-discrete}
-use native.Mathlib.Omega.{arith}
 use lib.Dec.{leb}
 use Rattle.words.specs.Sets.{member}
 use Rattle.words.proofs.TestsLaws.{tested, beq-true}
@@ -19,9 +18,9 @@ use Rattle.domain.specs.Domain.{Domain}
 use Rattle.domain.specs.Slot.{sourceAt, withSource}
 use Rattle.domain_laws.proofs.SlotEffects.{sourceAt-withSource-same, sourceAt-withSource-other}
 use Rattle.wired.specs.Wired.{Wired, isDelegated, sourceModed, childWritten, rootWritten, sourceWritten}
-use Rattle.wired.specs.Wired.{sourceOf, writtenIn}
+use Rattle.wired.specs.Wired.{writtenIn}
 use Rattle.wires.proofs.DelegationLaws.{root-stays, root-moves, written-child, written-root}
-use Rattle.wired.proofs.WiredLaws.{source-below, written-part, written-source}
+use Rattle.wired.proofs.WiredLaws.{written-cases}
 use Rattle.rules.specs.Rules.{delegatedRule}
 use Rattle.rules_laws.specs.Steady.{Steady, WiredSteady}
 use Rattle.rules_laws.proofs.SourceEffects.{steady-sourceModed-word, steady-started}
@@ -144,10 +143,6 @@ module _ (w : Wired) (s : WiredSteady w) (i : ℕ) (l : 1 ≤ i) (h : i < 64) (v
 
 pub steady-writtenIn : (w : Wired) → WiredSteady w → (c : Bool) (r : Word) → Within r → (v : ℕ)
     → WiredSteady (writtenIn w c r v)
-steady-writtenIn w s c r q v = at (ℕ-discrete (sourceOf r) 0)
-  where
-    at : Dec (sourceOf r ≡ 0) → WiredSteady (writtenIn w c r v)
-    at (yes z) = rw (written-part w c r v z) (steady-partWritten w s c r q v)
-    at (no n) =
-        rw (written-source w c r v n)
-        (steady-sourceWritten w s (sourceOf r) (omega (arith, n)) (source-below r q) v c)
+steady-writtenIn w s c r q v =
+    written-cases w c r v WiredSteady q (steady-partWritten w s c r q v)
+    (λ i l h. steady-sourceWritten w s i l h v c)

@@ -6,8 +6,6 @@ use mathlib.Core.Bool.{Bool, false}
 use mathlib.Core.List.{List}
 use native.Mathlib.Decide.{ℕ-discrete}
 use native.Mathlib.Omega.{arith}
-use lib.Dec.{ltb}
-use borrow.Author.Tests.{ltb-true, ltb-false}
 use Rattle.words.specs.Sets.{member}
 use Rattle.words.proofs.TestsLaws.{tested}
 use Rattle.region.specs.declared.Word.{Word}
@@ -21,8 +19,8 @@ use Rattle.domain_laws.proofs.OwnEffects.{byMessages-withSource, byMessages-wit
 use Rattle.direct.specs.Direct.{topSource, unforced, released, claimed}
 use Rattle.top.proofs.TopLaws.{topSource-lt}
 use Rattle.direct.proofs.DirectLaws as direct
-use Rattle.registers.specs.Read.{claimHart, claimedBy}
-use Rattle.registers.proofs.ReadLaws.{claimed-by, claimed-none}
+use Rattle.registers.specs.Read.{claimedBy}
+use Rattle.registers.proofs.ReadLaws.{claimed-cases}
 use Rattle.source_laws.proofs.SteadyEffects.{steady-cleared}
 use Rattle.rules.specs.Rules.{structureRange}
 use Rattle.rules_laws.specs.Steady.{Steady, Kept, Quiet}
@@ -32,12 +30,12 @@ use Rattle.rules_laws.proofs.QuietEffects.{quiet-direct}
 
 module _ (c : Bool) (ws : List ℕ) (d : Domain) (s : Steady c ws d) where
   -- a claim in direct mode: iforce cleared, or a source released
-  module _ (h : ℕ) (l : h < 4) (m : byMessages d ≡ false) where
+  module _ (h : ℕ) (m : byMessages d ≡ false) where
     kept-unforced : Kept c ws d (unforced d h)
     unfolding unforced structureRange
     kept-unforced =
-        kept-withStructure c ws d s h (withoutForce (structureAt d h)) l
-        (force-keeps (structureAt d h) (s .structures h l))
+        kept-withStructure c ws d s h (withoutForce (structureAt d h))
+        (λ l. force-keeps (structureAt d h) (s .structures h l))
 
     kept-released : (i : ℕ) → 1 ≤ i → i < 64 → Kept c ws d (released d i)
     unfolding released
@@ -56,15 +54,12 @@ module _ (c : Bool) (ws : List ℕ) (d : Domain) (s : Steady c ws d) where
             rw (direct.claimed-some d h m n)
             (kept-released (topSource d h) (omega (arith, n)) (topSource-lt d h))
 
-  pub kept-claimed : (h : ℕ) → h < 4 → Kept c ws d (claimed d h)
-  kept-claimed h l =
-      tested (byMessages d) (λ t. rw (direct.claimed-messages d h t) (kept-none c ws d s)) (kept-direct h l)
+  pub kept-claimed : (h : ℕ) → Kept c ws d (claimed d h)
+  kept-claimed h =
+      tested (byMessages d) (λ t. rw (direct.claimed-messages d h t) (kept-none c ws d s)) (kept-direct h)
 
   pub kept-claimedBy : (r : Word) → Kept c ws d (claimedBy d r)
-  kept-claimedBy r =
-      tested (ltb (claimHart r) 4)
-      (λ t. let l = ltb-true (claimHart r) 4 t in rw (claimed-by d r l) (kept-claimed (claimHart r) l))
-      (λ f. rw (claimed-none d r (ltb-false (claimHart r) 4 f)) (kept-none c ws d s))
+  kept-claimedBy r = claimed-cases d r (Kept c ws d) (kept-none c ws d s) kept-claimed
 
 -- ---- nothing new to send: only a claim in direct mode changes anything, and such a domain sends nothing
 
@@ -92,7 +87,4 @@ module _ (d : Domain) (q : Quiet d) where
       (λ f. quiet-direct (claimed d h) (claimed-direct d h f))
 
   pub quiet-claimedBy : (r : Word) → Quiet (claimedBy d r)
-  quiet-claimedBy r =
-      tested (ltb (claimHart r) 4)
-      (λ t. rw (claimed-by d r (ltb-true (claimHart r) 4 t)) (quiet-claimed (claimHart r)))
-      (λ f. rw (claimed-none d r (ltb-false (claimHart r) 4 f)) q)
+  quiet-claimedBy r = claimed-cases d r Quiet q quiet-claimed

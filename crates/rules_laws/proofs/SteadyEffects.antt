@@ -6,6 +6,7 @@ use mathlib.Core.Bool.{Bool, true, cond, _||_}
 use mathlib.Core.List.{List}
 use mathlib.Core.Logic.{_≢_}
 use native.Mathlib.Decide.{ℕ-discrete}
+use native.Mathlib.Omega.{arith}
 use lib.Dec.{eqb}
 use borrow.Author.Tests.{eq-eqb, ne-eqb, eqb-true}
 use Rattle.words.specs.Bits.{hasBit}
@@ -121,15 +122,16 @@ module _ (c : Bool) (ws : List ℕ) (d : Domain) (s : Steady c ws d) (i : ℕ) (
 -- ---- a delivery structure replaced
 
 module _ (c : Bool) (ws : List ℕ) (d : Domain) (s : Steady c ws d) (h : ℕ) (x : Delivery) where
-  structure-at : h < 4 → deliverySound x ≡ true → (g : ℕ) → g < 4 → Dec (g ≡ h)
+  structure-at : (h < 4 → deliverySound x ≡ true) → (g : ℕ) → g < 4 → Dec (g ≡ h)
       → structureRange (withStructure d h x) g ≡ true
   unfolding structureRange
-  structure-at l e g q (yes y) = rw (y, structureAt-withStructure-same d h x (s .shaped) l) e
-  structure-at l e g q (no n) = rw (structureAt-withStructure-other d h x g n) (s .structures g q)
+  structure-at e g q (yes y) =
+      let l : h < 4 = omega arith in rw (y, structureAt-withStructure-same d h x (s .shaped) l) (e l)
+  structure-at e g q (no n) = rw (structureAt-withStructure-other d h x g n) (s .structures g q)
 
-  pub kept-withStructure : h < 4 → deliverySound x ≡ true → Kept c ws d (withStructure d h x)
+  pub kept-withStructure : (h < 4 → deliverySound x ≡ true) → Kept c ws d (withStructure d h x)
   unfolding configRange generatedRange generatedRule
-  kept-withStructure l e =
+  kept-withStructure e =
       let config = own.configOf-withStructure d h x in
       let generated = own.generatedAt-withStructure d h x in
       let mode = own.byMessages-withStructure d h x in
@@ -140,7 +142,7 @@ module _ (c : Bool) (ws : List ℕ) (d : Domain) (s : Steady c ws d) (h : ℕ) (
               config = rw config (s .config);
               generated-range = rw generated (s .generated-range);
               generated = rw (mode, generated) (s .generated);
-              structures = λ g q. structure-at l e g q (ℕ-discrete g h);
+              structures = λ g q. structure-at e g q (ℕ-discrete g h);
               pending-zero = unfold withStructure in s .pending-zero;
               enable-zero = unfold withStructure in s .enable-zero;
               source = λ i a b. rw (mode, sourceAt-withStructure d h x i) (s .source i a b);

@@ -2,11 +2,9 @@
 -- write leaves the other domain with all sent, and a read or a write to genmsi or a target leaves both so. No
 -- contract cites this file. Assumes nothing.
 use Prim.Native.Nat.{ℕ, _≤_, _<_}
-use mathlib.Core.Path.{_≡_, refl, sym, subst}
+use mathlib.Core.Path.{_≡_, refl}
 use mathlib.Core.Bool.{Bool, true, false, Bool·beq, not}
 use mathlib.Core.Logic.{_⊎_, inl, inr, ⊎-elim}
-use native.Mathlib.Decide.{ℕ-discrete}
-use native.Mathlib.Omega.{arith}
 use lib.Dec.{eqb, leb}
 use borrow.Author.Tests.{eqb-true, leb-true}
 use Rattle.words.specs.Sets.{member}
@@ -24,9 +22,9 @@ use Rattle.writes.specs.Writes.{targetWritten}
 use Rattle.registers.specs.Read.{claimedBy}
 use Rattle.registers.specs.Write.{registerWritten}
 use Rattle.wired.specs.Wired.{Wired, domainIn, withDomain, claimedIn, partWritten, wireSet, isDelegated}
-use Rattle.wired.specs.Wired.{childWritten, rootWritten, sourceWritten, sourceOf, writtenIn}
+use Rattle.wired.specs.Wired.{childWritten, rootWritten, sourceWritten, writtenAs, writtenIn}
 use Rattle.wires.proofs.DelegationLaws.{root-stays, root-moves}
-use Rattle.wired.proofs.WiredLaws.{source-below, written-part, written-source}
+use Rattle.wired.proofs.WiredLaws.{written-cases}
 use Rattle.rules.specs.Rules.{delegatedRule}
 use Rattle.rules_laws.specs.Steady.{sends, Quiet, WiredSteady, WiredQuiet}
 use Rattle.rules_laws.proofs.QuietEffects.{quiet-started, quiet-withSource}
@@ -88,20 +86,19 @@ module _ (w : Wired) (q : WiredQuiet w) where
         (quiet-generatedWritten c (w .wires) (domainIn w c) (steady-domainIn w s c) v (quiet-domainIn c))
 
     pub quiet-writtenIn-genmsi : (c : Bool) (v : ℕ) → WiredQuiet (writtenIn w c Genmsi v)
-    unfolding sourceOf
-    quiet-writtenIn-genmsi c v = subst WiredQuiet (sym (written-part w c Genmsi v refl)) (quiet-genmsi c v)
+    unfolding writtenIn writtenAs
+    quiet-writtenIn-genmsi c v = quiet-genmsi c v
 
     -- a target: what is pending and enabled stays
     pub quiet-target : (c : Bool) (i : ℕ) → 1 ≤ i → i < 64 → (v : ℕ) → WiredQuiet (writtenIn w c (Target i) v)
-    unfolding sourceOf registerWritten targetWritten
+    unfolding writtenIn writtenAs registerWritten targetWritten
     quiet-target c i l h v =
         let d = domainIn w c in
         let q′ = quiet-domainIn c in
         let x = retargeted (sourceAt d i) c (byMessages d) v in
         let e = sent-retargeted (sends d) (sourceAt d i) (q′ i l h) c (byMessages d) v in
-        subst WiredQuiet (sym (written-part w c (Target i) v refl))
-        (quiet-withDomain c (targetWritten c d i v)
-        (quiet-withSource d q′ i x e (steady-domainIn w s c .shaped) l h))
+        quiet-withDomain c (targetWritten c d i v)
+        (quiet-withSource d q′ i x e (steady-domainIn w s c .shaped) l h)
 
     -- ---- a write: the other domain
 
@@ -119,12 +116,7 @@ module _ (w : Wired) (q : WiredQuiet w) where
 
     pub quiet-other : (c : Bool) (r : Word) → Within r → (v : ℕ)
         → Quiet (domainIn (writtenIn w c r v) (not c))
-    quiet-other c r b v = at (ℕ-discrete (sourceOf r) 0)
-      where
-        at : Dec (sourceOf r ≡ 0) → Quiet (domainIn (writtenIn w c r v) (not c))
-        at (yes z) =
-            let d = registerWritten c (domainIn w c) (w .wires) r v in
-            rw (written-part w c r v z, other-withDomain w c d) (quiet-domainIn (not c))
-        at (no n) =
-            rw (written-source w c r v n)
-            (other-sourceWritten (sourceOf r) (omega (arith, n)) (source-below r b) v c)
+    quiet-other c r b v =
+        written-cases w c r v (λ (x : Wired). Quiet (domainIn x (not c))) b
+        (rw (other-withDomain w c (registerWritten c (domainIn w c) (w .wires) r v)) (quiet-domainIn (not c)))
+        (λ i l h. other-sourceWritten i l h v c)

@@ -29,7 +29,7 @@ use Rattle.domain.specs.Slot.{sourceAt, withSource}
 use Rattle.values.specs.Values.{valueOf}
 use Rattle.writes.specs.Writes.{targetWritten}
 use Rattle.registers.specs.Write.{registerWritten}
-use Rattle.wired.specs.Wired.{sourceWired, wireSet, domainIn, withDomain, sourceOf, writtenIn}
+use Rattle.wired.specs.Wired.{sourceWired, wireSet, domainIn, withDomain, writtenAs, writtenIn}
 use Rattle.sending.specs.Sending.{candidate, servedAt, messagesAt, sentFrom, sent}
 use Rattle.controller.specs.Controller.{flushed}
 use Rattle.transfer_steps.specs.Names.{namesFile, renamed}
@@ -59,7 +59,7 @@ unfoldable pub boardRun : List Call → Acted → Acted
 unfolding stepOn step settled change acted retargetedIn actOf nameRefusal nameTests firstFailed named
     addressed selected isWire isFile isGuestFile isMove isPageAddress namesFile renamed flushed hartIn
     fileIn identityIn candidate servedAt messagesAt sentFrom sent sourceWired wireSet domainIn withDomain
-    sourceOf writtenIn registerWritten targetWritten valueOf sourceAt withSource configOf isEnabled
+    writtenAs writtenIn registerWritten targetWritten valueOf sourceAt withSource configOf isEnabled
     byMessages source.settled source.wireChanged source.retargeted hartOf guestOf numberOf receiverOf
     keptTarget logWord messageOf isActive isLevel isRectified fileNumber isGuest theFile withFile namedBy
     reached allReached held written accessedAt accessed arrived pageWritten deliveryLegal doubleword

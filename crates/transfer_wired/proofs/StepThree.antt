@@ -26,8 +26,7 @@ use Rattle.domain_laws.proofs.SetsBack.{put-back}
 use Rattle.writes.specs.Writes.{targetWritten}
 use Rattle.values.specs.Values.{valueOf}
 use Rattle.registers.specs.Write.{registerWritten}
-use Rattle.wired.specs.Wired.{Wired, domainIn, withDomain, sourceOf, writtenIn}
-use Rattle.wired.proofs.WiredLaws.{written-part}
+use Rattle.wired.specs.Wired.{Wired, domainIn, withDomain, writtenAs, writtenIn}
 use Rattle.rules.specs.Rules.{wiredSound}
 use Rattle.rules_laws.specs.Steady.{WiredSteady, WiredQuiet}
 use Rattle.rules_laws.proofs.DelegationEffects.{steady-writtenIn}
@@ -75,11 +74,9 @@ written-targets d i v =
 
 -- a write to a target of the child
 written-only : (w : Wired) (i v : ℕ) → TargetsOnly (writtenIn w true (Target i) v) w
-unfolding withDomain domainIn sourceOf registerWritten
+unfolding withDomain domainIn writtenIn writtenAs registerWritten
 written-only w i v =
-    let e = written-part w true (Target i) v refl in
-    child-only (writtenIn w true (Target i) v) w (ap (λ (x : Wired). x .wires) e)
-    (ap (λ (x : Wired). x .root) e) _ (ap (λ (x : Wired). x .child) e ∙ written-targets (w .child) i v)
+    child-only (writtenIn w true (Target i) v) w refl refl _ (written-targets (w .child) i v)
 
 -- ---- one access
 

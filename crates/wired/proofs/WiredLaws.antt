@@ -1,19 +1,18 @@
 -- Laws of specs/Wired.antt: one of the two domains, and which of the two writes a write is. No contract cites
 -- this file. Assumes nothing.
-use Prim.Native.Nat.{ℕ, _<_}
-use mathlib.Core.Path.{_≡_}
+use Prim.Native.Nat.{ℕ, _≤_, _<_}
+use mathlib.Core.Path.{_≡_, refl, ap}
 use mathlib.Core.Bool.{Bool, true, false}
 use mathlib.Core.Logic.{_≢_}
 use native.Mathlib.Omega.{arith}
-use borrow.Author.Tests.{eq-eqb, ne-eqb}
 use Rattle.region.specs.Region.{Within}
 use Rattle.region.specs.declared.Word.{Word}
-use Rattle.region.specs.declared.Word.the-variants.{Domaincfg, Sourcecfg, Setip, Setipnum, InClrip, Clripnum}
-use Rattle.region.specs.declared.Word.the-variants.{Setie, Setienum, Clrie, Clrienum, SetipnumLe, SetipnumBe}
-use Rattle.region.specs.declared.Word.the-variants.{Genmsi, Target, Idelivery, Iforce, Ithreshold, Topi}
-use Rattle.region.specs.declared.Word.the-variants.{Claimi, Unused}
+use Rattle.region.specs.declared.role.Role.{Role}
+use Rattle.region.specs.declared.role.Role.the-variants.{Claims, Configures, Generates, Plain}
+use Rattle.region.specs.Role.{roleOf}
+use Rattle.region.proofs.RoleLaws.{configures-range}
 use Rattle.domain.specs.Domain.{Domain}
-use Rattle.wired.specs.Wired.{Wired, domainIn, withDomain, sourceWritten, partWritten, sourceOf}
+use Rattle.wired.specs.Wired.{Wired, domainIn, withDomain, sourceWritten, partWritten, writtenAs}
 use Rattle.wired.specs.Wired.{writtenIn}
 
 module _ (w : Wired) (c : Bool) where
@@ -37,34 +36,29 @@ module _ (w : Wired) (c : Bool) where
 
 -- ---- a write to any register
 
-pub source-below : (r : Word) → Within r → sourceOf r < 64
-unfolding sourceOf
-source-below Domaincfg q = omega arith
-source-below (Sourcecfg i) q = omega arith
-source-below (Setip k) q = omega arith
-source-below Setipnum q = omega arith
-source-below (InClrip k) q = omega arith
-source-below Clripnum q = omega arith
-source-below (Setie k) q = omega arith
-source-below Setienum q = omega arith
-source-below (Clrie k) q = omega arith
-source-below Clrienum q = omega arith
-source-below SetipnumLe q = omega arith
-source-below SetipnumBe q = omega arith
-source-below Genmsi q = omega arith
-source-below (Target i) q = omega arith
-source-below (Idelivery h) q = omega arith
-source-below (Iforce h) q = omega arith
-source-below (Ithreshold h) q = omega arith
-source-below (Topi h) q = omega arith
-source-below (Claimi h) q = omega arith
-source-below Unused q = omega arith
-
 module _ (w : Wired) (c : Bool) (r : Word) (v : ℕ) where
-  pub written-part : sourceOf r ≡ 0 → writtenIn w c r v ≡ partWritten w c r v
-  unfolding writtenIn
-  written-part e = simp (eq-eqb (sourceOf r) 0 e)
+  pub written-source : (i : ℕ) → roleOf r ≡ Configures i → writtenIn w c r v ≡ sourceWritten w c i v
+  unfolding writtenIn writtenAs
+  written-source i e = ap (writtenAs w c r v) e
 
-  pub written-source : sourceOf r ≢ 0 → writtenIn w c r v ≡ sourceWritten w c (sourceOf r) v
-  unfolding writtenIn
-  written-source n = simp (ne-eqb (sourceOf r) 0 n)
+  pub written-part : ((i : ℕ) → roleOf r ≢ Configures i) → writtenIn w c r v ≡ partWritten w c r v
+  unfolding writtenIn writtenAs
+  written-part n = at (roleOf r) n
+    where
+      at : (x : Role) → ((i : ℕ) → x ≢ Configures i) → writtenAs w c r v x ≡ partWritten w c r v
+      at (Claims h) n = refl
+      at (Configures i) n = absurd (n i refl)
+      at Generates n = refl
+      at Plain n = refl
+
+  -- what holds after either write holds after a write
+  pub written-cases : (P : Wired → Type 0) → Within r → P (partWritten w c r v)
+      → ((i : ℕ) → 1 ≤ i → i < 64 → P (sourceWritten w c i v)) → P (writtenIn w c r v)
+  unfolding writtenIn writtenAs
+  written-cases P q part source = at (roleOf r) refl
+    where
+      at : (x : Role) → roleOf r ≡ x → P (writtenAs w c r v x)
+      at (Claims h) e = part
+      at (Configures i) e = let range = configures-range r q i e in source i (range .0) (omega arith)
+      at Generates e = part
+      at Plain e = part

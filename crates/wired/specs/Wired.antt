@@ -8,17 +8,15 @@
 --   readIn w c r             what register r of a domain reads
 --   claimedIn w c r          w after that read
 --   partWritten w c r v      w after v was written to it, where it is no sourcecfg
---   sourceOf r               the source whose sourcecfg r is, or 0
+--   writtenAs w c r v x      w after v was written to register r, whose role is x, of a domain
 --   writtenIn w c r v        w after v was written to register r of a domain
 -- Nothing is sent here: that comes after.
 use Prim.Native.Nat.{ℕ}
 use mathlib.Core.Bool.{Bool, cond}
-use lib.Dec.{eqb}
 use Rattle.region.specs.declared.Word.{Word}
-use Rattle.region.specs.declared.Word.the-variants.{Domaincfg, Sourcecfg, Setip, Setipnum, InClrip, Clripnum}
-use Rattle.region.specs.declared.Word.the-variants.{Setie, Setienum, Clrie, Clrienum, SetipnumLe, SetipnumBe}
-use Rattle.region.specs.declared.Word.the-variants.{Genmsi, Target, Idelivery, Iforce, Ithreshold, Topi}
-use Rattle.region.specs.declared.Word.the-variants.{Claimi, Unused}
+use Rattle.region.specs.declared.role.Role.{Role}
+use Rattle.region.specs.declared.role.Role.the-variants.{Claims, Configures, Generates, Plain}
+use Rattle.region.specs.Role.{roleOf}
 use Rattle.domain.specs.Domain.{Domain}
 use Rattle.registers.specs.Read.{valueOf, claimedBy}
 use Rattle.registers.specs.Write.{registerWritten}
@@ -50,27 +48,11 @@ partWritten w c r v = withDomain w c (registerWritten c (domainIn w c) (w .wires
 
 -- ---- a write to any register
 
-unfoldable pub sourceOf : Word → ℕ
-sourceOf Domaincfg = 0
-sourceOf (Sourcecfg i) = i
-sourceOf (Setip k) = 0
-sourceOf Setipnum = 0
-sourceOf (InClrip k) = 0
-sourceOf Clripnum = 0
-sourceOf (Setie k) = 0
-sourceOf Setienum = 0
-sourceOf (Clrie k) = 0
-sourceOf Clrienum = 0
-sourceOf SetipnumLe = 0
-sourceOf SetipnumBe = 0
-sourceOf Genmsi = 0
-sourceOf (Target i) = 0
-sourceOf (Idelivery h) = 0
-sourceOf (Iforce h) = 0
-sourceOf (Ithreshold h) = 0
-sourceOf (Topi h) = 0
-sourceOf (Claimi h) = 0
-sourceOf Unused = 0
+unfoldable pub writtenAs : Wired → Bool → Word → ℕ → Role → Wired
+writtenAs w c r v (Claims h) = partWritten w c r v
+writtenAs w c r v (Configures i) = sourceWritten w c i v
+writtenAs w c r v Generates = partWritten w c r v
+writtenAs w c r v Plain = partWritten w c r v
 
 unfoldable pub writtenIn : Wired → Bool → Word → ℕ → Wired
-writtenIn w c r v = cond (eqb (sourceOf r) 0) (partWritten w c r v) (sourceWritten w c (sourceOf r) v)
+writtenIn w c r v = writtenAs w c r v (roleOf r)

@@ -1,8 +1,11 @@
 -- `controller::calls::generate` meets its contract: no genmsi, one of the child, one of the machine domain.
 -- Assumes nothing.
-use mathlib.Core.Path.{sym, _∙_}
+use mathlib.Core.Path.{sym, ap, _∙_}
 use mathlib.Core.Bool.{true, false}
-use borrow.Author.Tests.{not-true, not-false}
+use mathlib.Core.List.{[], _∷_}
+use denote.Enum.Declared.{tagOf}
+use Rattle.region.proofs.role.Role.{the-type}
+use Rattle.region.proofs.RoleLaws.{arm-else}
 use Rattle.wired.specs.Wired.{wiredOf}
 use Rattle.wires.proofs.WiresLaws.{root-part, child-part}
 use Rattle.wired.proofs.WiredLaws.{domain-root, domain-child}
@@ -11,13 +14,19 @@ use borrow.Author.Needs.{needs}
 use Rattle.controller.proofs.calls.generate.Statement.{statement}
 use Rattle.controller.proofs.calls.generate.Tie as tie
 
-is-genmsi-requires : tie.Need-is-genmsi-requires
-is-genmsi-requires c κs = search needs
+role-of-requires : tie.Need-role-of-requires
+role-of-requires c κs = search needs
+
+enum-told : tie.Need-enum-told
+enum-told c = search needs
 
 returns : tie.Need-returns
 returns c =
-    let args = c .before .before .before .before .args in
-    answered-else _ _ _ _ (sym (c .before .is-genmsi .ensures) ∙ not-true _ (c .if1 .taken)) (args .log .now)
+    let at-role = c .before in
+    answered-else _ _ _ _
+    (λ e. arm-else (0 ∷ 1 ∷ 3 ∷ []) (c .match .keys2) 2 tt
+    (ap (tagOf the-type) (at-role .role-of .ensures ∙ e)))
+    (at-role .before .before .before .args .log .now)
 
 sub-send-generated : tie.Need-sub-send-generated
 sub-send-generated c = search needs
@@ -38,12 +47,13 @@ returns-2 : tie.Need-returns-2
 returns-2 c =
     let at-call = c .before .before in
     let at-side = at-call .before .before .before in
-    let at-test = at-side .before in
-    let start = at-test .before .before .before .before in
+    let at-told = at-side .before in
+    let at-role = at-told .before .before in
+    let start = at-role .before .before .before in
     let l = start .args .w .now in
-    answered-genmsi _ _ _ _ (sym (at-test .before .is-genmsi .ensures) ∙ not-false _ (at-test .if1 .left))
-    true (at-side .if2 .taken) _
-    (child-part l (start .pre .0) ∙ sym (domain-child (wiredOf l) (start .args .child) (at-side .if2 .taken)))
+    answered-genmsi _ _ _ _ (sym (at-role .role-of .ensures) ∙ at-told .enum-told .given .1)
+    true (at-side .if1 .taken) _
+    (child-part l (start .pre .0) ∙ sym (domain-child (wiredOf l) (start .args .child) (at-side .if1 .taken)))
     (start .args .log .now) _ _ (at-call .send-generated .ensures)
 
 sub-send-generated-2 : tie.Need-sub-send-generated-2
@@ -65,19 +75,21 @@ returns-3 : tie.Need-returns-3
 returns-3 c =
     let at-call = c .before .before in
     let at-side = at-call .before .before .before in
-    let at-test = at-side .before in
-    let start = at-test .before .before .before .before in
+    let at-told = at-side .before in
+    let at-role = at-told .before .before in
+    let start = at-role .before .before .before in
     let l = start .args .w .now in
-    answered-genmsi _ _ _ _ (sym (at-test .before .is-genmsi .ensures) ∙ not-false _ (at-test .if1 .left))
-    false (at-side .if2 .left) _
-    (root-part l (start .pre .0) ∙ sym (domain-root (wiredOf l) (start .args .child) (at-side .if2 .left)))
+    answered-genmsi _ _ _ _ (sym (at-role .role-of .ensures) ∙ at-told .enum-told .given .1)
+    false (at-side .if1 .left) _
+    (root-part l (start .pre .0) ∙ sym (domain-root (wiredOf l) (start .args .child) (at-side .if1 .left)))
     (start .args .log .now) _ _ (at-call .send-generated2 .ensures)
 
 pub generate-spec : {M : Type 1} → statement M
 generate-spec =
     tie.close
     (tie.spec
-    is-genmsi-requires
+    role-of-requires
+    enum-told
     returns
     sub-send-generated
     part-send-generated-start
