@@ -18,7 +18,7 @@ use Rattle.select.specs.Size.{identities}
 use Rattle.file.specs.declared.File.{File}
 use Rattle.file.specs.declared.register.Access.{Access}
 use Rattle.file.specs.declared.register.Access.the-variants.{Read, Write, Set, Clear}
-use Rattle.file.specs.Answer.{valueOf}
+use Rattle.file.specs.Reply.{replyValue}
 use Rattle.file.specs.Page.{pageWritten, pageRead}
 use Rattle.file.specs.Top.{topOf, claimed, signals}
 use Rattle.files.specs.Files.{fileNumber, theFile, withFile}
@@ -85,7 +85,7 @@ change (call.PageWrite h f a v) b s =
     let k = fileNumber h f in onFile b k (pageWritten identities (theFile (b .files) k) a v) 0 s
 change (call.Register h f kind x v) b s =
     let r = registerOn b h f (kindOf kind) x v in
-    onFile b (fileNumber h f) (r .file) (valueOf (r .answer)) s
+    onFile b (fileNumber h f) (r .file) (replyValue (r .answer)) s
 change (call.Top h f) b s = answering b (topOf identities (theFile (b .files) (fileNumber h f))) s
 change (call.Claim h f) b s =
     let k = fileNumber h f in

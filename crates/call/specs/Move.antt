@@ -17,7 +17,7 @@ use Rattle.file.specs.declared.File.{File}
 use Rattle.file.specs.declared.register.Access.{Access}
 use Rattle.file.specs.declared.register.Access.the-variants.{Read, Write}
 use Rattle.file.specs.declared.register.Accessed.{Accessed}
-use Rattle.file.specs.Answer.{valueOf}
+use Rattle.file.specs.Reply.{replyValue}
 use Rattle.file.specs.Register.{accessed}
 use Rattle.files.specs.Files.{fileNumber, isGuest, theFile, withFile}
 use Rattle.region.specs.declared.Word.the-variants as word
@@ -45,7 +45,7 @@ pub record Acted : Type 0 where
 
 unfoldable pub acted : Act → ℕ → ℕ → ℕ → ℕ → Board → List ℕ → Acted
 acted (Save select place) oh of nh nf b s =
-    record { board = b; saved = set s place (valueOf (registerOn b oh of Read select 0 .answer)) }
+    record { board = b; saved = set s place (replyValue (registerOn b oh of Read select 0 .answer)) }
 acted (Zero new select) oh of nh nf b s =
     let h = cond new nh oh in
     let f = cond new nf of in

@@ -16,7 +16,7 @@ use Rattle.select.specs.Select.{selectLegal}
 use Rattle.file.specs.declared.File.{File}
 use Rattle.file.specs.declared.register.Access.{Access}
 use Rattle.file.specs.declared.register.Accessed.{Accessed}
-use Rattle.file.specs.Answer.{valueOf}
+use Rattle.file.specs.Reply.{replyValue}
 use Rattle.file.specs.Page.{pageWritten, pageRead}
 use Rattle.file.specs.Register.{accessed}
 use Rattle.file.specs.Top.{topOf, claimed}
@@ -121,7 +121,7 @@ module _ (b : Board) (sound : boardSound b ≡ true) (h f : ℕ) (x : File)
   pub step-register : (k s v : ℕ) (r : Accessed)
       → r ≡ accessed identities (isGuest (fileNumber h f)) x (kindOf k) s v → (u : List ℕ)
       → step (Register h f k s v) b u
-      ≡ quiet (onlyFile b (fileNumber h f) (r .file)) (valueOf (r .answer)) u
+      ≡ quiet (onlyFile b (fileNumber h f) (r .file)) (replyValue (r .answer)) u
   unfolding step change
   step-register k s v r e u = rw (e, here) (step-onFile b sound _ _ _ u)
 
@@ -167,7 +167,7 @@ module _ (l g : List ℕ) (z : blockRefusal true l g ≡ 0) (h f : ℕ) (x : Fil
 
     pub register-done : (kind s v : ℕ) → (isFile h f && ltb kind 4) ≡ true → selectLegal s ≡ true
         → (r : Accessed) → r ≡ accessed identities (isGuest (fileNumber h f)) x (kindOf kind) s v
-        → y ≡ r .file → (u : ℕ) → u ≡ valueOf (r .answer)
+        → y ≡ r .file → (u : ℕ) → u ≡ replyValue (r .answer)
         → Does (Register h f kind s v) l g (Done u 0) l′ g
     register-done kind s v there legal r did q u p =
         tests-done (tests-register h f kind s v) l g z there refl legal _ _

@@ -14,7 +14,7 @@ use Rattle.file.specs.declared.File.{File}
 use Rattle.file.specs.declared.register.Access.{Access}
 use Rattle.file.specs.declared.register.Access.the-variants.{Read, Write}
 use Rattle.file.specs.declared.register.Accessed.{Accessed}
-use Rattle.file.specs.Answer.{valueOf}
+use Rattle.file.specs.Reply.{replyValue}
 use Rattle.file.specs.Register.{accessed}
 use Rattle.files.specs.Files.{fileNumber, theFile}
 use Rattle.domain.specs.Domain.{configOf, byMessages}
@@ -107,7 +107,7 @@ Made a oh of nh nf b s b′ s′ =
 
 module _ (a : Act) (oh of nh nf : ℕ) (b : Board) (s : List ℕ) where
   pub made-save : (x p : ℕ) → a ≡ Save x p → (s′ : List ℕ)
-      → s′ ≡ set s p (valueOf (registerOn b oh of Read x 0 .answer)) → Made a oh of nh nf b s b s′
+      → s′ ≡ set s p (replyValue (registerOn b oh of Read x 0 .answer)) → Made a oh of nh nf b s b s′
   unfolding acted
   made-save x p e s′ q = rw e (refl, q)
 

@@ -16,7 +16,7 @@ use Rattle.select.specs.Select.{selectLegal, registerOf}
 use Rattle.file.specs.declared.File.{File}
 use Rattle.file.specs.declared.register.Access.{Access}
 use Rattle.file.specs.declared.register.Access.the-variants.{Read, Write, Set, Clear}
-use Rattle.file.specs.Answer.{valueOf}
+use Rattle.file.specs.Reply.{replyValue}
 use Rattle.file.specs.Register.{accessed, accessedAt}
 use Rattle.file.specs.Shape.{Shaped}
 use Rattle.file_laws.proofs.Keeps.{held-lt, accessed-shaped, accessed-rules}
@@ -96,11 +96,11 @@ module _ (oh of nh nf n : ℕ) (there : isMove oh of nh nf n ≡ true) where
 
 -- what an access to a register answers has 64 bits
 answered-lt : (g : Bool) (f : File) (k : Access) (s v : ℕ) → Shaped f
-    → valueOf (accessed identities g f k s v .answer) < 2 ^ 64
+    → replyValue (accessed identities g f k s v .answer) < 2 ^ 64
 unfolding accessed
 answered-lt g f k s v shaped = tested (selectLegal s) (λ t. rw t (at k)) (λ u. rw u (omega arith))
   where
-    at : (k : Access) → valueOf (accessedAt identities g f k (registerOf identities s) v .answer) < 2 ^ 64
+    at : (k : Access) → replyValue (accessedAt identities g f k (registerOf identities s) v .answer) < 2 ^ 64
     at Read = unfold accessedAt in held-lt f (registerOf identities s) shaped
     at Write = unfold accessedAt in omega arith
     at Set = unfold accessedAt in held-lt f (registerOf identities s) shaped

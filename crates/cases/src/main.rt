@@ -1,7 +1,7 @@
 // The table cases of the paper that one message file has, run through its methods and printed, a line each.
 use file::Access;
-use file::Answer;
 use file::File;
+use file::Reply;
 
 const OUT: i32 = 1;
 
@@ -31,8 +31,8 @@ fn read_line(name: &[u8], f: File, select: u64) {
     let done = f.access(true, Access::Read, select, 0);
     let answer = done.answer;
     match answer {
-        Answer::Value(v) => line(name, v),
-        Answer::Illegal => {
+        Reply::Value(v) => line(name, v),
+        Reply::Illegal => {
             io::write_all(OUT, name);
             io::write_all(OUT, b"\trefusal 6\n");
         }

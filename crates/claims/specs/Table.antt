@@ -7,7 +7,7 @@ use lib.Dec.{eqb}
 use lib.ListN.{replicate}
 use Rattle.file.specs.declared.File.{File}
 use Rattle.file.specs.declared.register.Access.the-variants.{Read}
-use Rattle.file.specs.Answer.{numberOf, valueOf}
+use Rattle.file.specs.Reply.{replyNumber, replyValue}
 use Rattle.file.specs.Page.{pageWritten}
 use Rattle.file.specs.Top.{topOf}
 use Rattle.file.specs.Register.{accessed}
@@ -99,11 +99,15 @@ table =
     }
     ∷ record { case = 10; given = claimHarts (roleOf (wordAt 0x407C)); says = 3 ∷ [] }
     ∷ record { case = 10; given = nameRefusal (DomainRead 0 0x5000) startBoard ∷ []; says = 5 ∷ [] }
-    ∷ record { case = 11; given = numberOf (accessed 255 true empty Read 0x81 0 .answer) ∷ []; says = 6 ∷ [] }
+    ∷ record {
+      case = 11;
+      given = replyNumber (accessed 255 true empty Read 0x81 0 .answer) ∷ [];
+      says = 6 ∷ [];
+    }
     ∷ record {
       case = 11;
       given =
-          numberOf (accessed 255 true empty Read 0x71 0 .answer) ∷ valueOf
+          replyNumber (accessed 255 true empty Read 0x71 0 .answer) ∷ replyValue
           (accessed 255 true empty Read 0x71 0 .answer) ∷ [];
       says = 0 ∷ 0 ∷ [];
     }

@@ -8,7 +8,7 @@ use Rattle.select.specs.Select.{selectLegal, registerOf}
 use Rattle.select.specs.Deliveries.{deliveryLegal}
 use Rattle.file.specs.declared.File.{File}
 use Rattle.file.specs.declared.register.Access.{Access}
-use Rattle.file.specs.declared.register.Answer.the-variants.{Illegal}
+use Rattle.file.specs.declared.register.Reply.the-variants.{Illegal}
 use Rattle.file.specs.Parts.{withDelivery}
 use Rattle.file.specs.Register.{written, accessedAt, accessed}
 

@@ -4,5 +4,5 @@ pub mod Shape
 pub mod Page
 pub mod Top
 pub mod Rules
-pub mod Answer
+pub mod Reply
 pub mod Register

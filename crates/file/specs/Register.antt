@@ -15,7 +15,7 @@ use Rattle.select.specs.Deliveries.{deliveryLegal}
 use Rattle.file.specs.declared.File.{File}
 use Rattle.file.specs.declared.register.Access.{Access}
 use Rattle.file.specs.declared.register.Access.the-variants.{Read, Write, Set, Clear}
-use Rattle.file.specs.declared.register.Answer.the-variants.{Value, Illegal}
+use Rattle.file.specs.declared.register.Reply.the-variants.{Value, Illegal}
 use Rattle.file.specs.declared.register.Accessed.{Accessed}
 use Rattle.file.specs.Parts.{withDelivery, withThreshold, withPending, withEnable}
 

@@ -6,7 +6,7 @@ mod top;
 
 pub use register::Access;
 pub use register::Accessed;
-pub use register::Answer;
+pub use register::Reply;
 pub use top::Claimed;
 
 pub struct File {

@@ -17,13 +17,13 @@ pub enum Access {
     Clear,
 }
 
-pub enum Answer {
+pub enum Reply {
     Value(u64),
     Illegal,
 }
 
 pub struct Accessed {
-    pub answer: Answer,
+    pub answer: Reply,
     pub file: File,
 }
 
@@ -81,7 +81,7 @@ impl File {
     {
         if !select_legal(select) {
             return Accessed {
-                answer: Answer::Illegal,
+                answer: Reply::Illegal,
                 file: self,
             };
         }
@@ -89,19 +89,19 @@ impl File {
         let old = self.held(register);
         match kind {
             Access::Read => Accessed {
-                answer: Answer::Value(old),
+                answer: Reply::Value(old),
                 file: self,
             },
             Access::Write => Accessed {
-                answer: Answer::Value(0),
+                answer: Reply::Value(0),
                 file: self.written(guest, register, value),
             },
             Access::Set => Accessed {
-                answer: Answer::Value(old),
+                answer: Reply::Value(old),
                 file: self.written(guest, register, words::union64(old, value)),
             },
             Access::Clear => Accessed {
-                answer: Answer::Value(old),
+                answer: Reply::Value(old),
                 file: self.written(guest, register, words::without64(old, value)),
             },
         }

@@ -3,13 +3,13 @@ ghost use mathlib.Core.Path.{_≡_};
 ghost use mathlib.Core.Bool.{true, _&&_};
 ghost use lib.Dec.{ltb};
 ghost use lib.ListN.{length};
-ghost use Rattle.file.specs.Answer.{valueOf};
+ghost use Rattle.file.specs.Reply.{replyValue};
 ghost use Rattle.files.specs.Files.{fileNumber, theFile, withFile};
 ghost use Rattle.block.specs.Block.{boardOf};
 ghost use Rattle.call.specs.Refusal.{isFile};
 use call::is_file;
-use file::Answer;
 use file::File;
+use file::Reply;
 
 // There is such a file, and such a kind of access.
 pub fn is_access(hart: u64, file: u64, kind: u64) -> bool
@@ -37,11 +37,11 @@ pub fn store_file(state: &mut [u32], hart: u64, file: u64, f: File)
 }
 
 // The value that a register access answers, 0 for an illegal one.
-pub fn value_of(answer: Answer) -> u64
-    ensures { λ r. ⌜ r ≡ valueOf answer ⌝ }
+pub fn value_of(answer: Reply) -> u64
+    ensures { λ r. ⌜ r ≡ replyValue answer ⌝ }
 {
     match answer {
-        Answer::Value(v) => v,
-        Answer::Illegal => 0,
+        Reply::Value(v) => v,
+        Reply::Illegal => 0,
     }
 }

@@ -4,7 +4,7 @@ ghost use mathlib.Core.Bool.{true};
 ghost use Prim.Native.Nat.{_<_};
 ghost use lib.ListN.{length, set};
 ghost use Rattle.file.specs.declared.register.Access.the-variants as access;
-ghost use Rattle.file.specs.Answer.{valueOf};
+ghost use Rattle.file.specs.Reply.{replyValue};
 ghost use Rattle.block.specs.Block.{boardOf};
 ghost use Rattle.call.specs.Refusal.{isGuestFile};
 ghost use Rattle.call.specs.Move.{registerOn, withOne};
@@ -27,7 +27,7 @@ fn accessed(state: &[u32], hart: u64, file: u64, kind: Access, select: u64, valu
 pub fn save(state: &[u32], saved: &mut [u64; 10], hart: u64, file: u64, select: u64, place: usize)
     requires { ⌜ (length (now state) ≡ 650) × (isGuestFile hart file ≡ true) × (place < 10) ⌝ }
     ensures { λ r. ⌜ now (saved .exit) ≡ set (now (saved .entry)) place
-        (valueOf (registerOn (boardOf (now (state .entry))) hart file access.Read select 0 .answer)) ⌝ }
+        (replyValue (registerOn (boardOf (now (state .entry))) hart file access.Read select 0 .answer)) ⌝ }
 {
     let done = accessed(state, hart, file, Access::Read, select, 0);
     let answer = done.answer;

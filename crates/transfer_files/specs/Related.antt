@@ -19,7 +19,7 @@ use Rattle.file.specs.declared.File.{File}
 use Rattle.file.specs.declared.register.Access.{Access}
 use Rattle.file.specs.declared.register.Access.the-variants.{Read, Write}
 use Rattle.file.specs.declared.register.Accessed.{Accessed}
-use Rattle.file.specs.Answer.{valueOf}
+use Rattle.file.specs.Reply.{replyValue}
 use Rattle.file.specs.Register.{accessed}
 use Rattle.transfer_steps.specs.declared.Act.{Act}
 use Rattle.transfer_steps.specs.declared.Act.the-variants.{Save, Zero, Target, Put}
@@ -39,7 +39,7 @@ actedOn (Save select place) x =
     record {
       old = x .old;
       new = x .new;
-      numbers = set (x .numbers) place (valueOf (guestAccess (x .old) Read select 0 .answer));
+      numbers = set (x .numbers) place (replyValue (guestAccess (x .old) Read select 0 .answer));
     }
 actedOn (Zero new select) x =
     record {

@@ -13,7 +13,7 @@ use Rattle.file.specs.declared.File.{File}
 use Rattle.file.specs.declared.register.Access.{Access}
 use Rattle.file.specs.declared.register.Access.the-variants.{Read, Write}
 use Rattle.file.specs.declared.register.Accessed.{Accessed}
-use Rattle.file.specs.Answer.{valueOf}
+use Rattle.file.specs.Reply.{replyValue}
 use Rattle.file.specs.Register.{accessed}
 use Rattle.files.specs.Files.{fileNumber, isGuest, theFile, withFile}
 use Rattle.files.proofs.FilesLaws.{theFile-withFile-same, theFile-withFile-other}
@@ -72,7 +72,7 @@ module _ (oh of nh nf : ℕ) (oldThere : isGuestFile oh of ≡ true) (newThere :
   unfolding acted actedOn
   acted-three (Save select place) =
       three-path refl refl
-      (ap (λ (x : Accessed). set s place (valueOf (x .answer)))
+      (ap (λ (x : Accessed). set s place (replyValue (x .answer)))
       (register-guest oh of oldThere b Read select 0))
   acted-three (Zero new? select) = at new?
     where

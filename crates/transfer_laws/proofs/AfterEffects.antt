@@ -11,7 +11,7 @@ use lib.Dec.{ltb}
 use Rattle.select.specs.Size.{identities}
 use Rattle.select.specs.Select.{selectLegal}
 use Rattle.file.specs.declared.File.{File}
-use Rattle.file.specs.Answer.{valueOf}
+use Rattle.file.specs.Reply.{replyValue}
 use Rattle.file.specs.Page.{pageWritten, pageRead}
 use Rattle.file.specs.Register.{accessed}
 use Rattle.file.specs.Top.{topOf, claimed, signals}
@@ -55,7 +55,7 @@ leaves FileCall.claim x = claimed identities x
 abbrev answers : FileCall → File → ℕ
 answers (FileCall.pageRead a) x = pageRead x a
 answers (FileCall.pageWrite a v) x = 0
-answers (FileCall.register k s v) x = valueOf (accessed identities true x (kindOf k) s v .answer)
+answers (FileCall.register k s v) x = replyValue (accessed identities true x (kindOf k) s v .answer)
 answers FileCall.top x = topOf identities x
 answers FileCall.claim x = topOf identities x
 

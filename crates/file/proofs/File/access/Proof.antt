@@ -4,7 +4,7 @@ use Prim.Native.Nat.{ℕ}
 use Rattle.words.specs.Bits.{union, without}
 use Rattle.file.specs.declared.File.{File}
 use Rattle.file.specs.declared.register.Access.the-variants.{Read, Write, Set, Clear}
-use Rattle.file.specs.declared.register.Answer.the-variants.{Value}
+use Rattle.file.specs.declared.register.Reply.the-variants.{Value}
 use mathlib.Core.Path.{sym, _∙_, ap, ap₂}
 use borrow.Author.Tests.{not-true, not-false}
 use Rattle.file.specs.Register.{accessedAt, written}

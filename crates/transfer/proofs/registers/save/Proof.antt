@@ -2,7 +2,7 @@
 use mathlib.Core.Path.{ap, _∙_}
 use lib.ListN.{set}
 use Rattle.file.specs.declared.register.Accessed.{Accessed}
-use Rattle.file.specs.Answer.{valueOf}
+use Rattle.file.specs.Reply.{replyValue}
 use borrow.Author.Needs.{needs}
 use Rattle.transfer.proofs.registers.save.Statement.{statement}
 use Rattle.transfer.proofs.registers.save.Tie as tie
@@ -23,7 +23,7 @@ returns : tie.Need-returns
 returns c =
     let args = c .before .before .before .args in
     ap (set (args .saved .now) (args .place))
-    (c .value-of .ensures ∙ ap (λ (x : Accessed). valueOf (x .answer)) (c .before .accessed .ensures))
+    (c .value-of .ensures ∙ ap (λ (x : Accessed). replyValue (x .answer)) (c .before .accessed .ensures))
 
 pub save-spec : {M : Type 1} → statement M
 save-spec =
