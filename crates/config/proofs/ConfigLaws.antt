@@ -4,9 +4,8 @@ use mathlib.Core.Path.{_≡_, ap, _∙_}
 use mathlib.Core.Bool.{Bool·beq, true, false}
 use mathlib.Core.List.{List}
 use native.Mathlib.Omega.{arith}
-use Rattle.target.specs.Target.{keptGenerated}
 use Rattle.domain.specs.Domain.{Domain, byMessages, withGenerated}
-use Rattle.config.specs.Config.{redeliveredAt, redeliveredFrom, modeSettled, generatedWritten}
+use Rattle.config.specs.Config.{redeliveredAt, redeliveredFrom, modeSettled}
 
 module _ (d : Domain) (ws : List ℕ) where
   -- one turn of the loop up to m, and its end
@@ -33,12 +32,3 @@ module _ (d : Domain) (ws : List ℕ) where
       → modeSettled d e ws ≡ redeliveredFrom (withGenerated e 0) ws 1 63
   unfolding modeSettled
   mode-changed e q = simp q
-
-module _ (d : Domain) (v : ℕ) where
-  pub generated-messages : byMessages d ≡ true → generatedWritten d v ≡ withGenerated d (keptGenerated v)
-  unfolding generatedWritten
-  generated-messages e = simp e
-
-  pub generated-direct : byMessages d ≡ false → generatedWritten d v ≡ d
-  unfolding generatedWritten
-  generated-direct e = simp e

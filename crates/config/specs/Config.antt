@@ -1,10 +1,9 @@
--- Writes to domaincfg and genmsi. 01, "The wired controller"; the standard 4.5.1, 4.5.15. Assumes nothing.
+-- Writes to domaincfg. 01, "The wired controller"; the standard 4.5.1. Assumes nothing.
 --   keptConfig v                what of a written v is stored: IE, bit 8, and DM, bit 2
 --   redeliveredAt d ws i        d after its delivery mode changed, for source i; ws are the wires
 --   redeliveredFrom d ws i n    the same for the n sources from i on
 --   modeSettled d e ws          what d becomes with the new word, e, once every source is settled
 --   configWritten d ws v        d after v was written to domaincfg
---   generatedWritten d v        d after v was written to genmsi, which only counts by messages
 -- A change of DM sets genmsi to 0 and each active source's target to its start value in the new mode.
 use Prim.Native.Nat.{ℕ, zero, suc}
 use mathlib.Core.Bool.{Bool·beq, cond}
@@ -12,7 +11,6 @@ use mathlib.Core.List.{List}
 use Rattle.words.specs.Parts.{fieldOf, packed}
 use Rattle.words.specs.Sets.{member}
 use Rattle.source.specs.Pending.{redelivered}
-use Rattle.target.specs.Target.{keptGenerated}
 use Rattle.domain.specs.Domain.{Domain, byMessages, withConfig, withGenerated}
 use Rattle.domain.specs.Slot.{sourceAt, withSource}
 
@@ -33,6 +31,3 @@ modeSettled d e ws =
 
 unfoldable pub configWritten : Domain → List ℕ → ℕ → Domain
 configWritten d ws v = modeSettled d (withConfig d (keptConfig v)) ws
-
-unfoldable pub generatedWritten : Domain → ℕ → Domain
-generatedWritten d v = cond (byMessages d) (withGenerated d (keptGenerated v)) d

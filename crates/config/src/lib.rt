@@ -1,10 +1,9 @@
-// What a write to domaincfg or genmsi does to its domain, before anything is sent.
+// What a write to domaincfg does to its domain, before anything is sent.
 ghost use mathlib.Core.Path.{_≡_};
 ghost use Prim.Native.Nat.{_-_, _≤_, _<_};
 ghost use lib.ListN.{length};
 ghost use Rattle.domain.specs.Domain.{domainOf};
 ghost use Rattle.config.specs.Config.{keptConfig, redeliveredAt, redeliveredFrom, configWritten};
-ghost use Rattle.config.specs.Config.{generatedWritten};
 use writes::wire_at;
 
 // What of a written domaincfg is stored.
@@ -50,14 +49,4 @@ pub fn write_config(part: &mut [u32], wires: [u32; 2], value: u32)
     }
     domain::put_generated(part, 0);
     redeliver(part, wires);
-}
-
-// Ignored in direct mode. The message that it sends is the caller's to send.
-pub fn write_generated(part: &mut [u32], value: u32)
-    requires { ⌜ length (now part) ≡ 144 ⌝ }
-    ensures { λ r. ⌜ domainOf (now (part .exit)) ≡ generatedWritten (domainOf (now (part .entry))) value ⌝ }
-{
-    if domain::by_messages(part) {
-        domain::put_generated(part, target::kept_generated(value));
-    }
 }

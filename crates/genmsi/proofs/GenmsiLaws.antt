@@ -1,15 +1,24 @@
--- Laws of specs/Genmsi.antt: what is logged and answered in each delivery mode. No contract cites this file.
--- Assumes nothing.
+-- Laws of specs/Genmsi.antt: what is stored, logged and answered in each delivery mode. No contract cites
+-- this file. Assumes nothing.
 use Prim.Native.Nat.{ℕ}
 use mathlib.Core.Path.{_≡_, refl, sym, ap, _∙_}
 use mathlib.Core.Bool.{Bool, true, false}
 use mathlib.Core.List.{List, [], _∷_}
 use lib.ListN.{length, set}
-use Rattle.target.specs.Target.{generatedOf}
-use Rattle.domain.specs.Domain.{Domain, byMessages}
+use Rattle.target.specs.Target.{keptGenerated, generatedOf}
+use Rattle.domain.specs.Domain.{Domain, byMessages, withGenerated}
 use Rattle.sending.specs.Sending.{logged}
 use Rattle.sending.proofs.SendingLaws.{logged-none, logged-one}
-use Rattle.genmsi.specs.Genmsi.{generatedSent}
+use Rattle.genmsi.specs.Genmsi.{generatedWritten, generatedSent}
+
+module _ (d : Domain) (v : ℕ) where
+  pub generated-messages : byMessages d ≡ true → generatedWritten d v ≡ withGenerated d (keptGenerated v)
+  unfolding generatedWritten
+  generated-messages e = simp e
+
+  pub generated-direct : byMessages d ≡ false → generatedWritten d v ≡ d
+  unfolding generatedWritten
+  generated-direct e = simp e
 
 module _ (c : Bool) (d : Domain) (v : ℕ) where
   pub generated-on : byMessages d ≡ true → generatedSent c d v ≡ generatedOf c v ∷ []

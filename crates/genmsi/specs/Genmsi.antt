@@ -1,11 +1,19 @@
--- What a write to genmsi sends. 01, "The wired controller"; the standard 4.5.15. Assumes nothing.
+-- What genmsi stores, reads and sends. 01, "The wired controller"; the standard 4.5.15. Assumes nothing.
+--   generatedWritten d v  d after v was written to genmsi, which only counts by messages
+--   generatedRead d       what genmsi of d reads: 0 in direct mode
 --   generatedSent c d v   the messages of a write of v to genmsi of d: one in message mode, whatever IE is
 -- c says that the domain is the child.
 use Prim.Native.Nat.{ℕ}
 use mathlib.Core.Bool.{Bool, cond}
 use mathlib.Core.List.{List, [], _∷_}
-use Rattle.target.specs.Target.{generatedOf}
-use Rattle.domain.specs.Domain.{Domain, byMessages}
+use Rattle.target.specs.Target.{keptGenerated, generatedOf}
+use Rattle.domain.specs.Domain.{Domain, generatedAt, byMessages, withGenerated}
+
+unfoldable pub generatedWritten : Domain → ℕ → Domain
+generatedWritten d v = cond (byMessages d) (withGenerated d (keptGenerated v)) d
+
+unfoldable pub generatedRead : Domain → ℕ
+generatedRead d = cond (byMessages d) (generatedAt d) 0
 
 unfoldable pub generatedSent : Bool → Domain → ℕ → List ℕ
 generatedSent c d v = cond (byMessages d) (generatedOf c v ∷ []) []

@@ -16,7 +16,8 @@ use Rattle.region.specs.declared.Word.the-variants.{Unused}
 use Rattle.source.specs.declared.Change.the-variants.{Pend, Clear, Enable, Disable}
 use Rattle.domain.specs.Domain.{Domain}
 use Rattle.writes.specs.Writes.{wordChanged, numberChanged, targetWritten}
-use Rattle.config.specs.Config.{configWritten, generatedWritten}
+use Rattle.config.specs.Config.{configWritten}
+use Rattle.genmsi.specs.Genmsi.{generatedWritten}
 use Rattle.direct.specs.declared.Setting.the-variants as setting
 use Rattle.direct.specs.Direct.{settingWritten}
 

@@ -48,7 +48,7 @@ pub fn write(part: &mut [u32], child: bool, wires: [u32; 2], word: Word, value: 
             Change::Pend,
             words::reversed32(value),
         ),
-        Word::Genmsi => config::write_generated(part, value),
+        Word::Genmsi => genmsi::write_generated(part, value),
         Word::Target(i) => writes::write_target(part, child, i as usize, value),
         Word::Idelivery(h) => direct::put_setting(part, h as usize, Setting::Idelivery, value),
         Word::Iforce(h) => direct::put_setting(part, h as usize, Setting::Iforce, value),

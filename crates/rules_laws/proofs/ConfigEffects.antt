@@ -19,7 +19,8 @@ use Rattle.delivery.proofs.DeliveryLaws.{idelivery-keeps, iforce-keeps, ithresh
 use Rattle.domain.specs.Domain.{Domain, configOf, byMessages, generatedAt}
 use Rattle.domain.specs.Slot.{sourceAt}
 use Rattle.domain.specs.Structure.{structureAt}
-use Rattle.config.specs.Config.{keptConfig, configWritten, generatedWritten}
+use Rattle.config.specs.Config.{keptConfig, configWritten}
+use Rattle.genmsi.specs.Genmsi.{generatedWritten}
 use Rattle.writes_laws.specs.Named.{keepsMode}
 use Rattle.writes_laws.proofs.ConfigEffects.{keptConfig-messages, became-configWritten}
 use Rattle.writes_laws.proofs.ConfigEffects.{became-generatedWritten}

@@ -1,10 +1,8 @@
 -- What a read of a register gives. 01, "The wired controller", "Direct delivery and signals". Assumes
 -- nothing.
---   generatedRead d    genmsi, which reads 0 in direct mode
 --   valueOf d ws w     what register w of d reads; ws are the wires
 -- domaincfg reads 0x80 in bits 31:24. clrie and the number registers read 0, and so does what is not named.
 use Prim.Native.Nat.{ℕ, _+_}
-use mathlib.Core.Bool.{cond}
 use mathlib.Core.List.{List}
 use lib.ListN.{getD}
 use Rattle.region.specs.declared.Word.{Word}
@@ -12,14 +10,12 @@ use Rattle.region.specs.declared.Word.the-variants.{Domaincfg, Sourcecfg, Setip
 use Rattle.region.specs.declared.Word.the-variants.{Setie, Setienum, Clrie, Clrienum, SetipnumLe, SetipnumBe}
 use Rattle.region.specs.declared.Word.the-variants.{Genmsi, Target, Idelivery, Iforce, Ithreshold, Topi}
 use Rattle.region.specs.declared.Word.the-variants.{Claimi, Unused}
-use Rattle.domain.specs.Domain.{Domain, configOf, generatedAt, byMessages}
+use Rattle.domain.specs.Domain.{Domain, configOf}
 use Rattle.domain.specs.Slot.{sourceAt}
+use Rattle.genmsi.specs.Genmsi.{generatedRead}
 use Rattle.inputs.specs.Inputs.{inputWord}
 use Rattle.direct.specs.declared.Setting.the-variants as setting
 use Rattle.direct.specs.Direct.{topiOf, settingOf}
-
-unfoldable pub generatedRead : Domain → ℕ
-generatedRead d = cond (byMessages d) (generatedAt d) 0
 
 unfoldable pub valueOf : Domain → List ℕ → Word → ℕ
 valueOf d ws Domaincfg = 0x80000000 + configOf d

@@ -5,7 +5,7 @@ ghost use lib.ListN.{length};
 ghost use Rattle.region.specs.Region.{Within};
 ghost use Rattle.domain.specs.Domain.{domainOf, configOf};
 ghost use Rattle.domain.specs.Slot.{sourceAt};
-ghost use Rattle.values.specs.Values.{generatedRead, valueOf};
+ghost use Rattle.values.specs.Values.{valueOf};
 use direct::Setting;
 use region::Word;
 
@@ -23,16 +23,6 @@ fn target_word(part: &[u32], i: usize) -> u32
 {
     let s = domain::load(part, i);
     s.target
-}
-
-fn generated_word(part: &[u32]) -> u32
-    requires { ⌜ length (now part) ≡ 144 ⌝ }
-    ensures { λ r. ⌜ r ≡ generatedRead (domainOf (now (part .entry))) ⌝ }
-{
-    if domain::by_messages(part) {
-        return domain::generated(part);
-    }
-    0
 }
 
 fn config_word(part: &[u32]) -> u32
@@ -59,7 +49,7 @@ pub fn value_of(part: &[u32], wires: [u32; 2], word: Word) -> u32
         Word::Clrienum => 0,
         Word::SetipnumLe => 0,
         Word::SetipnumBe => 0,
-        Word::Genmsi => generated_word(part),
+        Word::Genmsi => genmsi::read_generated(part),
         Word::Target(i) => target_word(part, i as usize),
         Word::Idelivery(h) => direct::setting_of(part, h as usize, Setting::Idelivery),
         Word::Iforce(h) => direct::setting_of(part, h as usize, Setting::Iforce),

@@ -24,8 +24,9 @@ use Rattle.domain_laws.proofs.BecameEffects.{became-withConfig, became-withGene
 use Rattle.domain_laws.proofs.BecameEffects.{became-touched, became-as, became-messages, became-enabled}
 use Rattle.domain_laws.proofs.BecameEffects.{touched-none, touched-as}
 use Rattle.config.specs.Config.{keptConfig, redeliveredAt, redeliveredFrom, configWritten}
-use Rattle.config.specs.Config.{generatedWritten}
-use Rattle.config.proofs.ConfigLaws.{mode-same, mode-changed, generated-messages, generated-direct}
+use Rattle.config.proofs.ConfigLaws.{mode-same, mode-changed}
+use Rattle.genmsi.specs.Genmsi.{generatedWritten}
+use Rattle.genmsi.proofs.GenmsiLaws.{generated-messages, generated-direct}
 use Rattle.writes_laws.specs.Named.{keepsMode}
 
 -- ---- what is stored of domaincfg

@@ -69,8 +69,8 @@ enum-told-8 c = search needs
 enum-told-9 : tie.Need-enum-told-9
 enum-told-9 c = search needs
 
-generated-word-requires : tie.Need-generated-word-requires
-generated-word-requires c κs = search needs
+read-generated-requires : tie.Need-read-generated-requires
+read-generated-requires c κs = search needs
 
 enum-known-word-5 : tie.Need-enum-known-word-5
 enum-known-word-5 c = search needs
@@ -173,7 +173,7 @@ returns-12 c = sym (ap (valueOf _ _) (c .enum-told8 .given .1))
 
 returns-13 : tie.Need-returns-13
 unfolding valueOf
-returns-13 c = c .generated-word .ensures ∙ sym (ap (valueOf _ _) (c .before .enum-told9 .given .1))
+returns-13 c = c .read-generated .ensures ∙ sym (ap (valueOf _ _) (c .before .enum-told9 .given .1))
 
 returns-14 : tie.Need-returns-14
 unfolding valueOf
@@ -225,7 +225,7 @@ value-of-spec =
     enum-told-7
     enum-told-8
     enum-told-9
-    generated-word-requires
+    read-generated-requires
     enum-known-word-5
     target-word-requires
     enum-known-word-6

@@ -1,10 +1,10 @@
--- `config::write_generated` meets its contract: only by messages. Assumes nothing.
+-- `genmsi::write_generated` meets its contract: only by messages. Assumes nothing.
 use mathlib.Core.Path.{ap, sym, _∙_}
 use Rattle.domain.specs.Domain.{withGenerated}
-use Rattle.config.proofs.ConfigLaws.{generated-messages, generated-direct}
+use Rattle.genmsi.proofs.GenmsiLaws.{generated-messages, generated-direct}
 use borrow.Author.Needs.{needs}
-use Rattle.config.proofs.write_generated.Statement.{statement}
-use Rattle.config.proofs.write_generated.Tie as tie
+use Rattle.genmsi.proofs.write_generated.Statement.{statement}
+use Rattle.genmsi.proofs.write_generated.Tie as tie
 
 by-messages-requires : tie.Need-by-messages-requires
 by-messages-requires c κs = search needs

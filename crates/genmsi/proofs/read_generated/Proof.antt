@@ -1,9 +1,9 @@
--- `values::generated_word` meets its contract: 0 in direct mode. Assumes nothing.
+-- `genmsi::read_generated` meets its contract: 0 in direct mode. Assumes nothing.
 use mathlib.Core.Path.{sym, _∙_}
-use Rattle.values.specs.Values.{generatedRead}
+use Rattle.genmsi.specs.Genmsi.{generatedRead}
 use borrow.Author.Needs.{needs}
-use Rattle.values.proofs.generated_word.Statement.{statement}
-use Rattle.values.proofs.generated_word.Tie as tie
+use Rattle.genmsi.proofs.read_generated.Statement.{statement}
+use Rattle.genmsi.proofs.read_generated.Tie as tie
 
 by-messages-requires : tie.Need-by-messages-requires
 by-messages-requires c κs = search needs
@@ -20,6 +20,6 @@ returns-2 : tie.Need-returns-2
 unfolding generatedRead
 returns-2 c = sym (simp (sym (c .before .by-messages .ensures) ∙ c .if1 .left))
 
-pub generated-word-spec : {M : Type 1} → statement M
-generated-word-spec =
+pub read-generated-spec : {M : Type 1} → statement M
+read-generated-spec =
     tie.close (tie.spec by-messages-requires generated-requires returns returns-2)
