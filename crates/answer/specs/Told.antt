@@ -8,15 +8,15 @@ use mathlib.Core.Path.{_≡_}
 use mathlib.Core.List.{List}
 use Prim.Native.Nat.{ℕ}
 use Rattle.call.specs.declared.Answer.{Answer}
-use Rattle.call.specs.Answer.{numberOf, valueOf, countOf}
+use Rattle.call.specs.Answer.{refusalNumber, answerValue, answerCount}
 use Rattle.call.specs.declared.Call.{Call}
 use Rattle.call.specs.Outcome.{Outcome, outcome}
 use Rattle.answer.specs.declared.VskAnswer.{VskAnswer}
 
 pub record Numbers (r : VskAnswer) (a : Answer) : Type 0 where
-  pub refusal : r .refusal ≡ numberOf a
-  pub value : r .value ≡ valueOf a
-  pub count : r .count ≡ countOf a
+  pub refusal : r .refusal ≡ refusalNumber a
+  pub value : r .value ≡ answerValue a
+  pub count : r .count ≡ answerCount a
 
 pub record Told (o : Outcome) (r : VskAnswer) (l g s : List ℕ) : Type 0 where
   pub refusal : r .refusal ≡ o .number

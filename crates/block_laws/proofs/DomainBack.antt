@@ -8,7 +8,7 @@ use lib.ListN.{length, take, drop, length-append}
 use lib.Seq.{take-all, take-add, take-at, drop-at}
 use Rattle.domain.specs.Domain.{Domain, domainOf}
 use Rattle.domain.proofs.DomainLaws.{domain-path}
-use Rattle.domain_laws.specs.Shape.{Shaped}
+use Rattle.domain_laws.specs.Shape.{DomainShaped}
 use Rattle.wired.specs.Wired.{Wired, wiredOf}
 use Rattle.wires.proofs.WiresLaws.{wired-path, root-long, child-long}
 use Rattle.block.specs.Block.{domainWords, wiredWords}
@@ -27,7 +27,7 @@ domain-words-back l long =
     rw (← take-add 64 64 l, ← take-add 128 2 l, ← take-add 130 2 l, ← take-add 132 12 l)
     (take-all 144 l (omega arith))
 
-module _ (d : Domain) (shaped : Shaped d) where
+module _ (d : Domain) (shaped : DomainShaped d) where
   pub length-domainWords : length (domainWords d) ≡ 144
   unfolding domainWords
   length-domainWords = simp length-append (omega arith)
@@ -63,8 +63,8 @@ wired-words-back l long =
     )
     (take-all 290 l (omega arith))
 
-module _ (w : Wired) (wires : length (w .wires) ≡ 2) (root : Shaped (w .root))
-    (child : Shaped (w .child)) where
+module _ (w : Wired) (wires : length (w .wires) ≡ 2) (root : DomainShaped (w .root))
+    (child : DomainShaped (w .child)) where
   pub length-wiredWords : length (wiredWords w) ≡ 290
   unfolding wiredWords
   length-wiredWords =

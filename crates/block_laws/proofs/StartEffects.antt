@@ -16,12 +16,12 @@ use Rattle.delivery.specs.Delivery.{deliverySound}
 use Rattle.domain.specs.Domain.{configOf, isEnabled, byMessages, generatedAt}
 use Rattle.domain.specs.Slot.{sourceAt}
 use Rattle.domain.specs.Structure.{structureAt}
-use Rattle.domain_laws.specs.Shape.{Shaped}
+use Rattle.domain_laws.specs.Shape.{DomainShaped}
 use Rattle.config.specs.Config.{keptConfig}
 use Rattle.wired.specs.Wired.{isDelegated}
 use Rattle.source_rules.specs.SourceRules.{modeRange, targetRange, inactiveRule, levelRule, sourceSteady}
 use Rattle.source_rules.specs.SourceRules.{sentRule, sourceSound}
-use Rattle.rules.specs.Rules.{configRange, generatedRange, structureRange, zeroRule, generatedRule}
+use Rattle.rules.specs.Rules.{configRange, generatedRange, structureRange, sourceZeroRule, generatedRule}
 use Rattle.rules.specs.Rules.{sourceRule, domainSound, delegatedRule, wiredSound}
 use Rattle.block.specs.Block.{boardSound}
 use Rattle.block.specs.Start.{startFile, startFilesFrom, startDomain, startBoard}
@@ -36,7 +36,7 @@ start-files-sound = refl
 
 start-wired-sound : wiredSound (startBoard .wired) ≡ true
 unfolding startBoard startDomain wiredSound domainSound configRange generatedRange structureRange
-    zeroRule generatedRule sourceRule delegatedRule sourceSound sourceSteady sentRule modeRange
+    sourceZeroRule generatedRule sourceRule delegatedRule sourceSound sourceSteady sentRule modeRange
     targetRange inactiveRule levelRule isDelegated keptConfig structureAt sourceAt configOf isEnabled
     byMessages generatedAt deliverySound keptGenerated isActive isLevel keptMode sourceWord every member
     hasBit bitOf hartOf numberOf fieldOf packed
@@ -60,7 +60,7 @@ start-shaped =
     start-long : (k : ℕ) → Long (startFile k)
     start-long k = unfold startFile in record { pendingLong = refl; enableLong = refl }
 
-    domain-shaped : Shaped startDomain
+    domain-shaped : DomainShaped startDomain
     domain-shaped =
         unfold startDomain in
         record { sources = refl; targets = refl; pendings = refl; enables = refl; deliveries = refl }

@@ -5,12 +5,12 @@ use mathlib.Core.Path.{_≡_}
 use lib.ListN.{length}
 use Rattle.file_laws.proofs.Stored.{Long}
 use Rattle.files.specs.Files.{theFile}
-use Rattle.domain_laws.specs.Shape.{Shaped}
+use Rattle.domain_laws.specs.Shape.{DomainShaped}
 use Rattle.block.specs.Block.{Board}
 
 pub record BoardShaped (b : Board) : Type 0 where
   pub many : length (b .files) ≡ 20
   pub long : (k : ℕ) → k < 20 → Long (theFile (b .files) k)
   pub wires : length (b .wired .wires) ≡ 2
-  pub root : Shaped (b .wired .root)
-  pub child : Shaped (b .wired .child)
+  pub root : DomainShaped (b .wired .root)
+  pub child : DomainShaped (b .wired .child)

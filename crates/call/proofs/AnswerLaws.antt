@@ -11,13 +11,13 @@ use types.Run.{OneOf, miss}
 use Rattle.call.specs.declared.Answer.{Answer}
 use Rattle.call.specs.declared.Answer.the-variants.{Done, StateLength, LogLength, BrokenRule, NoSuch}
 use Rattle.call.specs.declared.Answer.the-variants.{BadAddress, IllegalSelect}
-use Rattle.call.specs.Answer.{numberOf, Refuses}
+use Rattle.call.specs.Answer.{refusalNumber, Refuses}
 use Rattle.call.proofs.Answer.{the-type}
 
 abbrev pub NotDone : Answer → Type 0
 NotDone r = OneOf (1 ∷ 2 ∷ 3 ∷ 4 ∷ 5 ∷ 6 ∷ []) (tagOf the-type r)
 
-pub refused-case : (r : Answer) → NotDone r → numberOf r ≢ 0
+pub refused-case : (r : Answer) → NotDone r → refusalNumber r ≢ 0
 refused-case (Done v n) k z = miss (1 ∷ 2 ∷ 3 ∷ 4 ∷ 5 ∷ 6 ∷ []) 0 tt k
 refused-case StateLength k z = omega arith
 refused-case LogLength k z = omega arith
@@ -28,4 +28,4 @@ refused-case IllegalSelect k z = omega arith
 
 -- a test that answers the refusal n, and its answer is Done
 pub done-case : (r : Answer) (n : ℕ) → Refuses r n → {v m : ℕ} → r ≡ Done v m → n ≡ 0
-done-case r n e d = sym (e .number) ∙ ap numberOf d
+done-case r n e d = sym (e .number) ∙ ap refusalNumber d

@@ -15,7 +15,7 @@ use Rattle.block.specs.Block.{Board, boardOf, boardSound}
 use Rattle.call.specs.declared.Answer.{Answer}
 use Rattle.call.specs.declared.Call.{Call}
 use Rattle.call.specs.Answer.{Refuses}
-use Rattle.call.specs.Refusal.{testsRules, named, addressed, selected, Test, firstFailed, blockTests}
+use Rattle.call.specs.Refusal.{testsRules, present, addressed, selected, Test, firstFailed, blockTests}
 use Rattle.call.specs.Refusal.{nameTests, blockRefusal, nameRefusal, refusalOf}
 use Rattle.call.proofs.AnswerLaws.{NotDone, refused-case}
 
@@ -103,11 +103,11 @@ module _ (t : Bool) (l g : List ℕ) (z : blockRefusal t l g ≡ 0) where
 -- ---- of the numbers
 
 module _ (c : Call) (b : Board) where
-  pub refused-name : named c b ≡ false → nameRefusal c b ≡ 4
+  pub refused-name : present c b ≡ false → nameRefusal c b ≡ 4
   unfolding nameRefusal nameTests firstFailed
   refused-name n = simp n
 
-  module _ (n : named c b ≡ true) where
+  module _ (n : present c b ≡ true) where
     pub refused-address : addressed c ≡ false → nameRefusal c b ≡ 5
     unfolding nameRefusal nameTests firstFailed
     refused-address a = simp (n, a)

@@ -1,7 +1,7 @@
 -- What a call does, all in all. 01, "Calls and their refusals", "The wired controller". Assumes nothing.
 --   Stepped           the board after a call, its value, the messages that it sent, in order, and the record
---   settled x         x, then each domain sends what is to be sent, and every message reaches its file
---   step c b s        what an accepted call does: its change, settled; s is the record of a move
+--   thenSent x         x, then each domain sends what is to be sent, and every message reaches its file
+--   step c b s        what an accepted call does: its change, thenSent; s is the record of a move
 --   Outcome           refusal, value and count, the block, the log and the record after the call
 --   outcome c l g s   what the call c does with the block l, the log g and the record s: refused, it answers
 --                     0 and 0 and changes nothing
@@ -19,7 +19,7 @@ use Rattle.controller.specs.Controller.{flushed}
 use Rattle.block.specs.Block.{Board, boardOf, blockOf}
 use Rattle.call.specs.declared.Answer.{Answer}
 use Rattle.call.specs.declared.Call.{Call}
-use Rattle.call.specs.Answer.{numberOf, valueOf, countOf}
+use Rattle.call.specs.Answer.{refusalNumber, answerValue, answerCount}
 use Rattle.call.specs.Refusal.{refusalOf}
 use Rattle.call.specs.Change.{Changed, change}
 
@@ -29,8 +29,8 @@ pub record Stepped : Type 0 where
   pub messages : List ℕ
   pub saved : List ℕ
 
-unfoldable pub settled : Changed → Stepped
-settled x =
+unfoldable pub thenSent : Changed → Stepped
+thenSent x =
     let after = flushed (x .board .wired) in
     let ms = x .own ++ after .messages in
     record {
@@ -41,7 +41,7 @@ settled x =
     }
 
 unfoldable pub step : Call → Board → List ℕ → Stepped
-step c b s = settled (change c b s)
+step c b s = thenSent (change c b s)
 
 pub record Outcome : Type 0 where
   pub number : ℕ
@@ -70,9 +70,9 @@ outcome c l g s =
     let n = refusalOf c l g in cond (eqb n 0) (doneAs (step c (boardOf l) s) g) (refusedAs n l g s)
 
 pub record Gives (o : Outcome) (r : Answer) (l g s : List ℕ) : Type 0 where
-  pub number : numberOf r ≡ o .number
-  pub value : valueOf r ≡ o .value
-  pub count : countOf r ≡ o .count
+  pub number : refusalNumber r ≡ o .number
+  pub value : answerValue r ≡ o .value
+  pub count : answerCount r ≡ o .count
   pub block : l ≡ o .block
   pub log : g ≡ o .log
   pub saved : s ≡ o .saved

@@ -6,7 +6,8 @@
 --                        access n, 1 to 89
 --   isPageAddress a      a is a multiple of 4 in a page of 4,096 bytes
 --   testsRules c         the call tests the state rules: every one but reset
---   named c b            every hart, file, domain, wire, wire level and kind of access that c names is there;
+--   present c b            every hart, file, domain, wire, wire level and kind of access that c names is
+--                          there;
 --                        and an access of a move is not barred, as each is while the child domain of the
 --                        board b is in direct mode
 --   addressed c          its address is a multiple of 4 in its region or page
@@ -15,7 +16,7 @@
 --   firstFailed ts       the number of the first test of ts that is not passed, or 0
 --   blockTests t l g     the tests of the blocks, in their order: 1 the length of the block l, 2 that of the
 --                        log g, 3 the state rules of l, where t says that they are tested
---   nameTests c b        the tests of the numbers, in their order: 4 what is named, 5 the address, 6 the
+--   nameTests c b        the tests of the numbers, in their order: 4 what is present, 5 the address, 6 the
 --                        select number
 --   blockRefusal t l g   the refusal by the blocks, or 0
 --   nameRefusal c b      the refusal by the numbers, or 0
@@ -63,18 +64,18 @@ testsRules (Claim h f) = true
 testsRules (Signals h) = true
 testsRules (Move oh of nh nf n) = true
 
-unfoldable pub named : Call → Board → Bool
-named Reset b = true
-named (Wire w level) b = isWire w level
-named (DomainRead d a) b = ltb d 2
-named (DomainWrite d a v) b = ltb d 2
-named (PageRead h f a) b = isFile h f
-named (PageWrite h f a v) b = isFile h f
-named (Register h f k s v) b = isFile h f && ltb k 4
-named (Top h f) b = isFile h f
-named (Claim h f) b = isFile h f
-named (Signals h) b = ltb h 4
-named (Move oh of nh nf n) b = isMove oh of nh nf n && byMessages (b .wired .child)
+unfoldable pub present : Call → Board → Bool
+present Reset b = true
+present (Wire w level) b = isWire w level
+present (DomainRead d a) b = ltb d 2
+present (DomainWrite d a v) b = ltb d 2
+present (PageRead h f a) b = isFile h f
+present (PageWrite h f a v) b = isFile h f
+present (Register h f k s v) b = isFile h f && ltb k 4
+present (Top h f) b = isFile h f
+present (Claim h f) b = isFile h f
+present (Signals h) b = ltb h 4
+present (Move oh of nh nf n) b = isMove oh of nh nf n && byMessages (b .wired .child)
 
 unfoldable pub addressed : Call → Bool
 addressed Reset = true
@@ -119,7 +120,7 @@ blockTests t l g =
 
 unfoldable pub nameTests : Call → Board → List Test
 nameTests c b =
-    record { number = 4; passed = named c b }
+    record { number = 4; passed = present c b }
     ∷ record { number = 5; passed = addressed c }
     ∷ record { number = 6; passed = selected c }
     ∷ []

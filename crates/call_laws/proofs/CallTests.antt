@@ -16,7 +16,7 @@ use Rattle.call.specs.declared.Answer.{Answer}
 use Rattle.call.specs.declared.Answer.the-variants.{Done, NoSuch, BadAddress, IllegalSelect}
 use Rattle.call.specs.declared.Call.{Call}
 use Rattle.call.specs.Answer.{Refuses}
-use Rattle.call.specs.Refusal.{testsRules, named, addressed, selected, blockRefusal, nameRefusal}
+use Rattle.call.specs.Refusal.{testsRules, present, addressed, selected, blockRefusal, nameRefusal}
 use Rattle.call.specs.Outcome.{Stepped, step, outcome, Gives, Does}
 use Rattle.call.proofs.AnswerLaws.{NotDone}
 use Rattle.call.proofs.RefusalLaws.{passed-state, passed-rules, numbers-name}
@@ -26,7 +26,7 @@ use Rattle.call_laws.proofs.StepEffects.{wiredStep}
 
 pub record Tests (c : Call) (n : Board → Bool) (a s : Bool) : Type 0 where
   pub rules : testsRules c ≡ true
-  pub names : (b : Board) → named c b ≡ n b
+  pub names : (b : Board) → present c b ≡ n b
   pub addresses : addressed c ≡ a
   pub selects : selected c ≡ s
 

@@ -26,7 +26,7 @@ use Rattle.block.proofs.BlockLaws.{board-path, files-long, files-part, filesPut
 use Rattle.call.specs.declared.Answer.the-variants.{Done}
 use Rattle.call.specs.declared.Call.the-variants.{PageRead, PageWrite, Register, Top, Claim}
 use Rattle.call.specs.Change.{kindOf, change}
-use Rattle.call.specs.Refusal.{testsRules, named, addressed, selected, isFile, isPageAddress, blockRefusal}
+use Rattle.call.specs.Refusal.{testsRules, present, addressed, selected, isFile, isPageAddress, blockRefusal}
 use Rattle.call.specs.Outcome.{step, Does}
 use Rattle.call_laws.proofs.StepEffects.{step-onFile, step-answering}
 use Rattle.call_laws.proofs.CallTests.{Tests, quiet, checked-long, checked-sound, tests-done}
@@ -84,24 +84,24 @@ module _ (l : List ℕ) (long : length l ≡ 650) (h f : ℕ) (x : File) where
 
 module _ (h f : ℕ) where
   pub tests-pageRead : (a : ℕ) → Tests (PageRead h f a) (λ b. isFile h f) (isPageAddress a) true
-  unfolding testsRules named addressed selected
+  unfolding testsRules present addressed selected
   tests-pageRead a = record { rules = refl; names = λ b. refl; addresses = refl; selects = refl }
 
   pub tests-pageWrite : (a v : ℕ) → Tests (PageWrite h f a v) (λ b. isFile h f) (isPageAddress a) true
-  unfolding testsRules named addressed selected
+  unfolding testsRules present addressed selected
   tests-pageWrite a v = record { rules = refl; names = λ b. refl; addresses = refl; selects = refl }
 
   pub tests-register : (k s v : ℕ) → Tests (Register h f k s v) (λ b. isFile h f && ltb k 4) true
       (selectLegal s)
-  unfolding testsRules named addressed selected
+  unfolding testsRules present addressed selected
   tests-register k s v = record { rules = refl; names = λ b. refl; addresses = refl; selects = refl }
 
   pub tests-top : Tests (Top h f) (λ b. isFile h f) true true
-  unfolding testsRules named addressed selected
+  unfolding testsRules present addressed selected
   tests-top = record { rules = refl; names = λ b. refl; addresses = refl; selects = refl }
 
   pub tests-claim : Tests (Claim h f) (λ b. isFile h f) true true
-  unfolding testsRules named addressed selected
+  unfolding testsRules present addressed selected
   tests-claim = record { rules = refl; names = λ b. refl; addresses = refl; selects = refl }
 
 -- ---- what each call does to a sound board, where x is its file

@@ -7,7 +7,7 @@ use lib.ListN.{getD}
 use Rattle.call.specs.declared.Answer.{Answer}
 use Rattle.call.specs.declared.Answer.the-variants.{Done, StateLength, LogLength, BrokenRule, NoSuch}
 use Rattle.call.specs.declared.Answer.the-variants.{BadAddress, IllegalSelect}
-use Rattle.call.specs.Answer.{numberOf, valueOf, countOf}
+use Rattle.call.specs.Answer.{refusalNumber, answerValue, answerCount}
 use Rattle.call.specs.declared.Call.{Call}
 use Rattle.call.specs.Outcome.{Outcome, outcome, Gives}
 
@@ -17,7 +17,7 @@ told k v n =
     let cases = Done v n ∷ StateLength ∷ LogLength ∷ BrokenRule ∷ NoSuch ∷ BadAddress ∷ IllegalSelect ∷ [] in
     getD cases k (Done v n)
 
-told-back : (r : Answer) → told (numberOf r) (valueOf r) (countOf r) ≡ r
+told-back : (r : Answer) → told (refusalNumber r) (answerValue r) (answerCount r) ≡ r
 unfolding told
 told-back (Done v n) = refl
 told-back StateLength = refl
@@ -28,7 +28,8 @@ told-back BadAddress = refl
 told-back IllegalSelect = refl
 
 -- an answer is settled by its refusal, value and count
-pub answer-one : (r s : Answer) → numberOf r ≡ numberOf s → valueOf r ≡ valueOf s → countOf r ≡ countOf s
+pub answer-one : (r s : Answer) → refusalNumber r ≡ refusalNumber s → answerValue r ≡ answerValue s
+    → answerCount r ≡ answerCount s
     → r ≡ s
 answer-one r s a v n = sym (told-back r) ∙ (λ k. told (a k) (v k) (n k)) ∙ told-back s
 

@@ -29,7 +29,7 @@ use Rattle.call.specs.declared.Answer.the-variants.{Done}
 use Rattle.call.specs.declared.Call.the-variants.{Reset, Signals}
 use Rattle.call.specs.Answer.{Refuses}
 use Rattle.call.specs.Change.{signalAt, signalsTo, change}
-use Rattle.call.specs.Refusal.{testsRules, named, addressed, selected, blockRefusal, nameRefusal}
+use Rattle.call.specs.Refusal.{testsRules, present, addressed, selected, blockRefusal, nameRefusal}
 use Rattle.call.specs.Outcome.{step, Does}
 use Rattle.call.proofs.AnswerLaws.{NotDone}
 use Rattle.call.proofs.RefusalLaws.{passed-state, numbers-name}
@@ -40,7 +40,7 @@ use Rattle.call_laws.proofs.CallTests.{Tests, quiet, checked-long, chec
 -- ---- a reset
 
 reset-names : (b : Board) → nameRefusal Reset b ≡ 0
-unfolding named addressed selected
+unfolding present addressed selected
 reset-names b = numbers-name Reset b refl refl refl
 
 module _ (l g : List ℕ) where
@@ -121,7 +121,7 @@ signal-guest-own b h f l =
 -- ---- the signals of a hart
 
 pub tests-signals : (h : ℕ) → Tests (Signals h) (λ b. ltb h 4) true true
-unfolding testsRules named addressed selected
+unfolding testsRules present addressed selected
 tests-signals h = record { rules = refl; names = λ b. refl; addresses = refl; selects = refl }
 
 step-signals : (b : Board) → boardSound b ≡ true → (h : ℕ) (u : List ℕ)

@@ -34,8 +34,8 @@ use Rattle.block.specs.Block.{Board}
 use Rattle.call.specs.declared.Call.{Call}
 use Rattle.call.specs.declared.Call.the-variants as call
 use Rattle.call.specs.Change.{kindOf, onFile, answering, change}
-use Rattle.call.specs.Refusal.{isWire, isFile, isMove, named}
-use Rattle.call.specs.Outcome.{Stepped, settled, step}
+use Rattle.call.specs.Refusal.{isWire, isFile, isMove, present}
+use Rattle.call.specs.Outcome.{Stepped, thenSent, step}
 use Rattle.call_laws.specs.Small.{Small}
 use Rattle.call_laws.specs.Fit.{Fit, SavedFit, Kept}
 use Rattle.call_laws.proofs.StepEffects.{sound-quiet, wiredStep, step-wire, step-domainRead}
@@ -56,12 +56,12 @@ module _ (b : Board) (fit : Fit b) (s : List ℕ) (small : SavedFit s) where
 
   -- ---- a call that changes nothing, or one file
 
-  pub kept-answering : (v : ℕ) → Kept (settled (answering b v s))
+  pub kept-answering : (v : ℕ) → Kept (thenSent (answering b v s))
   kept-answering v =
       kept-of (step-answering b (fit .sound) v s) record { fit = fit; few = omega arith; saved = small }
 
   kept-onFile : (k : ℕ) (f : File) (v : ℕ) → Shaped f → Rules identities (isGuest k) f
-      → Kept (settled (onFile b k f v s))
+      → Kept (thenSent (onFile b k f v s))
   kept-onFile k f v shaped rules =
       kept-of (step-onFile b (fit .sound) k f v s)
       record { fit = fit-withFile b fit k f shaped rules; few = omega arith; saved = small }
@@ -155,8 +155,8 @@ module _ (b : Board) (fit : Fit b) (s : List ℕ) (small : SavedFit s) where
 
   -- ---- every call
 
-  pub kept-step : (c : Call) → named c b ≡ true → Small c → Kept (step c b s)
-  unfolding named step change
+  pub kept-step : (c : Call) → present c b ≡ true → Small c → Kept (step c b s)
+  unfolding present step change
   kept-step call.Reset n t = kept-reset
   kept-step (call.Wire i level) n t = kept-wire i level n
   kept-step (call.DomainRead d a) n t = kept-domainRead d a

@@ -33,7 +33,7 @@ use Rattle.block.specs.Block.{Board, boardOf, boardSound}
 use Rattle.block_laws.proofs.BlockBack.{boardOf-shaped}
 use Rattle.call.specs.declared.Answer.the-variants.{Done, NoSuch}
 use Rattle.call.specs.declared.Call.the-variants.{Move}
-use Rattle.call.specs.Refusal.{testsRules, named, addressed, selected, isFile, isGuestFile, isMove}
+use Rattle.call.specs.Refusal.{testsRules, present, addressed, selected, isFile, isGuestFile, isMove}
 use Rattle.call.specs.Refusal.{blockRefusal}
 use Rattle.call.specs.Move.{registerOn, withOne, retargetedIn, acted}
 use Rattle.call.specs.Outcome.{outcome, Gives, Does}
@@ -146,7 +146,7 @@ child-config l long sound = config-low (steady-domainIn (boardOf l .wired) (bloc
 
 pub tests-move : (oh of nh nf n : ℕ)
     → Tests (Move oh of nh nf n) (λ b. isMove oh of nh nf n && byMessages (b .wired .child)) true true
-unfolding testsRules named addressed selected
+unfolding testsRules present addressed selected
 tests-move oh of nh nf n = record { rules = refl; names = λ b. refl; addresses = refl; selects = refl }
 
 module _ (l g : List ℕ) (z : blockRefusal true l g ≡ 0) (oh of nh nf n : ℕ) where

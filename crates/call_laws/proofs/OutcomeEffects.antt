@@ -14,8 +14,8 @@ use Rattle.block_laws.proofs.BlockBack.{block-back}
 use Rattle.call.specs.declared.Answer.{Answer}
 use Rattle.call.specs.declared.Answer.the-variants.{Done, NoSuch, BadAddress, IllegalSelect}
 use Rattle.call.specs.declared.Call.{Call}
-use Rattle.call.specs.Answer.{numberOf, valueOf, countOf, Refuses}
-use Rattle.call.specs.Refusal.{testsRules, named, addressed, selected, blockRefusal, nameRefusal}
+use Rattle.call.specs.Answer.{refusalNumber, answerValue, answerCount, Refuses}
+use Rattle.call.specs.Refusal.{testsRules, present, addressed, selected, blockRefusal, nameRefusal}
 use Rattle.call.specs.Refusal.{refusalOf}
 use Rattle.call.specs.Outcome.{Stepped, step, Outcome, refusedAs, doneAs, outcome, Gives, Does}
 use Rattle.call.proofs.AnswerLaws.{NotDone, refused-case}
@@ -35,8 +35,9 @@ module _ (c : Call) (l g : List ℕ) where
   outcome-done s e = simp (eq-eqb (refusalOf c l g) 0 e)
 
   -- an answer with the refusal's number, and 0 and 0
-  gives-number : (k : ℕ) → refusalOf c l g ≡ k → k ≢ 0 → (r : Answer) → numberOf r ≡ k → valueOf r ≡ 0
-      → countOf r ≡ 0 → Does c l g r l g
+  gives-number : (k : ℕ) → refusalOf c l g ≡ k → k ≢ 0 → (r : Answer) → refusalNumber r ≡ k → answerValue r
+      ≡ 0
+      → answerCount r ≡ 0 → Does c l g r l g
   gives-number k e h r a v n s =
       subst (λ (o : Outcome). Gives o r l g s) (sym (outcome-refused s k e h))
       record { number = a; value = v; count = n; block = refl; log = refl; saved = refl }
@@ -47,24 +48,25 @@ module _ (c : Call) (l g : List ℕ) where
   -- r is what the test of the blocks answered
   pub gives-blocks : (r : Answer) → Refuses r (blockRefusal (testsRules c) l g) → NotDone r → Does c l g r l g
   gives-blocks r e d =
-      gives-number c l g (numberOf r) (refused-blocks c l g (numberOf r) (e .number) (refused-case r d))
+      gives-number c l g (refusalNumber r) (refused-blocks c l g (refusalNumber r) (e .number)
+      (refused-case r d))
       (refused-case r d) r refl (e .value) (e .count)
 
   module _ (z : blockRefusal (testsRules c) l g ≡ 0) where
     abbrev b : Board
     b = boardOf l
 
-    pub gives-name : named c b ≡ false → Does c l g NoSuch l g
+    pub gives-name : present c b ≡ false → Does c l g NoSuch l g
     gives-name n =
         gives-number c l g 4 (refused-numbers c l g z ∙ refused-name c b n) (λ q. omega arith) NoSuch
         refl refl refl
 
-    pub gives-address : named c b ≡ true → addressed c ≡ false → Does c l g BadAddress l g
+    pub gives-address : present c b ≡ true → addressed c ≡ false → Does c l g BadAddress l g
     gives-address n a =
         gives-number c l g 5 (refused-numbers c l g z ∙ refused-address c b n a) (λ q. omega arith)
         BadAddress refl refl refl
 
-    pub gives-select : named c b ≡ true → addressed c ≡ true → selected c ≡ false
+    pub gives-select : present c b ≡ true → addressed c ≡ true → selected c ≡ false
         → Does c l g IllegalSelect l g
     gives-select n a s =
         gives-number c l g 6 (refused-numbers c l g z ∙ refused-select c b n a s) (λ q. omega arith)

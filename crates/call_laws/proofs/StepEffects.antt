@@ -21,7 +21,7 @@ use Rattle.block.specs.Start.{startBoard}
 use Rattle.block_laws.proofs.StartEffects.{start-sound}
 use Rattle.call.specs.declared.Call.the-variants as call
 use Rattle.call.specs.Change.{Changed, onFile, answering, change}
-use Rattle.call.specs.Outcome.{Stepped, settled, step}
+use Rattle.call.specs.Outcome.{Stepped, thenSent, step}
 
 -- ---- the two parts of a sound board
 
@@ -52,18 +52,18 @@ wiredStep b o v s =
 module _ (b : Board) where
   pub step-wire : (i level : ℕ) (s : List ℕ)
       → step (call.Wire i level) b s ≡ wiredStep b (wireCall (b .wired) i (eqb level 1)) 0 s
-  unfolding step settled change wireCall
+  unfolding step thenSent change wireCall
   step-wire i level s = refl
 
   pub step-domainRead : (d a : ℕ) (s : List ℕ)
       → step (call.DomainRead d a) b s
       ≡ wiredStep b (readCall (b .wired) (eqb d 1) (wordAt a)) (readIn (b .wired) (eqb d 1) (wordAt a)) s
-  unfolding step settled change readCall
+  unfolding step thenSent change readCall
   step-domainRead d a s = refl
 
   pub step-domainWrite : (d a v : ℕ) (s : List ℕ)
       → step (call.DomainWrite d a v) b s ≡ wiredStep b (writeCall (b .wired) (eqb d 1) (wordAt a) v) 0 s
-  unfolding step settled change writeCall
+  unfolding step thenSent change writeCall
   step-domainWrite d a v s = refl
 
 -- where the messages of a wire go: no file, or the one that its message names
@@ -90,19 +90,19 @@ module _ (b : Board) (i level : ℕ) (s : List ℕ) where
 
 -- a change with nothing to send
 pub settled-quiet : (x : Changed) → WiredQuiet (x .board .wired) → x .own ≡ []
-    → settled x ≡ record { board = x .board; value = x .value; messages = []; saved = x .saved }
-unfolding settled allReached
+    → thenSent x ≡ record { board = x .board; value = x .value; messages = []; saved = x .saved }
+unfolding thenSent allReached
 settled-quiet x q none = rw (flushed-quiet (x .board .wired) q, none)
 
 module _ (b : Board) (sound : boardSound b ≡ true) where
   -- one file k becomes f
   pub step-onFile : (k : ℕ) (f : File) (v : ℕ) (s : List ℕ)
-      → settled (onFile b k f v s)
+      → thenSent (onFile b k f v s)
       ≡ record { board = onFile b k f v s .board; value = v; messages = []; saved = s }
   step-onFile k f v s = settled-quiet (onFile b k f v s) (sound-quiet b sound) refl
 
   pub step-answering : (v : ℕ) (s : List ℕ)
-      → settled (answering b v s) ≡ record { board = b; value = v; messages = []; saved = s }
+      → thenSent (answering b v s) ≡ record { board = b; value = v; messages = []; saved = s }
   step-answering v s = settled-quiet (answering b v s) (sound-quiet b sound) refl
 
 pub step-reset : (b : Board) (s : List ℕ)

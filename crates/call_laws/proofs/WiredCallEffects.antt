@@ -16,7 +16,7 @@ use Rattle.controller.specs.Controller.{wireCall, readCall, writeCall}
 use Rattle.block.specs.Block.{Board, boardOf}
 use Rattle.call.specs.declared.Answer.the-variants.{Done}
 use Rattle.call.specs.declared.Call.the-variants.{Wire, DomainRead, DomainWrite}
-use Rattle.call.specs.Refusal.{isWire, testsRules, named, addressed, selected, blockRefusal}
+use Rattle.call.specs.Refusal.{isWire, testsRules, present, addressed, selected, blockRefusal}
 use Rattle.call.specs.Outcome.{Stepped, Does}
 use Rattle.call_laws.specs.Left.{Left}
 use Rattle.call_laws.proofs.CallTests.{Tests, tests-done, tests-sent}
@@ -46,15 +46,15 @@ wiredSent b w v ms s = wiredStep b (record { wired = w; messages = ms }) v s
 -- ---- what each call tests
 
 pub tests-wire : (i level : ℕ) → Tests (Wire i level) (λ b. isWire i level) true true
-unfolding testsRules named addressed selected
+unfolding testsRules present addressed selected
 tests-wire i level = record { rules = refl; names = λ b. refl; addresses = refl; selects = refl }
 
 pub tests-domainRead : (d a : ℕ) → Tests (DomainRead d a) (λ b. ltb d 2) (addressLegal a) true
-unfolding testsRules named addressed selected
+unfolding testsRules present addressed selected
 tests-domainRead d a = record { rules = refl; names = λ b. refl; addresses = refl; selects = refl }
 
 pub tests-domainWrite : (d a v : ℕ) → Tests (DomainWrite d a v) (λ b. ltb d 2) (addressLegal a) true
-unfolding testsRules named addressed selected
+unfolding testsRules present addressed selected
 tests-domainWrite d a v = record { rules = refl; names = λ b. refl; addresses = refl; selects = refl }
 
 -- ---- what an accepted call gives

@@ -18,7 +18,7 @@ use Rattle.block.specs.Block.{Board, boardOf}
 use Rattle.block_laws.proofs.BlockBack.{block-back, board-back, length-blockOf}
 use Rattle.block_laws.proofs.StartEffects.{start-sound}
 use Rattle.call.specs.declared.Call.{Call}
-use Rattle.call.specs.Refusal.{testsRules, named, blockRefusal, nameRefusal, refusalOf}
+use Rattle.call.specs.Refusal.{testsRules, present, blockRefusal, nameRefusal, refusalOf}
 use Rattle.call.specs.Change.{signalAt}
 use Rattle.call.specs.Outcome.{outcome}
 use Rattle.call.proofs.RefusalLaws.{refused-state, refused-log, refused-rules, blocks-sound, blocks-untested}
@@ -102,8 +102,8 @@ accepted c l g e = at (ℕ-discrete (blockRefusal (testsRules c) l g) 0)
     at (yes z) = (z, sym (refused-numbers c l g z) ∙ e)
     at (no n) = absurd (n (sym (refused-blocks c l g _ refl n) ∙ e))
 
-names : (c : Call) (b : Board) → nameRefusal c b ≡ 0 → named c b ≡ true
-names c b e = tested (named c b) (λ y. y) (λ n. absurd (omega (arith, refused-name c b n, e)))
+names : (c : Call) (b : Board) → nameRefusal c b ≡ 0 → present c b ≡ true
+names c b e = tested (present c b) (λ y. y) (λ n. absurd (omega (arith, refused-name c b n, e)))
 
 pub claim-86 : Claim-86
 unfolding Claim-86

@@ -24,11 +24,11 @@ use Rattle.call.specs.declared.Call.{Call}
 use Rattle.call.specs.declared.Call.the-variants.{Reset, Wire, DomainRead, DomainWrite, PageRead, PageWrite}
 use Rattle.call.specs.declared.Call.the-variants.{Register, Top, Claim, Signals, Move}
 use Rattle.call.specs.Change.{onFile, answering, change}
-use Rattle.call.specs.Refusal.{testsRules, named, addressed, selected, isWire, isFile, isGuestFile, isMove}
+use Rattle.call.specs.Refusal.{testsRules, present, addressed, selected, isWire, isFile, isGuestFile, isMove}
 use Rattle.call.specs.Refusal.{isPageAddress}
 use Rattle.call.proofs.RefusalLaws.{numbers-name}
 use Rattle.call.specs.Refusal.{refusalOf}
-use Rattle.call.specs.Outcome.{Stepped, settled, step}
+use Rattle.call.specs.Outcome.{Stepped, thenSent, step}
 use Rattle.call_laws.proofs.StepEffects.{step-onFile, step-answering}
 use Rattle.runs.specs.Ready.{boardIn}
 use Rattle.runs.proofs.RunsEffects.{ready-refusal}
@@ -43,7 +43,7 @@ use Rattle.claims.proofs.BoardCalls.{claim-84}
 -- ---- one file
 
 module _ (b : Board) (sound : boardSound b ≡ true) where
-  on-file : (k : ℕ) (f : File) (v : ℕ) (u : List ℕ) → OnlyFile k b (settled (onFile b k f v u) .board)
+  on-file : (k : ℕ) (f : File) (v : ℕ) (u : List ℕ) → OnlyFile k b (thenSent (onFile b k f v u) .board)
   on-file k f v u =
       let e = step-onFile b sound k f v u in
       record {
@@ -52,7 +52,7 @@ module _ (b : Board) (sound : boardSound b ≡ true) where
         wired = ap (λ (s : Stepped). s .board .wired) e;
       }
 
-  answers : (v : ℕ) (u : List ℕ) → settled (answering b v u) .board ≡ b
+  answers : (v : ℕ) (u : List ℕ) → thenSent (answering b v u) .board ≡ b
   answers v u = ap (λ (s : Stepped). s .board) (step-answering b sound v u)
 
 pub claim-91 : Claim-91
@@ -108,30 +108,30 @@ module _ (c : Call) where
   unfolding Claim-84
   three t = given c broken log 3 (claim-84 c broken log .2 refl refl t broken-breaks)
 
-  four : named c (boardOf start) ≡ false → Given c 4
+  four : present c (boardOf start) ≡ false → Given c 4
   unfolding Claim-84
   four n = given c start log 4 (claim-84 c start log .3 passes n)
 
-  five : named c (boardOf start) ≡ true → addressed c ≡ false → Given c 5
+  five : present c (boardOf start) ≡ true → addressed c ≡ false → Given c 5
   unfolding Claim-84
   five n a = given c start log 5 (claim-84 c start log .4 passes n a)
 
-  six : named c (boardOf start) ≡ true → addressed c ≡ true → selected c ≡ false → Given c 6
+  six : present c (boardOf start) ≡ true → addressed c ≡ true → selected c ≡ false → Given c 6
   unfolding Claim-84
   six n a s = given c start log 6 (claim-84 c start log .5 passes n a s)
 
-  done : named c (boardOf start) ≡ true → addressed c ≡ true → selected c ≡ true → Given c 0
+  done : present c (boardOf start) ≡ true → addressed c ≡ true → selected c ≡ true → Given c 0
   unfolding Claim-84
   done n a s = given c start log 0 (claim-84 c start log .6 passes n a s)
 
 -- after a reset the child domain is in direct mode
-direct : named (Move 0 2 1 3 1) (boardOf start) ≡ false
-unfolding named isMove isGuestFile startBoard startDomain byMessages configOf hasBit bitOf
+direct : present (Move 0 2 1 3 1) (boardOf start) ≡ false
+unfolding present isMove isGuestFile startBoard startDomain byMessages configOf hasBit bitOf
 direct = ap (λ (b : Board). byMessages (b .wired .child)) (board-back startBoard start-shaped)
 
 -- the shift of Claim-111 starts with a child domain that sends messages
 accepted : Given (Move 0 2 1 3 1) 0
-unfolding named addressed selected isMove isGuestFile ByMessages
+unfolding present addressed selected isMove isGuestFile ByMessages
 accepted =
     let c = Move 0 2 1 3 1 in
     let p = example .premises in
@@ -140,7 +140,7 @@ accepted =
     ∙ numbers-name c (boardIn shift-start) (p .messages) refl refl)
 
 pub claim-92 : Claim-92
-unfolding Claim-92 named addressed selected isWire isFile isGuestFile isMove isPageAddress addressLegal
+unfolding Claim-92 present addressed selected isWire isFile isGuestFile isMove isPageAddress addressLegal
     selectLegal
 claim-92 = (
   (λ c. (one c, two c)),

@@ -14,7 +14,7 @@ use Rattle.delivery.specs.Delivery.{lets}
 use Rattle.domain.specs.Domain.{Domain, configOf, generatedAt}
 use Rattle.domain.specs.Slot.{sourceAt}
 use Rattle.domain.specs.Structure.{structureAt}
-use Rattle.direct.specs.Direct.{standing, eligible, topSource, claimed}
+use Rattle.direct.specs.Direct.{standing, eligible, topSource, hartClaimed}
 use Rattle.direct_laws.proofs.TopEffects.{topi-least, topi-is, topi-zero, topi-zero-iff, topi-messages}
 use Rattle.direct_laws.proofs.ClaimEffects.{claim-zero, claim-other, claim-level, claim-other-mode}
 use Rattle.direct_laws.proofs.ClaimEffects.{signal-iff}
@@ -94,7 +94,7 @@ unfolding Claim-49
 claim-49 d h shaped direct answers =
     let some : topSource d h ≢ 0 = λ z. answers (topi-zero d h direct .1 z) in
     let rest = claim-other d h direct some in
-    let own = own-same d (claimed d h) (rest .0 0 (λ e. some (sym e))) in (
+    let own = own-same d (hartClaimed d h) (rest .0 0 (λ e. some (sym e))) in (
       own .0,
       own .1,
       rest .1,

@@ -46,7 +46,7 @@ use Rattle.transfer_wired.proofs.StepThree.{only-start, next-miss, retargeted-o
 use Rattle.block.specs.Block.{Board}
 use Rattle.call.specs.declared.Call.the-variants.{Move}
 use Rattle.call.specs.Move.{retargetedIn, acted}
-use Rattle.call.specs.Refusal.{isGuestFile, isMove, named}
+use Rattle.call.specs.Refusal.{isGuestFile, isMove, present}
 use Rattle.call.specs.Outcome.{Stepped, step}
 use Rattle.call_laws.specs.Fit.{Fit}
 use Rattle.call_laws.proofs.CallTests.{quiet}
@@ -86,7 +86,7 @@ module _ (oh of nh nf : ℕ) where
       (λ f. rw f)
 
 pub claim-101 : Claim-101
-unfolding Claim-101 named isMove
+unfolding Claim-101 present isMove
 claim-101 b oh of nh nf n = (
   (λ e. let there = and-first (isMove oh of nh nf n) (byMessages (b .wired .child)) e in
       let old = move-old oh of nh nf n there in

@@ -17,7 +17,7 @@ use Rattle.source.specs.declared.Change.the-variants.{Pend, Clear}
 use Rattle.source.specs.Pending.{cleared, changed}
 use Rattle.domain.specs.Domain.{Domain, byMessages}
 use Rattle.domain.specs.Slot.{sourceAt}
-use Rattle.domain_laws.specs.Shape.{Shaped}
+use Rattle.domain_laws.specs.Shape.{DomainShaped}
 use Rattle.domain_laws.proofs.SlotEffects.{sourceAt-withSource-same}
 use Rattle.writes.specs.Writes.{wordChanged, numberChanged}
 use Rattle.writes_laws.specs.Named.{named}
@@ -34,7 +34,7 @@ use Rattle.claims.specs.Causes.{happens}
 use Rattle.claims.specs.Operations.{Claim-59}
 use Rattle.claims.proofs.Writes.{word-written}
 
-module _ (d : Domain) (wires : List ℕ) (family : Change) (shaped : Shaped d) (i : ℕ) (l : 1 ≤ i)
+module _ (d : Domain) (wires : List ℕ) (family : Change) (shaped : DomainShaped d) (i : ℕ) (l : 1 ≤ i)
     (h : i < 64) where
   -- what the family makes of source i
   abbrev made : Source
@@ -50,7 +50,7 @@ module _ (d : Domain) (wires : List ℕ) (family : Change) (shaped : Shaped d) (
   number-does =
       touched-numberChanged d wires family i shaped .source i l h ∙ rw (eq-eqb i i refl)
 
-claim-does : (d : Domain) (h i : ℕ) → Shaped d → i < 64 → i ≢ 0 → byMessages d ≡ false
+claim-does : (d : Domain) (h i : ℕ) → DomainShaped d → i < 64 → i ≢ 0 → byMessages d ≡ false
     → topSource d h ≡ i → sourceAt (claimedBy d (Claimi h)) i ≡ cleared (sourceAt d i) (byMessages d)
 unfolding released
 claim-does d h i shaped u n m e =

@@ -16,12 +16,12 @@ use Rattle.delivery.proofs.DeliveryLaws.{sound-iff}
 use Rattle.domain.specs.Domain.{Domain, configOf, isEnabled, byMessages, generatedAt}
 use Rattle.domain.specs.Slot.{sourceAt}
 use Rattle.domain.specs.Structure.{structureAt}
-use Rattle.domain_laws.specs.Shape.{Shaped}
+use Rattle.domain_laws.specs.Shape.{DomainShaped}
 use Rattle.domain_laws.proofs.SlotEffects.{domainOf-shaped}
 use Rattle.wired.specs.Wired.{Wired, wiredOf, isDelegated}
 use Rattle.wires.proofs.WiresLaws.{root-long, child-long}
 use Rattle.source_laws.proofs.ModeEffects.{active-delegated}
-use Rattle.rules.specs.Rules.{configRange, generatedRange, structureRange, zeroRule, generatedRule}
+use Rattle.rules.specs.Rules.{configRange, generatedRange, structureRange, sourceZeroRule, generatedRule}
 use Rattle.rules.specs.Rules.{delegatedRule, wiredSound}
 use Rattle.rules_laws.specs.Steady.{Steady, Quiet, WiredSteady, passed}
 use Rattle.rules_laws.proofs.SoundParts.{wired-sound-steady, wired-sound-quiet, wired-sound-joined}
@@ -48,7 +48,7 @@ claim-72 = (
 
 module _ (c : Bool) (ws : List ℕ) (d : Domain) where
   domain-on : Steady c ws d → Quiet d → DomainRules c ws d
-  unfolding configRange generatedRange structureRange zeroRule generatedRule isEnabled byMessages
+  unfolding configRange generatedRange structureRange sourceZeroRule generatedRule isEnabled byMessages
   domain-on s q =
       let range = eqb-true (configOf d) _ (s .config) in
       let generated = eqb-true (generatedAt d) _ (s .generated-range) in
@@ -64,8 +64,8 @@ module _ (c : Bool) (ws : List ℕ) (d : Domain) where
       }
 
   module _ (r : DomainRules c ws d) where
-    domain-of : Shaped d → Steady c ws d
-    unfolding configRange generatedRange structureRange zeroRule generatedRule isEnabled byMessages
+    domain-of : DomainShaped d → Steady c ws d
+    unfolding configRange generatedRange structureRange sourceZeroRule generatedRule isEnabled byMessages
     domain-of shaped =
         record {
           shaped = shaped;
@@ -90,7 +90,7 @@ module _ (c : Bool) (ws : List ℕ) (d : Domain) where
 
 module _ (w : Wired) where
   rules-on : Long w → wiredSound w ≡ true → WiredRules w
-  unfolding zeroRule delegatedRule
+  unfolding sourceZeroRule delegatedRule
   rules-on long e =
       let s = wired-sound-steady w e (long .0) (long .1) (long .2) in
       let q = wired-sound-quiet w e in
@@ -111,7 +111,7 @@ module _ (w : Wired) where
       (λ e. omega (arith, leb-false 1024 (sourceAt (w .root) i .mode) f))))
 
   rules-of : Long w → WiredRules w → wiredSound w ≡ true
-  unfolding zeroRule
+  unfolding sourceZeroRule
   rules-of long r =
       wired-sound-joined w
       record {

@@ -23,9 +23,9 @@ use Rattle.domain.specs.Slot.{sourceAt, withSource}
 use Rattle.domain.specs.Structure.{structureAt}
 use Rattle.config.specs.Config.{keptConfig, redeliveredAt, redeliveredFrom, modeSettled, configWritten}
 use Rattle.direct.specs.Direct.{standing, eligible, precedes, topFrom, topSource, topiOf}
-use Rattle.registers.specs.Read.{valueOf as readOf}
+use Rattle.registers.specs.Read.{registerValue as readOf}
 use Rattle.region.specs.Region.{wordAt, wordIn, nameIn, registers, addressLegal}
-use Rattle.call.specs.Refusal.{nameRefusal, nameTests, firstFailed, named, addressed, selected}
+use Rattle.call.specs.Refusal.{nameRefusal, nameTests, firstFailed, present, addressed, selected}
 use Rattle.claims.specs.Table.{table, same, holds}
 
 pub table-holds : holds table ≡ true
@@ -34,7 +34,7 @@ unfolding holds table same topOf topIdentity lowest qualifies passes member hasB
     standing eligible precedes lets structureAt sourceAt byMessages configOf hartOf guestOf numberOf fieldOf
     keptTarget receiverOf packed messageOf logWord readOf configWritten modeSettled keptConfig
     withConfig withGenerated redeliveredFrom redeliveredAt redelivered withSource isActive put remove
-    withoutBit wordAt wordIn nameIn registers nameRefusal nameTests firstFailed named addressed
+    withoutBit wordAt wordIn nameIn registers nameRefusal nameTests firstFailed present addressed
     selected addressLegal
 table-holds = refl
 

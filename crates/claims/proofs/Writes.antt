@@ -20,7 +20,7 @@ use Rattle.source.specs.Pending.{settled, redelivered}
 use Rattle.source.proofs.PendingLaws.{retargeted-inactive, retargeted-active}
 use Rattle.domain.specs.Domain.{Domain, byMessages, withConfig}
 use Rattle.domain.specs.Slot.{sourceAt}
-use Rattle.domain_laws.specs.Shape.{Shaped}
+use Rattle.domain_laws.specs.Shape.{DomainShaped}
 use Rattle.domain_laws.specs.Became.{Became}
 use Rattle.domain_laws.proofs.SlotEffects.{withSource-back}
 use Rattle.domain_laws.proofs.BecameEffects.{became-withConfig, became-messages, touched-as}
@@ -73,7 +73,7 @@ restarted m x s =
       messages = λ l e. absurd (not-same (isActive (s .mode)) (active-level (s .mode) l) f);
     })
 
-module _ (d : Domain) (wires : List ℕ) (v : ℕ) (shaped : Shaped d) where
+module _ (d : Domain) (wires : List ℕ) (v : ℕ) (shaped : DomainShaped d) where
   same-mode : byMessages d ≡ hasBit v 2 → configWritten d wires v ≡ withConfig d (keptConfig v)
   unfolding configWritten
   same-mode e =

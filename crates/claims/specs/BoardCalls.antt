@@ -26,7 +26,7 @@ use Rattle.call.specs.declared.Answer.{Answer}
 use Rattle.call.specs.declared.Call.{Call}
 use Rattle.call.specs.declared.Call.the-variants.{Reset, Wire, DomainRead, DomainWrite, PageRead, PageWrite}
 use Rattle.call.specs.declared.Call.the-variants.{Register, Top, Claim, Signals}
-use Rattle.call.specs.Refusal.{testsRules, named, addressed, selected, refusalOf}
+use Rattle.call.specs.Refusal.{testsRules, present, addressed, selected, refusalOf}
 use Rattle.call.specs.Change.{signalsTo}
 use Rattle.call.specs.Outcome.{Outcome, step, outcome, Gives, Does}
 use Rattle.call_laws.specs.Fit.{SavedFit}
@@ -110,10 +110,10 @@ Claim-84 =
     × (length l ≡ 650 → length g ≢ 63 → refusalOf c l g ≡ 2)
     × (length l ≡ 650 → length g ≡ 63 → testsRules c ≡ true → boardSound (boardOf l) ≡ false
     → refusalOf c l g ≡ 3)
-    × (Passes c l g → named c b ≡ false → refusalOf c l g ≡ 4)
-    × (Passes c l g → named c b ≡ true → addressed c ≡ false → refusalOf c l g ≡ 5)
-    × (Passes c l g → named c b ≡ true → addressed c ≡ true → selected c ≡ false → refusalOf c l g ≡ 6)
-    × (Passes c l g → named c b ≡ true → addressed c ≡ true → selected c ≡ true → refusalOf c l g ≡ 0)
+    × (Passes c l g → present c b ≡ false → refusalOf c l g ≡ 4)
+    × (Passes c l g → present c b ≡ true → addressed c ≡ false → refusalOf c l g ≡ 5)
+    × (Passes c l g → present c b ≡ true → addressed c ≡ true → selected c ≡ false → refusalOf c l g ≡ 6)
+    × (Passes c l g → present c b ≡ true → addressed c ≡ true → selected c ≡ true → refusalOf c l g ≡ 0)
 
 -- a refused call answers its number, 0 and 0, and changes neither block, nor the record of a move
 unfoldable pub Claim-85 : Type 0

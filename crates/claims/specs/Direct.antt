@@ -13,8 +13,8 @@ use Rattle.delivery.specs.Delivery.{withoutForce}
 use Rattle.domain.specs.Domain.{Domain, configOf, isEnabled, byMessages, generatedAt}
 use Rattle.domain.specs.Slot.{sourceAt}
 use Rattle.domain.specs.Structure.{structureAt, withStructure}
-use Rattle.domain_laws.specs.Shape.{Shaped}
-use Rattle.direct.specs.Direct.{eligible, topSource, topiOf, claimed, signalOf}
+use Rattle.domain_laws.specs.Shape.{DomainShaped}
+use Rattle.direct.specs.Direct.{eligible, topSource, topiOf, hartClaimed, signalOf}
 
 -- the priority number of source i
 abbrev pub priority : Domain → ℕ → ℕ
@@ -39,13 +39,13 @@ Claim-44 =
 
 -- by messages topi reads 0 and a claimi changes nothing
 unfoldable pub Claim-45 : Type 0
-Claim-45 = (d : Domain) (h : ℕ) → byMessages d ≡ true → (topiOf d h ≡ 0) × (claimed d h ≡ d)
+Claim-45 = (d : Domain) (h : ℕ) → byMessages d ≡ true → (topiOf d h ≡ 0) × (hartClaimed d h ≡ d)
 
 -- a claimi of 0 in direct mode clears iforce, and that alone
 unfoldable pub Claim-46 : Type 0
 Claim-46 =
     (d : Domain) (h : ℕ) → byMessages d ≡ false → topiOf d h ≡ 0
-    → claimed d h ≡ withStructure d h (withoutForce (structureAt d h))
+    → hartClaimed d h ≡ withStructure d h (withoutForce (structureAt d h))
 
 -- the signal: DM = 0, IE = 1, idelivery = 1, and iforce or topi not 0
 unfoldable pub Claim-47 : Type 0
@@ -69,10 +69,10 @@ Claim-48 =
 -- changes nothing else
 unfoldable pub Claim-49 : Type 0
 Claim-49 =
-    (d : Domain) (h : ℕ) → Shaped d → byMessages d ≡ false → topiOf d h ≢ 0
-    → (configOf (claimed d h) ≡ configOf d) × (generatedAt (claimed d h) ≡ generatedAt d)
-    × ((g : ℕ) → structureAt (claimed d h) g ≡ structureAt d g)
-    × ((j : ℕ) → j ≢ topSource d h → sourceAt (claimed d h) j ≡ sourceAt d j)
-    × (let top = sourceAt d (topSource d h) in let after = sourceAt (claimed d h) (topSource d h) in
+    (d : Domain) (h : ℕ) → DomainShaped d → byMessages d ≡ false → topiOf d h ≢ 0
+    → (configOf (hartClaimed d h) ≡ configOf d) × (generatedAt (hartClaimed d h) ≡ generatedAt d)
+    × ((g : ℕ) → structureAt (hartClaimed d h) g ≡ structureAt d g)
+    × ((j : ℕ) → j ≢ topSource d h → sourceAt (hartClaimed d h) j ≡ sourceAt d j)
+    × (let top = sourceAt d (topSource d h) in let after = sourceAt (hartClaimed d h) (topSource d h) in
     (isLevel (top .mode) ≡ false → after ≡ withPending top false)
     × (isLevel (top .mode) ≡ true → after ≡ top))

@@ -10,7 +10,7 @@ use Rattle.mode.specs.Mode.{isActive, isLevel, isRectified}
 use Rattle.source.specs.declared.Source.{Source}
 use Rattle.source.specs.Pending.{moded}
 use Rattle.domain.specs.Slot.{sourceAt}
-use Rattle.domain_laws.specs.Shape.{Shaped}
+use Rattle.domain_laws.specs.Shape.{DomainShaped}
 use Rattle.wired.specs.Wired.{Wired, isDelegated, rootWritten}
 
 -- its rectified value rises by the write
@@ -42,7 +42,7 @@ Claim-94 = (m wire : Bool) (s : Source) (v : ℕ) → Remoded m wire s v (moded 
 -- child's is all zeros; where not, the child is as it was; and every other source of the child is
 unfoldable pub Claim-95 : Type 0
 Claim-95 =
-    (w : Wired) (i v : ℕ) → Shaped (w .child) → i < 64
+    (w : Wired) (i v : ℕ) → DomainShaped (w .child) → i < 64
     → let now = hasBit v 10 in
     (isDelegated w i ≡ now → rootWritten w i v .child ≡ w .child)
     × (isDelegated w i ≢ now

@@ -30,7 +30,7 @@ use Rattle.domain.specs.Slot.{sourceAt}
 use Rattle.files.specs.Files.{fileNumber, theFile}
 use Rattle.block.specs.Block.{Board}
 use Rattle.call.specs.declared.Call.the-variants.{Move}
-use Rattle.call.specs.Refusal.{isMove, named}
+use Rattle.call.specs.Refusal.{isMove, present}
 use Rattle.call.specs.declared.Answer.{Answer}
 use Rattle.call.specs.Outcome.{step, outcome, Gives}
 use Rattle.call_laws.specs.Fit.{Fit}
@@ -65,7 +65,7 @@ Claim-100 =
 unfoldable pub Claim-101 : Type 0
 Claim-101 =
     (b : Board) (oh of nh nf n : ℕ)
-    → (named (Move oh of nh nf n) b ≡ true)
+    → (present (Move oh of nh nf n) b ≡ true)
     ↔ ((oh < 4) × (2 ≤ of) × (of ≤ 4) × (nh < 4) × (2 ≤ nf) × (nf ≤ 4) × (oh ≡ nh → of ≡ nf → ⊥)
     × (1 ≤ n) × (n ≤ 89) × (byMessages (b .wired .child) ≡ true))
 

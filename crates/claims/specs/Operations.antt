@@ -15,7 +15,7 @@ use Rattle.region.specs.declared.Word.the-variants.{SetipnumBe, Claimi}
 use Rattle.source.specs.Pending.{moded}
 use Rattle.domain.specs.Domain.{Domain, isEnabled, byMessages}
 use Rattle.domain.specs.Slot.{sourceAt}
-use Rattle.domain_laws.specs.Shape.{Shaped}
+use Rattle.domain_laws.specs.Shape.{DomainShaped}
 use Rattle.direct.specs.Direct.{topSource}
 use Rattle.registers.specs.Read.{claimedBy}
 use Rattle.registers.specs.Write.{registerWritten}
@@ -33,7 +33,7 @@ Does d d′ i k = sourceAt d′ i ≡ happens (sourceAt d i) (byMessages d) k
 -- pass of messages, if it is to be sent
 abbrev pub RegistersDo : Type 0
 RegistersDo =
-    (c : Bool) (d : Domain) (wires : List ℕ) (i : ℕ) → Shaped d → 1 ≤ i → i ≤ 63
+    (c : Bool) (d : Domain) (wires : List ℕ) (i : ℕ) → DomainShaped d → 1 ≤ i → i ≤ 63
     → let written : Word → ℕ → Domain = registerWritten c d wires in
     let raised = setip (member wires i) in
     ((v : ℕ) → hasBit v (i % 32) ≡ true

@@ -23,14 +23,14 @@ use Rattle.source.specs.declared.Source.{Source}
 use Rattle.domain.specs.Domain.{Domain, configOf, isEnabled, byMessages, generatedAt}
 use Rattle.domain.specs.Slot.{sourceAt}
 use Rattle.domain.specs.Structure.{structureAt}
-use Rattle.domain_laws.specs.Shape.{Shaped}
+use Rattle.domain_laws.specs.Shape.{DomainShaped}
 use Rattle.wired.specs.Wired.{Wired, wiredOf, wireSet, writtenIn, claimedIn}
 use Rattle.rules.specs.Rules.{wiredSound}
 use Rattle.rules_laws.specs.Steady.{passed}
 use Rattle.rules.proofs.sound.Reads as sound
 
 abbrev pub Long : Wired → Type 0
-Long w = (length (w .wires) ≡ 2) × Shaped (w .root) × Shaped (w .child)
+Long w = (length (w .wires) ≡ 2) × DomainShaped (w .root) × DomainShaped (w .child)
 
 abbrev pub Sound : Wired → Type 0
 Sound w = Long w × (wiredSound w ≡ true)

@@ -12,7 +12,7 @@ use Rattle.domain.specs.Domain.{Domain, isEnabled, byMessages}
 use Rattle.domain.specs.Slot.{sourceAt}
 use Rattle.sending.specs.Sending.{candidate, sent}
 use Rattle.genmsi.specs.Genmsi.{generatedSent}
-use Rattle.sending_laws.specs.Candidates.{candidates, messageAt, PendingOnly, Names}
+use Rattle.sending_laws.specs.Candidates.{candidates, messageAt, DomainPendingOnly, Names}
 
 -- the messages are those of the candidates, ascending, and none if IE and DM are not both 1
 unfoldable pub Claim-50 : Type 0
@@ -38,7 +38,7 @@ Claim-52 =
 unfoldable pub Claim-53 : Type 0
 Claim-53 =
     (c : Bool) (d : Domain)
-    → PendingOnly d (sent c d .domain)
+    → DomainPendingOnly d (sent c d .domain)
     × ((isEnabled d && byMessages d) ≡ true → (i : ℕ) → 1 ≤ i → i < 64
     → member (sent c d .domain .pending) i ≡ (member (d .pending) i && not (candidate (sourceAt d i))))
 

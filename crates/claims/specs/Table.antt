@@ -22,7 +22,7 @@ use Rattle.config.specs.Config.{configWritten}
 use Rattle.direct.specs.Direct.{topiOf}
 use Rattle.region.specs.Region.{wordAt}
 use Rattle.region.specs.Role.{roleOf}
-use Rattle.registers.specs.Read.{valueOf as readOf}
+use Rattle.registers.specs.Read.{registerValue as readOf}
 use Rattle.call.specs.declared.Call.the-variants.{DomainRead}
 use Rattle.block.specs.Start.{startBoard}
 use Rattle.call.specs.Refusal.{nameRefusal}

@@ -15,7 +15,7 @@ use Rattle.region.specs.declared.Word.the-variants.{Sourcecfg}
 use Rattle.region.specs.Region.{wordAt}
 use Rattle.domain.specs.Domain.{domainOf}
 use Rattle.direct.specs.Direct.{signalOf}
-use Rattle.registers.specs.Read.{valueOf, claimedBy}
+use Rattle.registers.specs.Read.{registerValue, claimedBy}
 use Rattle.registers.specs.Write.{registerWritten}
 use Rattle.sending.specs.Sending.{sent, logged}
 use Rattle.genmsi.specs.Genmsi.{generatedSent}
@@ -41,7 +41,7 @@ unfoldable pub Claim-61 : Type 0
 Claim-61 =
     (l : Lfts 1) (b b′ : RefT (List ℕ)) (ws : List ℕ) (w : Word) (r : ℕ)
     → read.Learnt l (b, (ws, (w, tt))) r (b′, (ws, (w, tt)))
-    → (r ≡ valueOf (domainOf (now b)) ws w) × (domainOf (now b′) ≡ claimedBy (domainOf (now b)) w)
+    → (r ≡ registerValue (domainOf (now b)) ws w) × (domainOf (now b′) ≡ claimedBy (domainOf (now b)) w)
 
 -- a write to a register that concerns its domain alone, before anything is sent; a sourcecfg is left as it is
 -- here, for it is written by the call of Claim-69

@@ -22,7 +22,7 @@ use Rattle.source.specs.declared.Change.{Change}
 use Rattle.source.specs.Pending.{withTarget, changed, redelivered}
 use Rattle.domain.specs.Domain.{Domain, isEnabled, byMessages, withConfig}
 use Rattle.domain.specs.Slot.{sourceAt}
-use Rattle.domain_laws.specs.Shape.{Shaped}
+use Rattle.domain_laws.specs.Shape.{DomainShaped}
 use Rattle.domain_laws.specs.Became.{Became, Touched}
 use Rattle.writes.specs.Writes.{wordChanged, numberChanged, targetWritten}
 use Rattle.config.specs.Config.{configWritten}
@@ -32,7 +32,7 @@ use Rattle.claims.specs.Rules.{Sound, TargetStored}
 -- a write of v to word k of a family changes the sources whose bits are set, and a number that source alone
 unfoldable pub Claim-55 : Type 0
 Claim-55 =
-    (d : Domain) (wires : List ℕ) (family : Change) (v : ℕ) → Shaped d
+    (d : Domain) (wires : List ℕ) (family : Change) (v : ℕ) → DomainShaped d
     → ((k : ℕ) → k < 2 → Touched d (wordChanged d wires family k v)
     (λ j s. cond (eqb (j / 32) k && hasBit v (j % 32)) (changed s family (byMessages d) (member wires j)) s))
     × (Touched d (numberChanged d wires family v)
@@ -52,7 +52,7 @@ pub record Restarted (m x : Bool) (s s′ : Source) : Type 0 where
 -- genmsi is 0 and each source is restarted
 unfoldable pub Claim-56 : Type 0
 Claim-56 =
-    ((d : Domain) (wires : List ℕ) (v : ℕ) → Shaped d
+    ((d : Domain) (wires : List ℕ) (v : ℕ) → DomainShaped d
     → let word = cond (hasBit v 8) (2 ^ 8) 0 + cond (hasBit v 2) (2 ^ 2) 0 in
     (isEnabled (configWritten d wires v) ≡ hasBit v 8) × (byMessages (configWritten d wires v) ≡ hasBit v 2)
     × (byMessages d ≡ hasBit v 2 → configWritten d wires v ≡ withConfig d word)
@@ -78,7 +78,7 @@ pub record TargetKept (c m : Bool) (v t : ℕ) : Type 0 where
 -- a write to a target: nothing of an inactive source, and of an active one the target alone
 unfoldable pub Claim-58 : Type 0
 Claim-58 =
-    ((c : Bool) (d : Domain) (i v : ℕ) → Shaped d → 1 ≤ i → i ≤ 63
+    ((c : Bool) (d : Domain) (i v : ℕ) → DomainShaped d → 1 ≤ i → i ≤ 63
     → (isActive (sourceAt d i .mode) ≡ false → targetWritten c d i v ≡ d)
     × (isActive (sourceAt d i .mode) ≡ true → Touched d (targetWritten c d i v)
     (λ j s. cond (eqb i j) (withTarget s (keptTarget c (byMessages d) v)) s)))

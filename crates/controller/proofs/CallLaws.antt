@@ -9,7 +9,7 @@ use lib.ListN.{length, take, drop}
 use Rattle.region.specs.Region.{Within}
 use Rattle.region.specs.declared.Word.{Word}
 use Rattle.region.specs.declared.Word.the-variants.{Genmsi}
-use Rattle.domain_laws.specs.Shape.{Shaped}
+use Rattle.domain_laws.specs.Shape.{DomainShaped}
 use Rattle.domain_laws.proofs.SlotEffects.{domainOf-shaped}
 use Rattle.wired.specs.Wired.{Wired, wiredOf, wireSet, writtenIn, claimedIn}
 use Rattle.wires.proofs.WiresLaws.{root-part, child-part, root-long, child-long, wires-read}
@@ -28,8 +28,8 @@ module _ (l : List ℕ) (long : length l ≡ 290) (sound : wiredSound (wiredOf l
   pub words-steady : WiredSteady (wiredOf l)
   words-steady =
       wired-sound-steady (wiredOf l) sound (ap length (sym (wires-read l long)))
-      (subst Shaped (root-part l long) (domainOf-shaped (take 144 (drop 2 l)) (root-long l long)))
-      (subst Shaped (child-part l long) (domainOf-shaped (take 144 (drop 146 l)) (child-long l long)))
+      (subst DomainShaped (root-part l long) (domainOf-shaped (take 144 (drop 2 l)) (root-long l long)))
+      (subst DomainShaped (child-part l long) (domainOf-shaped (take 144 (drop 146 l)) (child-long l long)))
 
   pub words-quiet : WiredQuiet (wiredOf l)
   words-quiet = wired-sound-quiet (wiredOf l) sound

@@ -9,7 +9,7 @@ use Rattle.source.specs.Pending.{retargeted}
 use Rattle.region.specs.declared.Word.the-variants.{Target}
 use Rattle.domain.specs.Domain.{Domain, byMessages}
 use Rattle.domain.specs.Slot.{sourceAt}
-use Rattle.domain_laws.specs.Shape.{Shaped}
+use Rattle.domain_laws.specs.Shape.{DomainShaped}
 use Rattle.writes.specs.Writes.{targetWritten}
 use Rattle.writes_laws.proofs.WritesEffects.{sourceAt-targetWritten-same, sourceAt-targetWritten-other}
 use Rattle.registers.specs.Write.{registerWritten}
@@ -53,7 +53,7 @@ module _ (w : Wired) (c : Bool) (i v : ℕ) where
   pub target-not : domainIn (writtenIn w c (Target i) v) (not c) ≡ domainIn w (not c)
   target-not = ap (λ (x : Wired). domainIn x (not c)) target-part ∙ other-withDomain w c target-after
 
-  pub target-own : Shaped (domainIn w c) → i < 64
+  pub target-own : DomainShaped (domainIn w c) → i < 64
       → sourceAt (domainIn (writtenIn w c (Target i) v) c) i
       ≡ retargeted (sourceAt (domainIn w c) i) c (byMessages (domainIn w c)) v
   target-own shaped h =

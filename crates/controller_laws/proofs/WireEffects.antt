@@ -16,7 +16,7 @@ use Rattle.source.specs.declared.Source.{Source}
 use Rattle.source.specs.Pending.{settled, wireChanged}
 use Rattle.domain.specs.Domain.{Domain, byMessages}
 use Rattle.domain.specs.Slot.{sourceAt}
-use Rattle.domain_laws.specs.Shape.{Shaped}
+use Rattle.domain_laws.specs.Shape.{DomainShaped}
 use Rattle.domain_laws.proofs.OwnEffects.{configOf-withSource}
 use Rattle.domain_laws.proofs.SlotEffects.{sourceAt-withSource-same, sourceAt-withSource-other}
 use Rattle.wired.specs.Wired.{Wired, domainIn, wireSet, sourceWired}
@@ -62,7 +62,7 @@ module _ (w : Wired) (i : ℕ) (level c : Bool) where
       ap (λ (d : Domain). sourceAt d j) (wire-domain w i level c)
       ∙ sourceAt-withSource-other before i changed j n
 
-  pub wireSet-own : Shaped before → i < 64 → sourceAt after i ≡ changed
+  pub wireSet-own : DomainShaped before → i < 64 → sourceAt after i ≡ changed
   unfolding sourceWired
   wireSet-own shaped h =
       ap (λ (d : Domain). sourceAt d i) (wire-domain w i level c)
@@ -74,7 +74,7 @@ module _ (w : Wired) (i : ℕ) (level c : Bool) where
       ap sends (wire-domain w i level c) ∙ sends-same before _ (configOf-withSource before i changed l)
 
   -- its message goes where it would have gone
-  pub wireSet-target : Shaped before → i < 64 → sourceAt after i .target ≡ sourceAt before i .target
+  pub wireSet-target : DomainShaped before → i < 64 → sourceAt after i .target ≡ sourceAt before i .target
   unfolding wireChanged settled
   wireSet-target shaped h = ap (λ (s : Source). s .target) (wireSet-own shaped h)
 
@@ -94,7 +94,7 @@ module _ (w : Wired) (q : WiredQuiet w) (i : ℕ) (l : 1 ≤ i) (h : i < 64) (le
       ap (λ (d : Domain). sourceAt d j) (call-domain w i level c)
       ∙ sent-one-other c (domainIn (wireSet w i level) c) i wire-one j n a b ∙ wireSet-other w i level c j n
 
-  pub wire-own : Shaped (domainIn w c)
+  pub wire-own : DomainShaped (domainIn w c)
       → let s = changed w i level c in
       sourceAt (domainIn (wireCall w i level .wired) c) i ≡ cond (sends (domainIn w c)) (spent s) s
   wire-own shaped =
@@ -106,7 +106,8 @@ module _ (w : Wired) (q : WiredQuiet w) (i : ℕ) (l : 1 ≤ i) (h : i < 64) (le
       (λ t. sent-source c d t i l h ∙ ap spent own ∙ rw (sym same ∙ t))
       (λ f. ap (λ (r : Sent). sourceAt (r .domain) i) (sent-off c d f) ∙ own ∙ rw (sym same ∙ f))
 
-  wire-hit : Shaped (domainIn w c) → sends (domainIn w c) ≡ true → candidate (changed w i level c) ≡ true
+  wire-hit : DomainShaped (domainIn w c) → sends (domainIn w c) ≡ true → candidate (changed w i level c)
+      ≡ true
       → sent c (domainIn (wireSet w i level) c) .messages ≡ messageAt c (domainIn w c) i ∷ []
   wire-hit shaped t y =
       let d = domainIn (wireSet w i level) c in
@@ -114,7 +115,7 @@ module _ (w : Wired) (q : WiredQuiet w) (i : ℕ) (l : 1 ≤ i) (h : i < 64) (le
       sent-one c d i wire-one l h ∙ rw (wireSet-sends w i level c l ∙ t) hit
       ∙ ap (λ (x : ℕ). messageOf c x ∷ []) (wireSet-target w i level c shaped h)
 
-  wire-miss : Shaped (domainIn w c) → (sends (domainIn w c) && candidate (changed w i level c)) ≡ false
+  wire-miss : DomainShaped (domainIn w c) → (sends (domainIn w c) && candidate (changed w i level c)) ≡ false
       → sent c (domainIn (wireSet w i level) c) .messages ≡ []
   wire-miss shaped f =
       let d = domainIn (wireSet w i level) c in
@@ -124,7 +125,7 @@ module _ (w : Wired) (q : WiredQuiet w) (i : ℕ) (l : 1 ≤ i) (h : i < 64) (le
       (λ t. one ∙ rw t (messages-miss c d i (own ∙ rw (sym (wireSet-sends w i level c l) ∙ t) at f)))
       (λ n. one ∙ rw n)
 
-  wire-sent : Shaped (domainIn w c)
+  wire-sent : DomainShaped (domainIn w c)
       → (sent c (domainIn (wireSet w i level) c) .messages ≡ [])
       ⊎ (sent c (domainIn (wireSet w i level) c) .messages ≡ messageAt c (domainIn w c) i ∷ [])
   wire-sent shaped =

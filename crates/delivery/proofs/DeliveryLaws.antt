@@ -11,7 +11,7 @@ use borrow.Author.Tests.{lt-ltb, le-ltb, le-leb, lt-leb, eq-eqb, ne-eqb}
 use Rattle.words.proofs.TestsLaws.{tested, and-first, and-second, and-both, or-cases}
 use Rattle.delivery.specs.declared.Delivery.{Delivery}
 use Rattle.delivery.specs.Delivery.{switchOf, withIdelivery, withIforce, withIthreshold, withoutForce}
-use Rattle.delivery.specs.Delivery.{deliverySound, lets, signals}
+use Rattle.delivery.specs.Delivery.{deliverySound, lets, structureSignals}
 
 -- ---- writes
 
@@ -122,9 +122,9 @@ module _ (d : Delivery) where
 -- ---- the signal
 
 module _ (d : Delivery) (e : Bool) (t : ℕ) where
-  pub signals-iff : signals d e t ≡ true
+  pub signals-iff : structureSignals d e t ≡ true
       ↔ ((e ≡ true) × (d .idelivery ≡ 1) × ((d .iforce ≢ 0) ⊎ (t ≢ 0)))
-  unfolding signals
+  unfolding structureSignals
   signals-iff =
       let on = eqb (d .idelivery) 1 in
       let forced = not (eqb (d .iforce) 0) in (
@@ -139,17 +139,17 @@ module _ (d : Delivery) (e : Bool) (t : ℕ) where
             (⊎-elim (λ n. simp (ne-eqb (d .iforce) 0 n)) (λ n. simp (ne-eqb t 0 n, or-true)) (p .2)),
       )
 
-  pub signals-disabled : e ≡ false → signals d e t ≡ false
-  unfolding signals
+  pub signals-disabled : e ≡ false → structureSignals d e t ≡ false
+  unfolding structureSignals
   signals-disabled z = simp z
 
-  pub signals-off : d .idelivery ≢ 1 → signals d e t ≡ false
-  unfolding signals
+  pub signals-off : d .idelivery ≢ 1 → structureSignals d e t ≡ false
+  unfolding structureSignals
   signals-off n = simp (ne-eqb (d .idelivery) 1 n, and-false)
 
-  pub signals-forced : e ≡ true → d .idelivery ≡ 1 → d .iforce ≢ 0 → signals d e t ≡ true
+  pub signals-forced : e ≡ true → d .idelivery ≡ 1 → d .iforce ≢ 0 → structureSignals d e t ≡ true
   signals-forced z on n = signals-iff .1 (z, on, inl n)
 
-  pub signals-top : e ≡ true → d .idelivery ≡ 1 → d .iforce ≡ 0 → signals d e t ≡ not (eqb t 0)
-  unfolding signals
+  pub signals-top : e ≡ true → d .idelivery ≡ 1 → d .iforce ≡ 0 → structureSignals d e t ≡ not (eqb t 0)
+  unfolding structureSignals
   signals-top z on n = simp (z, eq-eqb (d .idelivery) 1 on, eq-eqb (d .iforce) 0 n)

@@ -2,7 +2,7 @@
 // 01, "Direct delivery and signals".
 ghost use mathlib.Core.Path.{_≡_};
 ghost use Rattle.delivery.specs.Delivery.{switchOf, withIdelivery, withIforce, withIthreshold};
-ghost use Rattle.delivery.specs.Delivery.{withoutForce, deliverySound, lets, signals};
+ghost use Rattle.delivery.specs.Delivery.{withoutForce, deliverySound, lets, structureSignals};
 
 pub struct Delivery {
     pub idelivery: u32,
@@ -74,7 +74,7 @@ impl Delivery {
 
     // The signal to the hart of a domain in direct mode: `enabled` is its IE, `top` the structure's topi.
     pub fn signals(self, enabled: bool, top: u32) -> bool
-        ensures { λ r. ⌜ r ≡ signals self enabled top ⌝ }
+        ensures { λ r. ⌜ r ≡ structureSignals self enabled top ⌝ }
     {
         if !enabled {
             return false;

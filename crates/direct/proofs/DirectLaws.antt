@@ -8,33 +8,35 @@ use native.Mathlib.Omega.{arith}
 use borrow.Author.Tests.{eq-eqb, ne-eqb}
 use Rattle.words.proofs.TestsLaws.{tested, not-same}
 use Rattle.delivery.specs.declared.Delivery.{Delivery}
-use Rattle.delivery.specs.Delivery.{signals}
+use Rattle.delivery.specs.Delivery.{structureSignals}
 use Rattle.delivery.proofs.DeliveryLaws.{signals-iff}
 use Rattle.domain.specs.Domain.{Domain, isEnabled, byMessages}
 use Rattle.domain.specs.Structure.{structureAt, withStructure}
 use Rattle.direct.specs.declared.Setting.{Setting}
-use Rattle.direct.specs.Direct.{topSource, topiOf, unforced, released, claimed, signalOf}
+use Rattle.direct.specs.Direct.{topSource, topiOf, unforced, released, hartClaimed, signalOf}
 use Rattle.direct.specs.Direct.{numberAt, writtenAt, settingOf, settingWritten}
 
 -- a structure that top 1 does not make signal is silent at every top
-signals-silent : (x : Delivery) (e : Bool) (t : ℕ) → signals x e 1 ≡ false → signals x e t ≡ false
+signals-silent : (x : Delivery) (e : Bool) (t : ℕ) → structureSignals x e 1 ≡ false → structureSignals x e t
+    ≡ false
 signals-silent x e t off =
-    tested (signals x e t)
+    tested (structureSignals x e t)
     (λ on. let p = signals-iff x e t .0 on in
-    absurd (not-same (signals x e 1) (signals-iff x e 1 .1 (p .0, p .1, inr (λ z. omega arith))) off))
+    absurd (not-same (structureSignals x e 1) (signals-iff x e 1 .1 (p .0, p .1, inr (λ z. omega arith)))
+    off))
     (λ f. f)
 
 module _ (d : Domain) (h : ℕ) where
-  pub claimed-messages : byMessages d ≡ true → claimed d h ≡ d
-  unfolding claimed
+  pub claimed-messages : byMessages d ≡ true → hartClaimed d h ≡ d
+  unfolding hartClaimed
   claimed-messages m = simp m
 
-  pub claimed-none : byMessages d ≡ false → topSource d h ≡ 0 → claimed d h ≡ unforced d h
-  unfolding claimed
+  pub claimed-none : byMessages d ≡ false → topSource d h ≡ 0 → hartClaimed d h ≡ unforced d h
+  unfolding hartClaimed
   claimed-none m z = simp (m, eq-eqb (topSource d h) 0 z)
 
-  pub claimed-some : byMessages d ≡ false → topSource d h ≢ 0 → claimed d h ≡ released d (topSource d h)
-  unfolding claimed
+  pub claimed-some : byMessages d ≡ false → topSource d h ≢ 0 → hartClaimed d h ≡ released d (topSource d h)
+  unfolding hartClaimed
   claimed-some m n = simp (m, ne-eqb (topSource d h) 0 n)
 
   pub signal-messages : byMessages d ≡ true → signalOf d h ≡ false
@@ -42,11 +44,11 @@ module _ (d : Domain) (h : ℕ) where
   signal-messages m = simp m
 
   pub signal-direct : byMessages d ≡ false
-      → signalOf d h ≡ signals (structureAt d h) (isEnabled d) (topiOf d h)
+      → signalOf d h ≡ structureSignals (structureAt d h) (isEnabled d) (topiOf d h)
   unfolding signalOf
   signal-direct m = simp m
 
-  pub signal-silent : byMessages d ≡ false → signals (structureAt d h) (isEnabled d) 1 ≡ false
+  pub signal-silent : byMessages d ≡ false → structureSignals (structureAt d h) (isEnabled d) 1 ≡ false
       → signalOf d h ≡ false
   signal-silent m off = signal-direct m ∙ signals-silent (structureAt d h) (isEnabled d) (topiOf d h) off
 

@@ -2,7 +2,7 @@
 -- "Direct delivery and signals"; the standard 4.8.1, 4.8.2.
 --   unforced d h              d with iforce of hart h cleared
 --   released d i              d with the pending bit of source i cleared as 4.7 allows in direct mode
---   claimed d h               d after a claimi: the top released; with no top, iforce cleared (4.8.1.5)
+--   hartClaimed d h               d after a claimi: the top released; with no top, iforce cleared (4.8.1.5)
 --   signalOf d h              the signal of d to hart h (4.8.2)
 --   numberAt x g              the settable number g of a structure x
 --   writtenAt x g v           x after v was written to its number g
@@ -15,7 +15,7 @@ use mathlib.Core.Bool.{Bool, false, cond, not, _&&_}
 use lib.Dec.{eqb}
 use Rattle.source.specs.Pending.{cleared}
 use Rattle.delivery.specs.declared.Delivery.{Delivery}
-use Rattle.delivery.specs.Delivery.{withIdelivery, withIforce, withIthreshold, withoutForce, signals}
+use Rattle.delivery.specs.Delivery.{withIdelivery, withIforce, withIthreshold, withoutForce, structureSignals}
 use Rattle.domain.specs.Domain.{Domain, isEnabled, byMessages}
 use Rattle.domain.specs.Slot.{sourceAt, withSource}
 use Rattle.domain.specs.Structure.{structureAt, withStructure}
@@ -31,12 +31,12 @@ unforced d h = withStructure d h (withoutForce (structureAt d h))
 unfoldable pub released : Domain → ℕ → Domain
 released d i = withSource d i (cleared (sourceAt d i) false)
 
-unfoldable pub claimed : Domain → ℕ → Domain
-claimed d h =
+unfoldable pub hartClaimed : Domain → ℕ → Domain
+hartClaimed d h =
     cond (byMessages d) d (cond (eqb (topSource d h) 0) (unforced d h) (released d (topSource d h)))
 
 unfoldable pub signalOf : Domain → ℕ → Bool
-signalOf d h = not (byMessages d) && signals (structureAt d h) (isEnabled d) (topiOf d h)
+signalOf d h = not (byMessages d) && structureSignals (structureAt d h) (isEnabled d) (topiOf d h)
 
 -- ---- the settable numbers
 

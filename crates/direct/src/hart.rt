@@ -3,7 +3,7 @@ ghost use mathlib.Core.Path.{_≡_};
 ghost use Prim.Native.Nat.{_<_};
 ghost use lib.ListN.{length};
 ghost use Rattle.domain.specs.Domain.{domainOf};
-ghost use Rattle.direct.specs.Direct.{topiOf, unforced, released, claimed, signalOf};
+ghost use Rattle.direct.specs.Direct.{topiOf, unforced, released, hartClaimed, signalOf};
 use domain::by_messages;
 use domain::enabled;
 use domain::load;
@@ -35,7 +35,7 @@ fn release(part: &mut [u32], i: usize)
 pub fn claim(part: &mut [u32], h: usize) -> u32
     requires { ⌜ (length (now part) ≡ 144) × (h < 4) ⌝ }
     ensures { λ r. ⌜ (r ≡ topiOf (domainOf (now (part .entry))) h)
-        × (domainOf (now (part .exit)) ≡ claimed (domainOf (now (part .entry))) h) ⌝ }
+        × (domainOf (now (part .exit)) ≡ hartClaimed (domainOf (now (part .entry))) h) ⌝ }
 {
     if by_messages(part) {
         return 0;

@@ -14,12 +14,12 @@ use Rattle.delivery.proofs.DeliveryLaws.{signals-iff, force-cleared}
 use Rattle.domain.specs.Domain.{Domain, isEnabled, byMessages}
 use Rattle.domain.specs.Slot.{sourceAt}
 use Rattle.domain.specs.Structure.{structureAt, withStructure}
-use Rattle.domain_laws.specs.Shape.{Shaped}
+use Rattle.domain_laws.specs.Shape.{DomainShaped}
 use Rattle.domain_laws.proofs.SlotEffects.{sourceAt-withSource-same, sourceAt-withSource-other}
 use Rattle.domain_laws.proofs.SlotEffects.{structureAt-withSource}
 use Rattle.domain_laws.proofs.StructureEffects.{structureAt-withStructure-same}
 use Rattle.domain_laws.proofs.StructureEffects.{structureAt-withStructure-other, sourceAt-withStructure}
-use Rattle.direct.specs.Direct.{topSource, topiOf, unforced, released, claimed, signalOf}
+use Rattle.direct.specs.Direct.{topSource, topiOf, unforced, released, hartClaimed, signalOf}
 use Rattle.top.proofs.TopLaws.{topSource-lt}
 use Rattle.direct.proofs.DirectLaws.{claimed-none, claimed-some, signal-messages, signal-direct}
 use Rattle.direct_laws.proofs.TopEffects.{topi-zero}
@@ -28,12 +28,12 @@ use Rattle.direct_laws.proofs.TopEffects.{topi-zero}
 
 module _ (d : Domain) (h : ℕ) (direct : byMessages d ≡ false) where
   -- a claim that answers 0 leaves the domain as it was but for iforce of the hart, which becomes 0
-  pub claim-zero : topiOf d h ≡ 0 → claimed d h ≡ withStructure d h (withoutForce (structureAt d h))
+  pub claim-zero : topiOf d h ≡ 0 → hartClaimed d h ≡ withStructure d h (withoutForce (structureAt d h))
   unfolding unforced
   claim-zero z = claimed-none d h direct (topi-zero d h direct .0 z)
 
-  pub claim-zero-same : Shaped d → h < 4 → topiOf d h ≡ 0
-      → structureAt (claimed d h) h ≡ record {
+  pub claim-zero-same : DomainShaped d → h < 4 → topiOf d h ≡ 0
+      → structureAt (hartClaimed d h) h ≡ record {
         idelivery = structureAt d h .idelivery;
         iforce = 0;
         ithreshold = structureAt d h .ithreshold;
@@ -44,8 +44,8 @@ module _ (d : Domain) (h : ℕ) (direct : byMessages d ≡ false) where
       ∙ force-cleared (structureAt d h)
 
   pub claim-zero-other : topiOf d h ≡ 0
-      → ((g : ℕ) → g ≢ h → structureAt (claimed d h) g ≡ structureAt d g)
-      × ((i : ℕ) → sourceAt (claimed d h) i ≡ sourceAt d i)
+      → ((g : ℕ) → g ≢ h → structureAt (hartClaimed d h) g ≡ structureAt d g)
+      × ((i : ℕ) → sourceAt (hartClaimed d h) i ≡ sourceAt d i)
   claim-zero-other z = (
     λ g n. ap (λ (e : Domain). structureAt e g) (claim-zero z)
         ∙ structureAt-withStructure-other d h (withoutForce (structureAt d h)) g n,
@@ -60,8 +60,8 @@ module _ (d : Domain) (h : ℕ) (direct : byMessages d ≡ false) where
     top = topSource d h
 
     -- every other source stays, and every structure
-    pub claim-other : ((j : ℕ) → j ≢ top → sourceAt (claimed d h) j ≡ sourceAt d j)
-        × ((g : ℕ) → structureAt (claimed d h) g ≡ structureAt d g)
+    pub claim-other : ((j : ℕ) → j ≢ top → sourceAt (hartClaimed d h) j ≡ sourceAt d j)
+        × ((g : ℕ) → structureAt (hartClaimed d h) g ≡ structureAt d g)
     unfolding released
     claim-other = (
       λ j n. ap (λ (e : Domain). sourceAt e j) (claimed-some d h direct some)
@@ -70,27 +70,28 @@ module _ (d : Domain) (h : ℕ) (direct : byMessages d ≡ false) where
           ∙ structureAt-withSource d top _ g,
     )
 
-    claim-same : Shaped d → sourceAt (claimed d h) top ≡ cleared (sourceAt d top) false
+    claim-same : DomainShaped d → sourceAt (hartClaimed d h) top ≡ cleared (sourceAt d top) false
     unfolding released
     claim-same shaped =
         ap (λ (e : Domain). sourceAt e top) (claimed-some d h direct some)
         ∙ sourceAt-withSource-same d top (cleared (sourceAt d top) false) shaped (topSource-lt d h)
 
     -- a level source stays pending: its bit follows its wire
-    pub claim-level : Shaped d → isLevel (sourceAt d top .mode) ≡ true
-        → (j : ℕ) → sourceAt (claimed d h) j ≡ sourceAt d j
+    pub claim-level : DomainShaped d → isLevel (sourceAt d top .mode) ≡ true
+        → (j : ℕ) → sourceAt (hartClaimed d h) j ≡ sourceAt d j
     claim-level shaped l j = at (ℕ-discrete j top)
       where
-        at : Dec (j ≡ top) → sourceAt (claimed d h) j ≡ sourceAt d j
+        at : Dec (j ≡ top) → sourceAt (hartClaimed d h) j ≡ sourceAt d j
         at (yes e) =
-            ap (sourceAt (claimed d h)) e ∙ claim-same shaped ∙ cleared-direct (sourceAt d top) false l refl
+            ap (sourceAt (hartClaimed d h)) e ∙ claim-same shaped
+            ∙ cleared-direct (sourceAt d top) false l refl
             ∙ ap (sourceAt d) (sym e)
         at (no n) = claim-other .0 j n
 
     -- a source of another mode is no longer pending and keeps the rest, and every other source stays
-    pub claim-other-mode : Shaped d → isLevel (sourceAt d top .mode) ≡ false
-        → (sourceAt (claimed d h) top ≡ withPending (sourceAt d top) false)
-        × ((j : ℕ) → j ≢ top → sourceAt (claimed d h) j ≡ sourceAt d j)
+    pub claim-other-mode : DomainShaped d → isLevel (sourceAt d top .mode) ≡ false
+        → (sourceAt (hartClaimed d h) top ≡ withPending (sourceAt d top) false)
+        × ((j : ℕ) → j ≢ top → sourceAt (hartClaimed d h) j ≡ sourceAt d j)
     claim-other-mode shaped l =
         (claim-same shaped ∙ cleared-other (sourceAt d top) false l, claim-other .0)
 

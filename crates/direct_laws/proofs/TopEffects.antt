@@ -12,7 +12,7 @@ use Rattle.target.specs.Target.{numberOf}
 use Rattle.target.proofs.TargetLaws.{numberOf-lt}
 use Rattle.domain.specs.Domain.{Domain, byMessages}
 use Rattle.domain.specs.Slot.{sourceAt}
-use Rattle.direct.specs.Direct.{eligible, precedes, topFrom, topSource, topiOf, claimed}
+use Rattle.direct.specs.Direct.{eligible, precedes, topFrom, topSource, topiOf, hartClaimed}
 use Rattle.top.proofs.TopLaws.{better, precedes-none, precedes-some, better-new, better-late, better-other}
 use Rattle.top.proofs.TopLaws.{topFrom-end, topFrom-next, topSource-lt}
 use Rattle.top.proofs.WordLaws as word
@@ -159,7 +159,7 @@ module _ (d : Domain) (h : ℕ) where
   topi-zero-iff m = (λ z. topi-none .0 (topi-zero m .0 z), λ none. topi-zero m .1 (topi-none .1 none))
 
   -- by messages topi reads 0, and a claim changes nothing
-  pub topi-messages : byMessages d ≡ true → (topiOf d h ≡ 0) × (claimed d h ≡ d)
+  pub topi-messages : byMessages d ≡ true → (topiOf d h ≡ 0) × (hartClaimed d h ≡ d)
   topi-messages m = (word.topi-messages d h m, direct.claimed-messages d h m)
 
   pub topiOf-lt : topiOf d h < 2 ^ 32

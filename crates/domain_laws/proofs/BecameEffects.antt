@@ -11,7 +11,7 @@ use Rattle.source.specs.declared.Source.{Source}
 use Rattle.domain.specs.Domain.{Domain, configOf, isEnabled, byMessages, generatedAt, withConfig}
 use Rattle.domain.specs.Domain.{withGenerated}
 use Rattle.domain.specs.Slot.{sourceAt, withSource}
-use Rattle.domain_laws.specs.Shape.{Shaped}
+use Rattle.domain_laws.specs.Shape.{DomainShaped}
 use Rattle.domain_laws.specs.Became.{Became, Touched}
 use Rattle.domain_laws.proofs.SlotEffects.{sourceAt-withSource-same, sourceAt-withSource-other}
 use Rattle.domain_laws.proofs.SlotEffects.{structureAt-withSource, shaped-withSource}
@@ -21,7 +21,7 @@ use Rattle.domain_laws.proofs.OwnEffects as own
 -- ---- any change
 
 -- nothing changed
-pub touched-none : (d : Domain) → Shaped d → Touched d d (λ j s. s)
+pub touched-none : (d : Domain) → DomainShaped d → Touched d d (λ j s. s)
 touched-none d shaped =
     record {
       shaped = shaped;
@@ -89,7 +89,7 @@ module _ {d e : Domain} {f : ℕ → Source → Source} (p : Touched d e f) wher
 
 -- ---- one part replaced
 
-module _ (d : Domain) (i : ℕ) (g : ℕ → Source → Source) (shaped : Shaped d) where
+module _ (d : Domain) (i : ℕ) (g : ℕ → Source → Source) (shaped : DomainShaped d) where
   abbrev replaced : Domain
   replaced = withSource d i (g i (sourceAt d i))
 
@@ -115,7 +115,7 @@ module _ (d : Domain) (i : ℕ) (g : ℕ → Source → Source) (shaped : Shaped
         enable-zero = enable-zero-withSource d i s l;
       }
 
-module _ (d : Domain) (v : ℕ) (shaped : Shaped d) where
+module _ (d : Domain) (v : ℕ) (shaped : DomainShaped d) where
   pub became-withConfig : Became d (withConfig d v) v (generatedAt d) (λ j s. s)
   became-withConfig =
       record {

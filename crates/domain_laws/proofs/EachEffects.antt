@@ -12,7 +12,7 @@ use Rattle.words.proofs.TestsLaws.{tested}
 use Rattle.source.specs.declared.Source.{Source}
 use Rattle.domain.specs.Domain.{Domain}
 use Rattle.domain.specs.Slot.{sourceAt}
-use Rattle.domain_laws.specs.Shape.{Shaped}
+use Rattle.domain_laws.specs.Shape.{DomainShaped}
 use Rattle.domain_laws.specs.Became.{Touched}
 use Rattle.domain_laws.specs.Each.{withEach, among}
 use Rattle.domain_laws.proofs.BecameEffects.{touched-none, became-touched, touched-as}
@@ -65,7 +65,7 @@ module _ (f : Source → Source) (s : Source) (i n j : ℕ) where
   once (no x) = rw (ne-eqb i j x, among-next i n j x)
 
 module _ (f : ℕ → Source → Source) where
-  pub touched-withEach : (d : Domain) (i n : ℕ) → Shaped d → 1 ≤ i → i + n ≤ 64
+  pub touched-withEach : (d : Domain) (i n : ℕ) → DomainShaped d → 1 ≤ i → i + n ≤ 64
       → Touched d (withEach f d i n) (λ j s. cond (among i n j) (f j s) s)
   unfolding withEach
   touched-withEach d i zero shaped l h =

@@ -13,7 +13,7 @@ use Rattle.domain.specs.Domain.{withGenerated}
 use Rattle.domain.specs.Slot.{sourceAt, withSource}
 use Rattle.domain.specs.Structure.{structureAt, withStructure}
 use Rattle.domain.proofs.SlotLaws.{source-path}
-use Rattle.domain_laws.specs.Shape.{Shaped}
+use Rattle.domain_laws.specs.Shape.{DomainShaped}
 
 -- ---- IE and DM follow domaincfg
 
@@ -63,7 +63,7 @@ module _ (d : Domain) (h : ℕ) (x : Delivery) where
 -- ---- domaincfg replaced
 
 module _ (d : Domain) (v : ℕ) where
-  pub configOf-withConfig : Shaped d → configOf (withConfig d v) ≡ v
+  pub configOf-withConfig : DomainShaped d → configOf (withConfig d v) ≡ v
   unfolding configOf withConfig
   configOf-withConfig shaped = getD-set-same (d .source) 0 v 0 (omega arith)
 
@@ -80,7 +80,7 @@ module _ (d : Domain) (v : ℕ) where
   unfolding structureAt withConfig
   structureAt-withConfig h = refl
 
-  pub shaped-withConfig : Shaped d → Shaped (withConfig d v)
+  pub shaped-withConfig : DomainShaped d → DomainShaped (withConfig d v)
   unfolding withConfig
   shaped-withConfig shaped =
       record {
@@ -93,7 +93,7 @@ module _ (d : Domain) (v : ℕ) where
   -- ---- genmsi replaced
 
 module _ (d : Domain) (v : ℕ) where
-  pub generatedAt-withGenerated : Shaped d → generatedAt (withGenerated d v) ≡ v
+  pub generatedAt-withGenerated : DomainShaped d → generatedAt (withGenerated d v) ≡ v
   unfolding generatedAt withGenerated
   generatedAt-withGenerated shaped = getD-set-same (d .target) 0 v 0 (omega arith)
 
@@ -116,7 +116,7 @@ module _ (d : Domain) (v : ℕ) where
   unfolding structureAt withGenerated
   structureAt-withGenerated h = refl
 
-  pub shaped-withGenerated : Shaped d → Shaped (withGenerated d v)
+  pub shaped-withGenerated : DomainShaped d → DomainShaped (withGenerated d v)
   unfolding withGenerated
   shaped-withGenerated shaped =
       record {

@@ -18,11 +18,11 @@ use Rattle.domain.specs.Structure.{structureAt}
 use Rattle.domain.proofs.DomainLaws.{domain-path}
 use Rattle.domain.proofs.SegmentLaws.{segment-long}
 use Rattle.domain.proofs.SlotLaws.{source-path}
-use Rattle.domain_laws.specs.Shape.{Shaped}
+use Rattle.domain_laws.specs.Shape.{DomainShaped}
 use Rattle.domain_laws.proofs.SetsBack.{put-back}
 
 -- a domain of 144 words has the lengths
-pub domainOf-shaped : (l : List ℕ) → length l ≡ 144 → Shaped (domainOf l)
+pub domainOf-shaped : (l : List ℕ) → length l ≡ 144 → DomainShaped (domainOf l)
 unfolding domainOf
 domainOf-shaped l h =
     record {
@@ -34,7 +34,7 @@ domainOf-shaped l h =
     }
 
 module _ (d : Domain) (i : ℕ) (s : Source) where
-  pub sourceAt-withSource-same : Shaped d → i < 64 → sourceAt (withSource d i s) i ≡ s
+  pub sourceAt-withSource-same : DomainShaped d → i < 64 → sourceAt (withSource d i s) i ≡ s
   unfolding sourceAt withSource
   sourceAt-withSource-same shaped h =
       source-path (getD-set-same (d .source) i (s .mode) 0 (omega arith))
@@ -53,7 +53,7 @@ module _ (d : Domain) (i : ℕ) (s : Source) where
   unfolding structureAt withSource
   structureAt-withSource h = refl
 
-  pub shaped-withSource : Shaped d → Shaped (withSource d i s)
+  pub shaped-withSource : DomainShaped d → DomainShaped (withSource d i s)
   unfolding withSource
   shaped-withSource shaped =
       record {

@@ -11,7 +11,7 @@ use Rattle.delivery.specs.declared.Delivery.{Delivery}
 use Rattle.domain.specs.Domain.{Domain}
 use Rattle.domain.specs.Slot.{sourceAt}
 use Rattle.domain.specs.Structure.{structureAt, withStructure}
-use Rattle.domain_laws.specs.Shape.{Shaped}
+use Rattle.domain_laws.specs.Shape.{DomainShaped}
 
 -- three elements stored in a row
 module _ (l : List ℕ) (p a b c : ℕ) where
@@ -37,7 +37,7 @@ module _ (l : List ℕ) (p a b c : ℕ) where
       ∙ getD-set-other (set l p a) (p + 1) k b 0 y ∙ getD-set-other l p k a 0 x
 
 module _ (d : Domain) (h : ℕ) (x : Delivery) where
-  pub structureAt-withStructure-same : Shaped d → h < 4 → structureAt (withStructure d h x) h ≡ x
+  pub structureAt-withStructure-same : DomainShaped d → h < 4 → structureAt (withStructure d h x) h ≡ x
   unfolding structureAt withStructure
   structureAt-withStructure-same shaped q =
       let within : 3 * h + 2 < length (d .delivery) = omega arith in
@@ -62,7 +62,7 @@ module _ (d : Domain) (h : ℕ) (x : Delivery) where
   unfolding sourceAt withStructure
   sourceAt-withStructure i = refl
 
-  pub shaped-withStructure : Shaped d → Shaped (withStructure d h x)
+  pub shaped-withStructure : DomainShaped d → DomainShaped (withStructure d h x)
   unfolding withStructure
   shaped-withStructure shaped =
       record {

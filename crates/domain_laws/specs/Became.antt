@@ -10,10 +10,10 @@ use Rattle.source.specs.declared.Source.{Source}
 use Rattle.domain.specs.Domain.{Domain, configOf, generatedAt}
 use Rattle.domain.specs.Slot.{sourceAt}
 use Rattle.domain.specs.Structure.{structureAt}
-use Rattle.domain_laws.specs.Shape.{Shaped}
+use Rattle.domain_laws.specs.Shape.{DomainShaped}
 
 pub record Became (d d′ : Domain) (w g : ℕ) (f : ℕ → Source → Source) : Type 0 where
-  pub shaped : Shaped d′
+  pub shaped : DomainShaped d′
   pub config : configOf d′ ≡ w
   pub generated : generatedAt d′ ≡ g
   pub source : (j : ℕ) → 1 ≤ j → j < 64 → sourceAt d′ j ≡ f j (sourceAt d j)

@@ -7,7 +7,7 @@ use native.Mathlib.Omega.{arith}
 use Rattle.words.specs.Parts.{reversed}
 use Rattle.words.specs.Sets.{insert}
 use Rattle.file.specs.declared.File.{File}
-use Rattle.file.specs.Parts.{withPending}
+use Rattle.file.specs.Parts.{withPendingSet}
 use Rattle.file.specs.Page.{arrived, pageWritten}
 
 module _ (n : ℕ) (f : File) (i : ℕ) where
@@ -19,7 +19,7 @@ module _ (n : ℕ) (f : File) (i : ℕ) where
   unfolding arrived
   arrived-above h = simp (le-leb 1 i (omega arith), lt-leb i n h)
 
-  pub arrived-within : 1 ≤ i → i ≤ n → arrived n f i ≡ withPending f (insert (f .pending) i)
+  pub arrived-within : 1 ≤ i → i ≤ n → arrived n f i ≡ withPendingSet f (insert (f .pending) i)
   unfolding arrived
   arrived-within l h = simp (le-leb 1 i l, le-leb i n h)
 

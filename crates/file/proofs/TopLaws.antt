@@ -15,7 +15,7 @@ use borrow.Author.Tests.{eq-eqb, ne-eqb, eqb-true, eqb-false, le-ltb}
 use Rattle.words.specs.Sets.{member, remove}
 use Rattle.words.proofs.TestsLaws.{tested, and-first, and-second, from-next}
 use Rattle.file.specs.declared.File.{File}
-use Rattle.file.specs.Parts.{withPending}
+use Rattle.file.specs.Parts.{withPendingSet}
 use Rattle.file.specs.Top.{passes, qualifies, lowest, topIdentity, topOf, claimed, signals}
 
 -- ---- the search
@@ -158,7 +158,8 @@ module _ (n : ℕ) (f : File) where
   unfolding claimed
   claimed-none e = simp (eq-eqb (topIdentity n f) 0 e)
 
-  pub claimed-some : topIdentity n f ≢ 0 → claimed n f ≡ withPending f (remove (f .pending) (topIdentity n f))
+  pub claimed-some : topIdentity n f ≢ 0 → claimed n f
+      ≡ withPendingSet f (remove (f .pending) (topIdentity n f))
   unfolding claimed
   claimed-some h = simp (ne-eqb (topIdentity n f) 0 h)
 

@@ -9,10 +9,10 @@ use lib.Dec.{leb, eqb}
 use Rattle.words.specs.Parts.{reversed}
 use Rattle.words.specs.Sets.{insert}
 use Rattle.file.specs.declared.File.{File}
-use Rattle.file.specs.Parts.{withPending}
+use Rattle.file.specs.Parts.{withPendingSet}
 
 unfoldable pub arrived : ℕ → File → ℕ → File
-arrived n f i = cond (leb 1 i && leb i n) (withPending f (insert (f .pending) i)) f
+arrived n f i = cond (leb 1 i && leb i n) (withPendingSet f (insert (f .pending) i)) f
 
 unfoldable pub pageWritten : ℕ → File → ℕ → ℕ → File
 pageWritten n f a v = cond (eqb a 0) (arrived n f v) (cond (eqb a 4) (arrived n f (reversed v)) f)

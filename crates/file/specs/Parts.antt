@@ -9,8 +9,8 @@ withDelivery f d = record { delivery = d; threshold = f .threshold; pending = f 
 abbrev pub withThreshold : File → ℕ → File
 withThreshold f t = record { delivery = f .delivery; threshold = t; pending = f .pending; enable = f .enable }
 
-abbrev pub withPending : File → List ℕ → File
-withPending f ws =
+abbrev pub withPendingSet : File → List ℕ → File
+withPendingSet f ws =
     record { delivery = f .delivery; threshold = f .threshold; pending = ws; enable = f .enable }
 
 abbrev pub withEnable : File → List ℕ → File

@@ -17,7 +17,7 @@ use Rattle.file.specs.declared.register.Access.{Access}
 use Rattle.file.specs.declared.register.Access.the-variants.{Read, Write, Set, Clear}
 use Rattle.file.specs.declared.register.Reply.the-variants.{Value, Illegal}
 use Rattle.file.specs.declared.register.Accessed.{Accessed}
-use Rattle.file.specs.Parts.{withDelivery, withThreshold, withPending, withEnable}
+use Rattle.file.specs.Parts.{withDelivery, withThreshold, withPendingSet, withEnable}
 
 unfoldable pub held : File → Register → ℕ
 held f Delivery = f .delivery
@@ -29,7 +29,7 @@ held f Unused = 0
 unfoldable pub written : ℕ → Bool → File → Register → ℕ → File
 written n g f Delivery v = cond (deliveryLegal g v) (withDelivery f v) f
 written n g f Threshold v = withThreshold f (v % (n + 1))
-written n g f (Pending j) v = withPending f (putDoubleword (f .pending) j v)
+written n g f (Pending j) v = withPendingSet f (putDoubleword (f .pending) j v)
 written n g f (Enable j) v = withEnable f (putDoubleword (f .enable) j v)
 written n g f Unused v = f
 

@@ -12,7 +12,7 @@ use mathlib.Core.Bool.{Bool, cond, not, _&&_, _||_}
 use lib.Dec.{eqb, ltb}
 use Rattle.words.specs.Sets.{member, remove}
 use Rattle.file.specs.declared.File.{File}
-use Rattle.file.specs.Parts.{withPending}
+use Rattle.file.specs.Parts.{withPendingSet}
 
 unfoldable pub passes : ℕ → ℕ → Bool
 passes t i = eqb t 0 || ltb i t
@@ -31,7 +31,7 @@ unfoldable pub topOf : ℕ → File → ℕ
 topOf n f = topIdentity n f * 65536 + topIdentity n f
 
 unfoldable pub claimed : ℕ → File → File
-claimed n f = cond (eqb (topIdentity n f) 0) f (withPending f (remove (f .pending) (topIdentity n f)))
+claimed n f = cond (eqb (topIdentity n f) 0) f (withPendingSet f (remove (f .pending) (topIdentity n f)))
 
 unfoldable pub signals : ℕ → File → Bool
 signals n f = eqb (f .delivery) 1 && not (eqb (topOf n f) 0)

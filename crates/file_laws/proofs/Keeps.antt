@@ -30,7 +30,7 @@ use Rattle.file.specs.declared.File.{File}
 use Rattle.file.specs.declared.register.Access.{Access}
 use Rattle.file.specs.declared.register.Access.the-variants.{Read, Write, Set, Clear}
 use Rattle.file.specs.Shape.{Shaped}
-use Rattle.file.specs.Parts.{withDelivery, withThreshold, withPending, withEnable}
+use Rattle.file.specs.Parts.{withDelivery, withThreshold, withPendingSet, withEnable}
 use Rattle.file.specs.Page.{arrived, pageWritten}
 use Rattle.file.specs.Top.{topIdentity, claimed}
 use Rattle.file.specs.Rules.{deliveryRule, thresholdRule, zeroRule, fileSound}
@@ -71,7 +71,7 @@ module _ (n : ℕ) (g : Bool) (f : File) where
 
 module _ (f : File) (s : Shaped f) where
   with-pending-shaped : (ws : List ℕ) → length ws ≡ length (f .pending) → WordsFit ws
-      → Shaped (withPending f ws)
+      → Shaped (withPendingSet f ws)
   with-pending-shaped ws e fit =
       record {
         deliveryFit = s .deliveryFit;
@@ -117,7 +117,7 @@ module _ (f : File) (s : Shaped f) where
 
 -- a pending set in which identity 0 is still clear breaks no rule, and so for the enable set
 with-pending-rules : (n : ℕ) (g : Bool) (f : File) (ws : List ℕ) → Rules n g f → member ws 0 ≡ false
-    → Rules n g (withPending f ws)
+    → Rules n g (withPendingSet f ws)
 with-pending-rules n g f ws r e =
     record { legal = r .legal; below = r .below; pendingZero = e; enableZero = r .enableZero }
 

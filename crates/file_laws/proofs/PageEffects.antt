@@ -13,7 +13,7 @@ use Rattle.words.specs.Sets.{member, insert}
 use Rattle.words.proofs.SetsLaws.{member-insert-same, member-insert-other, length-insert}
 use Rattle.words.proofs.TestsLaws.{tested, and-second}
 use Rattle.file.specs.declared.File.{File}
-use Rattle.file.specs.Parts.{withDelivery, withPending}
+use Rattle.file.specs.Parts.{withDelivery, withPendingSet}
 use Rattle.file.specs.Page.{arrived}
 
 module _ (n : ℕ) (f : File) (i : ℕ) where
@@ -21,7 +21,7 @@ module _ (n : ℕ) (f : File) (i : ℕ) where
   abbrev names : Bool
   names = leb 1 i && leb i n
 
-  arrived-named : names ≡ true → arrived n f i ≡ withPending f (insert (f .pending) i)
+  arrived-named : names ≡ true → arrived n f i ≡ withPendingSet f (insert (f .pending) i)
   unfolding arrived
   arrived-named e = simp e
 

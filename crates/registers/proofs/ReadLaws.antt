@@ -9,16 +9,16 @@ use Rattle.region.specs.declared.role.Role.the-variants.{Claims, Configures, Ge
 use Rattle.region.specs.Role.{roleOf}
 use Rattle.region.proofs.RoleLaws.{claims-only}
 use Rattle.domain.specs.Domain.{Domain}
-use Rattle.direct.specs.Direct.{topiOf, claimed}
+use Rattle.direct.specs.Direct.{topiOf, hartClaimed}
 use Rattle.values.proofs.ValuesLaws.{claimi-value}
-use Rattle.registers.specs.Read.{valueOf, claimedAs, claimedBy}
+use Rattle.registers.specs.Read.{registerValue, claimedAs, claimedBy}
 
 module _ (d : Domain) (w : Word) where
   -- a claimi reads the topi of its hart
-  pub claim-value : (ws : List ℕ) (h : ℕ) → roleOf w ≡ Claims h → valueOf d ws w ≡ topiOf d h
-  claim-value ws h e = ap (valueOf d ws) (claims-only w h e) ∙ claimi-value d ws h
+  pub claim-value : (ws : List ℕ) (h : ℕ) → roleOf w ≡ Claims h → registerValue d ws w ≡ topiOf d h
+  claim-value ws h e = ap (registerValue d ws) (claims-only w h e) ∙ claimi-value d ws h
 
-  pub claimed-by : (h : ℕ) → roleOf w ≡ Claims h → claimedBy d w ≡ claimed d h
+  pub claimed-by : (h : ℕ) → roleOf w ≡ Claims h → claimedBy d w ≡ hartClaimed d h
   unfolding claimedBy claimedAs
   claimed-by h e = ap (claimedAs d) e
 
@@ -33,7 +33,7 @@ module _ (d : Domain) (w : Word) where
       at Plain n = refl
 
   -- what holds of d and of d after any claim holds of d after a read
-  pub claimed-cases : (P : Domain → Type 0) → P d → ((h : ℕ) → P (claimed d h)) → P (claimedBy d w)
+  pub claimed-cases : (P : Domain → Type 0) → P d → ((h : ℕ) → P (hartClaimed d h)) → P (claimedBy d w)
   unfolding claimedBy claimedAs
   claimed-cases P none claim = at (roleOf w)
     where

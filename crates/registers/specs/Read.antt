@@ -1,6 +1,6 @@
 -- What a read of a register does besides; what it gives is in Rattle.values. 01, "The wired controller",
 -- "Direct delivery and signals". Assumes nothing.
---   valueOf d ws w           what a register reads: Rattle.values
+--   registerValue d ws w           what a register reads: Rattle.values
 --   claimedAs d r            d after a register of role r was read: a claimi claims, the others do nothing
 --   claimedBy d w            d after register w was read
 use Rattle.region.specs.declared.Word.{Word}
@@ -8,11 +8,11 @@ use Rattle.region.specs.declared.role.Role.{Role}
 use Rattle.region.specs.declared.role.Role.the-variants.{Claims, Configures, Generates, Plain}
 use Rattle.region.specs.Role.{roleOf}
 use Rattle.domain.specs.Domain.{Domain}
-use Rattle.direct.specs.Direct.{claimed}
-unfoldable pub use Rattle.values.specs.Values.{valueOf}
+use Rattle.direct.specs.Direct.{hartClaimed}
+unfoldable pub use Rattle.values.specs.Values.{registerValue}
 
 unfoldable pub claimedAs : Domain → Role → Domain
-claimedAs d (Claims h) = claimed d h
+claimedAs d (Claims h) = hartClaimed d h
 claimedAs d (Configures i) = d
 claimedAs d Generates = d
 claimedAs d Plain = d

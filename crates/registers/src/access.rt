@@ -4,7 +4,7 @@ ghost use Prim.Native.Nat.{_<_};
 ghost use lib.ListN.{length};
 ghost use Rattle.region.specs.Region.{Within};
 ghost use Rattle.domain.specs.Domain.{domainOf, configOf};
-ghost use Rattle.registers.specs.Read.{valueOf, claimedBy};
+ghost use Rattle.registers.specs.Read.{registerValue, claimedBy};
 ghost use Rattle.registers.specs.Write.{registerWritten};
 use direct::Setting;
 use region::Role;
@@ -16,7 +16,7 @@ use values::value_of;
 // A read, with what it does.
 pub fn read(part: &mut [u32], wires: [u32; 2], word: Word) -> u32
     requires { ⌜ (length (now part) ≡ 144) × (configOf (domainOf (now part)) < 0x80000000) × Within word ⌝ }
-    ensures { λ r. ⌜ (r ≡ valueOf (domainOf (now (part .entry))) wires word)
+    ensures { λ r. ⌜ (r ≡ registerValue (domainOf (now (part .entry))) wires word)
         × (domainOf (now (part .exit)) ≡ claimedBy (domainOf (now (part .entry))) word) ⌝ }
 {
     match role_of(word) {

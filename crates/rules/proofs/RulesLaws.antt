@@ -16,7 +16,8 @@ use Rattle.wired.specs.Wired.{Wired}
 use Rattle.wires.proofs.DelegationLaws.{delegated-mode}
 use Rattle.source_rules.specs.SourceRules.{sourceSound}
 use Rattle.words.specs.Every.{every}
-use Rattle.rules.specs.Rules.{configRange, generatedRange, structureRange, zeroRule, generatedRule}
+use Rattle.rules.specs.Rules.{configRange, generatedRange, structureRange, sourceZeroRule}
+use Rattle.rules.specs.Rules.{generatedRule}
 use Rattle.rules.specs.Rules.{sourceRule, domainSound, delegatedRule, wiredSound}
 
 pub source-rule-read : (c : Bool) (ws : List ℕ) (d : Domain) (i : ℕ) {m e x : Bool} {s : Source}
@@ -43,8 +44,8 @@ delegated-rule-read w i r s =
 
 -- the zeros, of what was read as source 0
 pub zero-read : (d : Domain) {s : Source} → s ≡ sourceAt d 0
-    → (not (s .pending) && not (s .enabled)) ≡ (zeroRule (d .pending) && zeroRule (d .enable))
-unfolding zeroRule
+    → (not (s .pending) && not (s .enabled)) ≡ (sourceZeroRule (d .pending) && sourceZeroRule (d .enable))
+unfolding sourceZeroRule
 zero-read d e =
     let p : sourceAt d 0 .pending ≡ member (d .pending) 0 =
     sym (pending-word d 0) ∙ member-word (d .pending) 0 in
@@ -62,16 +63,16 @@ grouped true true true d e f g = refl
 
 pub domain-sound-read : (c : Bool) (ws : List ℕ) (d : Domain) {p q r s t : Bool}
     → p ≡ configRange d → q ≡ (generatedRange d && generatedRule d)
-    → r ≡ (zeroRule (d .pending) && zeroRule (d .enable)) → s ≡ every (structureRange d) 0 4
+    → r ≡ (sourceZeroRule (d .pending) && sourceZeroRule (d .enable)) → s ≡ every (structureRange d) 0 4
     → t ≡ every (sourceRule c ws d) 1 63 → (p && q && r && s && t) ≡ domainSound c ws d
 unfolding domainSound
 domain-sound-read c ws d p q r s t = (λ k. p k && q k && r k && s k && t k)
-    ∙ grouped (configRange d) (generatedRange d) (generatedRule d) (zeroRule (d .pending))
-    (zeroRule (d .enable)) (every (structureRange d) 0 4) (every (sourceRule c ws d) 1 63)
+    ∙ grouped (configRange d) (generatedRange d) (generatedRule d) (sourceZeroRule (d .pending))
+    (sourceZeroRule (d .enable)) (every (structureRange d) 0 4) (every (sourceRule c ws d) 1 63)
 
 pub wired-sound-read : (w : Wired) {p q r s : Bool}
     → p ≡ member (w .wires) 0 → q ≡ domainSound false (w .wires) (w .root)
     → r ≡ domainSound true (w .wires) (w .child) → s ≡ every (delegatedRule w) 1 63
     → (not p && q && r && s) ≡ wiredSound w
-unfolding wiredSound zeroRule
+unfolding wiredSound sourceZeroRule
 wired-sound-read w p q r s = λ k. not (p k) && q k && r k && s k

@@ -3,7 +3,7 @@
 --   configRange d           the stored domaincfg has no bits but IE and DM
 --   generatedRange d        the stored genmsi has no bits but a hart and an identity
 --   structureRange d h      the numbers of the delivery structure of hart h lie in their ranges
---   zeroRule ws             there is no number 0 in the set ws: no wire and no source has it
+--   sourceZeroRule ws             there is no number 0 in the set ws: no wire and no source has it
 --   generatedRule d         genmsi is 0 in direct mode
 --   sourceRule c ws d i     source i keeps the rules of a source; ws are the wires
 --   domainSound c ws d      all of these, for a domain
@@ -34,8 +34,8 @@ generatedRange d = eqb (generatedAt d) (keptGenerated (generatedAt d))
 unfoldable pub structureRange : Domain → ℕ → Bool
 structureRange d h = deliverySound (structureAt d h)
 
-unfoldable pub zeroRule : List ℕ → Bool
-zeroRule ws = not (member ws 0)
+unfoldable pub sourceZeroRule : List ℕ → Bool
+sourceZeroRule ws = not (member ws 0)
 
 unfoldable pub generatedRule : Domain → Bool
 generatedRule d = byMessages d || eqb (generatedAt d) 0
@@ -46,7 +46,8 @@ sourceRule c ws d i =
 
 unfoldable pub domainSound : Bool → List ℕ → Domain → Bool
 domainSound c ws d =
-    configRange d && generatedRange d && generatedRule d && zeroRule (d .pending) && zeroRule (d .enable)
+    configRange d && generatedRange d && generatedRule d && sourceZeroRule (d .pending)
+    && sourceZeroRule (d .enable)
     && every (structureRange d) 0 4 && every (sourceRule c ws d) 1 63
 
 unfoldable pub delegatedRule : Wired → ℕ → Bool
@@ -54,5 +55,6 @@ delegatedRule w i = isDelegated w i || eqb (sourceAt (w .child) i .mode) 0
 
 unfoldable pub wiredSound : Wired → Bool
 wiredSound w =
-    zeroRule (w .wires) && domainSound false (w .wires) (w .root) && domainSound true (w .wires) (w .child)
+    sourceZeroRule (w .wires) && domainSound false (w .wires) (w .root)
+    && domainSound true (w .wires) (w .child)
     && every (delegatedRule w) 1 63

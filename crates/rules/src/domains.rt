@@ -6,7 +6,8 @@ ghost use lib.ListN.{length};
 ghost use Rattle.domain.specs.Domain.{domainOf};
 ghost use Rattle.wired.specs.Wired.{wiredOf};
 ghost use Rattle.words.specs.Every.{every};
-ghost use Rattle.rules.specs.Rules.{configRange, generatedRange, generatedRule, zeroRule, domainSound};
+ghost use Rattle.rules.specs.Rules.{configRange, generatedRange, generatedRule, sourceZeroRule};
+ghost use Rattle.rules.specs.Rules.{domainSound};
 ghost use Rattle.rules.specs.Rules.{delegatedRule, wiredSound};
 use super::sources::source_pass;
 use super::sources::structure_pass;
@@ -30,8 +31,8 @@ fn generated_rules(part: &[u32]) -> bool
 
 fn no_zero(part: &[u32]) -> bool
     requires { ⌜ length (now part) ≡ 144 ⌝ }
-    ensures { λ r. ⌜ r ≡ (zeroRule (domainOf (now (part .entry)) .pending)
-        && zeroRule (domainOf (now (part .entry)) .enable)) ⌝ }
+    ensures { λ r. ⌜ r ≡ (sourceZeroRule (domainOf (now (part .entry)) .pending)
+        && sourceZeroRule (domainOf (now (part .entry)) .enable)) ⌝ }
 {
     let s = domain::load(part, 0);
     !s.pending & !s.enabled

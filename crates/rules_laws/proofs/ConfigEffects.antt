@@ -32,7 +32,7 @@ use Rattle.source_rules.specs.SourceRules.{sourceSteady}
 use Rattle.source_laws.proofs.TargetEffects.{keptGenerated-back}
 use Rattle.source_laws.proofs.SteadyEffects.{steady-redelivered}
 use Rattle.rules.specs.Rules.{structureRange, generatedRule}
-use Rattle.rules_laws.specs.Steady.{Steady, Kept, Quiet}
+use Rattle.rules_laws.specs.Steady.{Steady, DomainKept, Quiet}
 use Rattle.rules_laws.proofs.ModeEffects.{redelivered-mode}
 use Rattle.rules_laws.proofs.SteadyEffects.{steady-became, steady-config, steady-generated}
 use Rattle.rules_laws.proofs.SteadyEffects.{became-modes, kept-none, kept-withStructure}
@@ -87,7 +87,7 @@ module _ (c : Bool) (ws : List ℕ) (d : Domain) (s : Steady c ws d) (v : ℕ) w
       (λ f. rw (f, keptConfig-messages v)
       (steady-redelivered c (byMessages d) (member ws i) (sourceAt d i) (s .source i l h) (hasBit v 2)))
 
-  pub kept-configWritten : Kept c ws d (configWritten d ws v)
+  pub kept-configWritten : DomainKept c ws d (configWritten d ws v)
   kept-configWritten =
       let became = became-configWritten d ws v (s .shaped) in
       record {
@@ -113,7 +113,7 @@ module _ (c : Bool) (ws : List ℕ) (d : Domain) (s : Steady c ws d) (v : ℕ) w
   unfolding byMessages generatedRule
   generated-rule = tested (byMessages d) (λ t. rw t) (λ f. rw f (rw f at (s .generated)))
 
-  pub kept-generatedWritten : Kept c ws d (generatedWritten d v)
+  pub kept-generatedWritten : DomainKept c ws d (generatedWritten d v)
   unfolding byMessages
   kept-generatedWritten =
       let became = became-generatedWritten d v (s .shaped) in
@@ -137,7 +137,7 @@ sound-writtenAt x e Iforce v = iforce-keeps x e v
 sound-writtenAt x e Ithreshold v = ithreshold-keeps x e v
 
 pub kept-settingWritten : (c : Bool) (ws : List ℕ) (d : Domain) → Steady c ws d
-    → (h : ℕ) → h < 4 → (g : Setting) (v : ℕ) → Kept c ws d (settingWritten d h g v)
+    → (h : ℕ) → h < 4 → (g : Setting) (v : ℕ) → DomainKept c ws d (settingWritten d h g v)
 unfolding structureRange
 kept-settingWritten c ws d s h l g v =
     let sound = sound-writtenAt (structureAt d h) (s .structures h l) g v in

@@ -13,7 +13,7 @@ use Rattle.source.specs.declared.Source.{Source}
 use Rattle.domain.specs.Domain.{Domain, configOf, generatedAt, isEnabled, byMessages}
 use Rattle.domain.specs.Slot.{sourceAt}
 use Rattle.domain.specs.Structure.{structureAt}
-use Rattle.domain_laws.specs.Shape.{Shaped}
+use Rattle.domain_laws.specs.Shape.{DomainShaped}
 use Rattle.domain_laws.specs.Became.{Touched}
 use Rattle.sending.specs.Sending.{candidate, Sent, sentNothing, sent}
 use Rattle.sending.proofs.SendingLaws.{sent-off}
@@ -22,7 +22,7 @@ use Rattle.sending_laws.proofs.SendingEffects.{spent-hit, spent-miss, sent-rest
 use Rattle.sending_laws.proofs.SendingEffects.{sent-source, sent-quiet, sent-none}
 use Rattle.source_rules.specs.SourceRules.{sourceSteady, sentRule}
 use Rattle.source_laws.proofs.SteadyEffects.{steady-unpended}
-use Rattle.rules_laws.specs.Steady.{Steady, Kept, sends, Quiet}
+use Rattle.rules_laws.specs.Steady.{Steady, DomainKept, sends, Quiet}
 use Rattle.rules_laws.proofs.ModeEffects.{spent-mode}
 use Rattle.rules_laws.proofs.SteadyEffects.{steady-touched, became-modes}
 use Rattle.rules_laws.proofs.QuietEffects.{sends-same}
@@ -33,7 +33,7 @@ module _ (c : Bool) (d : Domain) where
   abbrev after : Domain
   after = sent c d .domain
 
-  shaped-sent : Shaped d → Shaped after
+  shaped-sent : DomainShaped d → DomainShaped after
   shaped-sent shaped =
       let rest = sent-rest c d in
       record {
@@ -61,7 +61,7 @@ module _ (c : Bool) (d : Domain) where
   unfolding sourceAt
   pending-sent = ap (λ (s : Source). s .pending) (sent-other c d 0 (λ p. omega (arith, p .0)))
 
-  pub touched-sent : Shaped d → Touched d after turned
+  pub touched-sent : DomainShaped d → Touched d after turned
   touched-sent shaped =
       let rest = sent-rest c d in
       record {
@@ -83,7 +83,7 @@ module _ (c m wire : Bool) (s : Source) (e : sourceSteady c m wire s ≡ true) w
       (λ n. rw (spent-miss s n) e)
 
 module _ (c : Bool) (ws : List ℕ) (d : Domain) (s : Steady c ws d) where
-  pub kept-sent : Kept c ws d (sent c d .domain)
+  pub kept-sent : DomainKept c ws d (sent c d .domain)
   kept-sent =
       let touched = touched-sent c d (s .shaped) in
       record {

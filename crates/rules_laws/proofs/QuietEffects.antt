@@ -10,7 +10,7 @@ use Rattle.source.specs.declared.Source.{Source}
 use Rattle.source.specs.Pending.{inactive}
 use Rattle.domain.specs.Domain.{Domain, configOf, byMessages}
 use Rattle.domain.specs.Slot.{sourceAt, withSource}
-use Rattle.domain_laws.specs.Shape.{Shaped}
+use Rattle.domain_laws.specs.Shape.{DomainShaped}
 use Rattle.domain_laws.specs.Became.{Became}
 use Rattle.domain_laws.proofs.BecameEffects.{touched-withSource}
 use Rattle.domain_laws.proofs.OwnEffects.{isEnabled-same, byMessages-same}
@@ -35,11 +35,11 @@ module _ (d : Domain) (q : Quiet d) (i : ℕ) (x : Source) (e : sentRule (sends 
   quiet-at j l h (yes y) = rw (eq-eqb i j y) e
   quiet-at j l h (no n) = rw (ne-eqb i j n) (q j l h)
 
-  pub quiet-withSource : Shaped d → 1 ≤ i → i < 64 → Quiet (withSource d i x)
+  pub quiet-withSource : DomainShaped d → 1 ≤ i → i < 64 → Quiet (withSource d i x)
   quiet-withSource shaped l h =
       quiet-became (touched-withSource d i (λ j _. x) shaped l h) (λ j a b. quiet-at j a b (ℕ-discrete i j))
 
 -- a source that starts anew has nothing to send
-pub quiet-started : (d : Domain) → Quiet d → (i : ℕ) → Shaped d → 1 ≤ i → i < 64
+pub quiet-started : (d : Domain) → Quiet d → (i : ℕ) → DomainShaped d → 1 ≤ i → i < 64
     → Quiet (withSource d i (inactive 0))
 quiet-started d q i = quiet-withSource d q i (inactive 0) (sent-start (sends d))

@@ -26,7 +26,7 @@ use Rattle.writes_laws.proofs.WritesEffects.{touched-wordChanged, touched-numbe
 use Rattle.direct.specs.declared.Setting.the-variants as setting
 use Rattle.registers.specs.Write.{registerWritten}
 use Rattle.source_laws.proofs.SteadyEffects.{steady-changed, steady-retargeted}
-use Rattle.rules_laws.specs.Steady.{Steady, Kept}
+use Rattle.rules_laws.specs.Steady.{Steady, DomainKept}
 use Rattle.rules_laws.proofs.ModeEffects.{changed-mode, retargeted-mode}
 use Rattle.rules_laws.proofs.SteadyEffects.{steady-touched, became-modes, kept-none, kept-withSource}
 use Rattle.rules_laws.proofs.ConfigEffects.{kept-configWritten, kept-generatedWritten}
@@ -37,7 +37,7 @@ module _ (c : Bool) (ws : List ℕ) (d : Domain) (s : Steady c ws d) where
 
   -- a write of the family x that names the sources of p
   kept-changing : (x : Change) (p : ℕ → Bool) {d′ : Domain} → Touched d d′ (changing d ws x p)
-      → Kept c ws d d′
+      → DomainKept c ws d d′
   kept-changing x p t =
       let m = byMessages d in
       record {
@@ -51,13 +51,13 @@ module _ (c : Bool) (ws : List ℕ) (d : Domain) (s : Steady c ws d) where
             (λ i l h. tested (p i) (λ y. rw y (changed-mode (sourceAt d i) x m (member ws i))) (λ n. rw n));
       }
 
-  pub kept-wordChanged : (x : Change) (k : ℕ) → k < 2 → (v : ℕ) → Kept c ws d (wordChanged d ws x k v)
+  pub kept-wordChanged : (x : Change) (k : ℕ) → k < 2 → (v : ℕ) → DomainKept c ws d (wordChanged d ws x k v)
   kept-wordChanged x k h v = kept-changing x (named k v) (touched-wordChanged d ws x v (s .shaped) k h)
 
-  pub kept-numberChanged : (x : Change) (v : ℕ) → Kept c ws d (numberChanged d ws x v)
+  pub kept-numberChanged : (x : Change) (v : ℕ) → DomainKept c ws d (numberChanged d ws x v)
   kept-numberChanged x v = kept-changing x (eqb v) (touched-numberChanged d ws x v (s .shaped))
 
-  pub kept-targetWritten : (i : ℕ) → 1 ≤ i → i < 64 → (v : ℕ) → Kept c ws d (targetWritten c d i v)
+  pub kept-targetWritten : (i : ℕ) → 1 ≤ i → i < 64 → (v : ℕ) → DomainKept c ws d (targetWritten c d i v)
   unfolding targetWritten
   kept-targetWritten i l h v =
       let x = sourceAt d i in
@@ -67,7 +67,7 @@ module _ (c : Bool) (ws : List ℕ) (d : Domain) (s : Steady c ws d) where
 
   -- ---- a write to any register
 
-  pub kept-registerWritten : (r : Word) → Within r → (v : ℕ) → Kept c ws d (registerWritten c d ws r v)
+  pub kept-registerWritten : (r : Word) → Within r → (v : ℕ) → DomainKept c ws d (registerWritten c d ws r v)
   unfolding registerWritten
   kept-registerWritten Domaincfg q v = kept-configWritten c ws d s v
   kept-registerWritten (Sourcecfg i) q v = kept-none c ws d s

@@ -10,11 +10,11 @@ use Rattle.words.specs.Sets.{member}
 use Rattle.words.proofs.TestsLaws.{and-first, and-second, and-both}
 use Rattle.domain.specs.Domain.{Domain, byMessages}
 use Rattle.domain.specs.Slot.{sourceAt}
-use Rattle.domain_laws.specs.Shape.{Shaped}
+use Rattle.domain_laws.specs.Shape.{DomainShaped}
 use Rattle.wired.specs.Wired.{Wired}
 use Rattle.source_rules.specs.SourceRules.{sourceSteady, sentRule, sourceSound}
 use Rattle.words.specs.Every.{every}
-use Rattle.rules.specs.Rules.{configRange, generatedRange, structureRange, zeroRule, generatedRule}
+use Rattle.rules.specs.Rules.{configRange, generatedRange, structureRange, sourceZeroRule, generatedRule}
 use Rattle.rules.specs.Rules.{sourceRule, domainSound, delegatedRule, wiredSound}
 use Rattle.words.proofs.EveryLaws.{every-each, every-of}
 use Rattle.rules_laws.specs.Steady.{Steady, sends, Quiet, WiredSteady, WiredQuiet}
@@ -43,24 +43,25 @@ module _ (c : Bool) (ws : List ℕ) (d : Domain) where
 
   -- the rules of a domain in two groups
   abbrev own : Bool
-  own = configRange d && generatedRange d && generatedRule d && zeroRule (d .pending)
+  own = configRange d && generatedRange d && generatedRule d && sourceZeroRule (d .pending)
 
   module _ (e : domainSound c ws d ≡ true) where
-    later : (own ≡ true) × (zeroRule (d .enable) ≡ true) × (every (structureRange d) 0 4 ≡ true)
+    later : (own ≡ true) × (sourceZeroRule (d .enable) ≡ true) × (every (structureRange d) 0 4 ≡ true)
         × (every (sourceRule c ws d) 1 63 ≡ true)
     unfolding domainSound
     later =
-        four own (zeroRule (d .enable)) (every (structureRange d) 0 4) (every (sourceRule c ws d) 1 63) e
+        four own (sourceZeroRule (d .enable)) (every (structureRange d) 0 4) (every (sourceRule c ws d) 1 63)
+        e
 
     first : (configRange d ≡ true) × (generatedRange d ≡ true) × (generatedRule d ≡ true)
-        × (zeroRule (d .pending) ≡ true)
-    first = four (configRange d) (generatedRange d) (generatedRule d) (zeroRule (d .pending)) (later .0)
+        × (sourceZeroRule (d .pending) ≡ true)
+    first = four (configRange d) (generatedRange d) (generatedRule d) (sourceZeroRule (d .pending)) (later .0)
 
     rule : (i : ℕ) → 1 ≤ i → i < 64 → (rule-steady i && rule-sent i) ≡ true
     unfolding sourceRule sourceSound
     rule = every-each (sourceRule c ws d) 1 63 (later .3)
 
-    pub sound-steady : Shaped d → Steady c ws d
+    pub sound-steady : DomainShaped d → Steady c ws d
     sound-steady shaped =
         record {
           shaped = shaped;
@@ -88,14 +89,15 @@ module _ (c : Bool) (ws : List ℕ) (d : Domain) where
 
 module _ (w : Wired) where
   module _ (e : wiredSound w ≡ true) where
-    parts : (zeroRule (w .wires) ≡ true) × (domainSound false (w .wires) (w .root) ≡ true)
+    parts : (sourceZeroRule (w .wires) ≡ true) × (domainSound false (w .wires) (w .root) ≡ true)
         × (domainSound true (w .wires) (w .child) ≡ true) × (every (delegatedRule w) 1 63 ≡ true)
     unfolding wiredSound
     parts =
-        four (zeroRule (w .wires)) (domainSound false (w .wires) (w .root))
+        four (sourceZeroRule (w .wires)) (domainSound false (w .wires) (w .root))
         (domainSound true (w .wires) (w .child)) (every (delegatedRule w) 1 63) e
 
-    pub wired-sound-steady : length (w .wires) ≡ 2 → Shaped (w .root) → Shaped (w .child) → WiredSteady w
+    pub wired-sound-steady : length (w .wires) ≡ 2 → DomainShaped (w .root) → DomainShaped (w .child)
+        → WiredSteady w
     wired-sound-steady long r c =
         record {
           long = long;

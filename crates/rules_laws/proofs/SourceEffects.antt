@@ -15,14 +15,14 @@ use Rattle.source.specs.declared.Source.{Source}
 use Rattle.source.specs.Pending.{inactive, wireChanged, moded}
 use Rattle.domain.specs.Domain.{Domain, byMessages}
 use Rattle.domain.specs.Slot.{sourceAt, withSource}
-use Rattle.domain_laws.specs.Shape.{Shaped}
+use Rattle.domain_laws.specs.Shape.{DomainShaped}
 use Rattle.domain_laws.proofs.SlotEffects.{sourceAt-withSource-same, sourceAt-withSource-other}
 use Rattle.domain_laws.proofs.SlotEffects.{withSource-back}
 use Rattle.wired.specs.Wired.{sourceWired, sourceModed}
 use Rattle.source_laws.proofs.SteadyParts.{steady-start}
 use Rattle.source_laws.proofs.SteadyEffects.{steady-wireChanged, steady-moded, steady-sourceWord}
 use Rattle.source_laws.proofs.SameEffects.{wireChanged-inactive, wireChanged-same, moded-same}
-use Rattle.rules_laws.specs.Steady.{Steady, Kept}
+use Rattle.rules_laws.specs.Steady.{Steady, DomainKept}
 use Rattle.rules_laws.proofs.ModeEffects.{wireChanged-mode, moded-mode}
 use Rattle.rules_laws.proofs.SteadyEffects.{steady-replaced, modes-replaced, steady-withSource}
 
@@ -30,7 +30,7 @@ use Rattle.rules_laws.proofs.SteadyEffects.{steady-replaced, modes-repl
 
 module _ (c : Bool) (ws : List ℕ) (d : Domain) (s : Steady c ws d) (i : ℕ) (l : 1 ≤ i) (h : i < 64) where
   pub kept-sourceWired : length ws ≡ 2 → (level : Bool)
-      → Kept c (put ws i level) d (sourceWired d i (member ws i) level)
+      → DomainKept c (put ws i level) d (sourceWired d i (member ws i) level)
   unfolding sourceWired
   kept-sourceWired long level =
       let x = sourceAt d i in
@@ -92,7 +92,7 @@ sourceWired-inactive d i was is f =
 -- ---- the sourcecfg words after a write to one
 
 module _ (d : Domain) (i v : ℕ) (wire : Bool) where
-  pub mode-sourceModed : Shaped d → i < 64 → sourceAt (sourceModed d i v wire) i .mode ≡ v
+  pub mode-sourceModed : DomainShaped d → i < 64 → sourceAt (sourceModed d i v wire) i .mode ≡ v
   unfolding sourceModed
   mode-sourceModed shaped h =
       ap (λ (x : Source). x .mode) (sourceAt-withSource-same d i _ shaped h)

@@ -18,7 +18,7 @@ use Rattle.delivery.specs.Delivery.{deliverySound}
 use Rattle.domain.specs.Domain.{Domain, configOf, byMessages, generatedAt}
 use Rattle.domain.specs.Slot.{sourceAt, withSource}
 use Rattle.domain.specs.Structure.{withStructure}
-use Rattle.domain_laws.specs.Shape.{Shaped}
+use Rattle.domain_laws.specs.Shape.{DomainShaped}
 use Rattle.domain_laws.specs.Became.{Became, Touched}
 use Rattle.domain_laws.proofs.BecameEffects.{became-messages}
 use Rattle.domain_laws.proofs.BecameEffects.{touched-withSource}
@@ -28,8 +28,8 @@ use Rattle.domain_laws.proofs.StructureEffects.{structureAt-withStructure-other
 use Rattle.domain_laws.proofs.StructureEffects.{shaped-withStructure}
 use Rattle.config.specs.Config.{keptConfig}
 use Rattle.source_rules.specs.SourceRules.{sourceSteady}
-use Rattle.rules.specs.Rules.{configRange, generatedRange, structureRange, zeroRule, generatedRule}
-use Rattle.rules_laws.specs.Steady.{Steady, Kept}
+use Rattle.rules.specs.Rules.{configRange, generatedRange, structureRange, sourceZeroRule, generatedRule}
+use Rattle.rules_laws.specs.Steady.{Steady, DomainKept}
 
 -- ---- the rules of a steady domain, as facts on numbers
 
@@ -51,7 +51,7 @@ module _ (c : Bool) (ws ws′ : List ℕ) (d : Domain) (s : Steady c ws d) where
       → ((i : ℕ) → 1 ≤ i → i < 64
       → sourceSteady c (hasBit w 2) (member ws′ i) (f i (sourceAt d i)) ≡ true)
       → Steady c ws′ d′
-  unfolding configRange generatedRange generatedRule structureRange zeroRule
+  unfolding configRange generatedRange generatedRule structureRange sourceZeroRule
   steady-became {d′} {w} {g} {f} b ew eg rule keeps =
       let mode = became-messages b in
       record {
@@ -80,7 +80,7 @@ pub became-modes : {d d′ : Domain} {w g : ℕ} {f : ℕ → Source → Source}
 became-modes b same i l h = ap (λ (x : Source). x .mode) (b .source i l h) ∙ same i l h
 
 -- nothing changed
-pub kept-none : (c : Bool) (ws : List ℕ) (d : Domain) → Steady c ws d → Kept c ws d d
+pub kept-none : (c : Bool) (ws : List ℕ) (d : Domain) → Steady c ws d → DomainKept c ws d d
 kept-none c ws d s = record { steady = s; modes = λ i l h. refl }
 
 -- ---- one source replaced
@@ -104,7 +104,7 @@ module _ (d : Domain) (i : ℕ) (x : Source) (same : x .mode ≡ sourceAt d i .m
   modes-at j (yes q) = rw (eq-eqb i j q, ← q) same
   modes-at j (no n) = rw (ne-eqb i j n)
 
-  pub modes-replaced : Shaped d → 1 ≤ i → i < 64
+  pub modes-replaced : DomainShaped d → 1 ≤ i → i < 64
       → (j : ℕ) → 1 ≤ j → j < 64 → sourceAt (withSource d i x) j .mode ≡ sourceAt d j .mode
   modes-replaced shaped l h =
       became-modes (touched-withSource d i (λ j _. x) shaped l h) (λ j _ _. modes-at j (ℕ-discrete i j))
@@ -115,7 +115,7 @@ module _ (c : Bool) (ws : List ℕ) (d : Domain) (s : Steady c ws d) (i : ℕ) (
   steady-withSource l h e = steady-replaced c ws ws d s i x l h e (λ j n. refl)
 
   pub kept-withSource : 1 ≤ i → i < 64 → sourceSteady c (byMessages d) (member ws i) x ≡ true
-      → x .mode ≡ sourceAt d i .mode → Kept c ws d (withSource d i x)
+      → x .mode ≡ sourceAt d i .mode → DomainKept c ws d (withSource d i x)
   kept-withSource l h e same =
       record { steady = steady-withSource l h e; modes = modes-replaced d i x same (s .shaped) l h }
 
@@ -129,7 +129,7 @@ module _ (c : Bool) (ws : List ℕ) (d : Domain) (s : Steady c ws d) (h : ℕ) (
       let l : h < 4 = omega arith in rw (y, structureAt-withStructure-same d h x (s .shaped) l) (e l)
   structure-at e g q (no n) = rw (structureAt-withStructure-other d h x g n) (s .structures g q)
 
-  pub kept-withStructure : (h < 4 → deliverySound x ≡ true) → Kept c ws d (withStructure d h x)
+  pub kept-withStructure : (h < 4 → deliverySound x ≡ true) → DomainKept c ws d (withStructure d h x)
   unfolding configRange generatedRange generatedRule
   kept-withStructure e =
       let config = own.configOf-withStructure d h x in

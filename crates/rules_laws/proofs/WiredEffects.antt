@@ -16,8 +16,8 @@ use Rattle.domain.specs.Slot.{sourceAt}
 use Rattle.registers.specs.Read.{claimedBy}
 use Rattle.registers.specs.Write.{registerWritten}
 use Rattle.wired.specs.Wired.{Wired, domainIn, withDomain, claimedIn, partWritten, wireSet, isDelegated}
-use Rattle.rules.specs.Rules.{zeroRule, delegatedRule, wiredSound}
-use Rattle.rules_laws.specs.Steady.{Steady, Kept, WiredSteady, WiredQuiet, passed}
+use Rattle.rules.specs.Rules.{sourceZeroRule, delegatedRule, wiredSound}
+use Rattle.rules_laws.specs.Steady.{Steady, DomainKept, WiredSteady, WiredQuiet, passed}
 use Rattle.rules_laws.proofs.SoundParts.{wired-sound-joined}
 use Rattle.rules_laws.proofs.SteadyEffects.{kept-none}
 use Rattle.rules_laws.proofs.RegisterEffects.{kept-registerWritten}
@@ -45,8 +45,8 @@ module _ (w : Wired) (i : ℕ) where
 -- ---- a change that leaves the sourcecfg words
 
 module _ (w : Wired) (s : WiredSteady w) where
-  wired-kept : (ws : List ℕ) (r c : Domain) → length ws ≡ 2 → zeroRule ws ≡ true
-      → Kept false ws (w .root) r → Kept true ws (w .child) c
+  wired-kept : (ws : List ℕ) (r c : Domain) → length ws ≡ 2 → sourceZeroRule ws ≡ true
+      → DomainKept false ws (w .root) r → DomainKept true ws (w .child) c
       → WiredSteady record { wires = ws; root = r; child = c }
   wired-kept ws r c long zero kr kc =
       record {
@@ -58,10 +58,10 @@ module _ (w : Wired) (s : WiredSteady w) where
             (kr .modes i l h) (kc .modes i l h) ∙ s .delegated i l h;
       }
 
-  root-none : Kept false (w .wires) (w .root) (w .root)
+  root-none : DomainKept false (w .wires) (w .root) (w .root)
   root-none = kept-none false (w .wires) (w .root) (s .root)
 
-  child-none : Kept true (w .wires) (w .child) (w .child)
+  child-none : DomainKept true (w .wires) (w .child) (w .child)
   child-none = kept-none true (w .wires) (w .child) (s .child)
 
   pub steady-domainIn : (c : Bool) → Steady c (w .wires) (domainIn w c)
@@ -70,14 +70,14 @@ module _ (w : Wired) (s : WiredSteady w) where
   steady-domainIn false = s .root
 
   -- in one domain
-  wired-withDomain : (c : Bool) (d : Domain) → Kept c (w .wires) (domainIn w c) d
+  wired-withDomain : (c : Bool) (d : Domain) → DomainKept c (w .wires) (domainIn w c) d
       → WiredSteady (withDomain w c d)
   unfolding withDomain domainIn
   wired-withDomain true d k = wired-kept (w .wires) (w .root) d (s .long) (s .zero) root-none k
   wired-withDomain false d k = wired-kept (w .wires) d (w .child) (s .long) (s .zero) k child-none
 
   pub steady-wireSet : (i : ℕ) → 1 ≤ i → i < 64 → (level : Bool) → WiredSteady (wireSet w i level)
-  unfolding wireSet zeroRule
+  unfolding wireSet sourceZeroRule
   steady-wireSet i l h level =
       wired-kept (put (w .wires) i level) _ _ (length-put (w .wires) i level ∙ s .long)
       (rw (member-put-other (w .wires) i level 0 (λ e. omega arith)) (s .zero))

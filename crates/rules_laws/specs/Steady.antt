@@ -1,7 +1,7 @@
 -- The state rules in two halves: those that hold also in the middle of a call, before anything is sent, and
 -- that everything has been sent. 01, "State rules". Assumes nothing.
 --   Steady c ws d       every rule of a domain but the one that it has sent all; ws are the wires
---   Kept c ws d d′      d′ is steady and has the sourcecfg words of d
+--   DomainKept c ws d d′      d′ is steady and has the sourcecfg words of d
 --   Quiet d             the domain has sent all
 --   WiredSteady w       every rule of the controller but that its domains have sent all
 --   WiredQuiet w        both domains have sent all
@@ -15,24 +15,24 @@ use lib.ListN.{length}
 use Rattle.words.specs.Sets.{member}
 use Rattle.domain.specs.Domain.{Domain, isEnabled, byMessages}
 use Rattle.domain.specs.Slot.{sourceAt}
-use Rattle.domain_laws.specs.Shape.{Shaped}
+use Rattle.domain_laws.specs.Shape.{DomainShaped}
 use Rattle.sending.specs.Sending.{sent}
 use Rattle.wired.specs.Wired.{Wired}
 use Rattle.source_rules.specs.SourceRules.{sourceSteady, sentRule}
-use Rattle.rules.specs.Rules.{configRange, generatedRange, structureRange, zeroRule, generatedRule}
+use Rattle.rules.specs.Rules.{configRange, generatedRange, structureRange, sourceZeroRule, generatedRule}
 use Rattle.rules.specs.Rules.{delegatedRule}
 
 pub record Steady (c : Bool) (ws : List ℕ) (d : Domain) : Type 0 where
-  pub shaped : Shaped d
+  pub shaped : DomainShaped d
   pub config : configRange d ≡ true
   pub generated-range : generatedRange d ≡ true
   pub generated : generatedRule d ≡ true
   pub structures : (h : ℕ) → h < 4 → structureRange d h ≡ true
-  pub pending-zero : zeroRule (d .pending) ≡ true
-  pub enable-zero : zeroRule (d .enable) ≡ true
+  pub pending-zero : sourceZeroRule (d .pending) ≡ true
+  pub enable-zero : sourceZeroRule (d .enable) ≡ true
   pub source : (i : ℕ) → 1 ≤ i → i < 64 → sourceSteady c (byMessages d) (member ws i) (sourceAt d i) ≡ true
 
-pub record Kept (c : Bool) (ws : List ℕ) (d d′ : Domain) : Type 0 where
+pub record DomainKept (c : Bool) (ws : List ℕ) (d d′ : Domain) : Type 0 where
   pub steady : Steady c ws d′
   pub modes : (i : ℕ) → 1 ≤ i → i < 64 → sourceAt d′ i .mode ≡ sourceAt d i .mode
 
@@ -45,7 +45,7 @@ Quiet d = (i : ℕ) → 1 ≤ i → i < 64 → sentRule (sends d) (sourceAt d i)
 
 pub record WiredSteady (w : Wired) : Type 0 where
   pub long : length (w .wires) ≡ 2
-  pub zero : zeroRule (w .wires) ≡ true
+  pub zero : sourceZeroRule (w .wires) ≡ true
   pub root : Steady false (w .wires) (w .root)
   pub child : Steady true (w .wires) (w .child)
   pub delegated : (i : ℕ) → 1 ≤ i → i < 64 → delegatedRule w i ≡ true

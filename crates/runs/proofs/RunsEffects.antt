@@ -14,7 +14,7 @@ use Rattle.block.specs.Block.{blockOf}
 use Rattle.block_laws.proofs.BlockBack.{board-back, length-blockOf}
 use Rattle.call.specs.declared.Call.{Call}
 use Rattle.call.specs.Outcome.{Outcome, Stepped, step}
-use Rattle.call.specs.Refusal.{testsRules, named, nameRefusal, refusalOf}
+use Rattle.call.specs.Refusal.{testsRules, present, nameRefusal, refusalOf}
 use Rattle.call.proofs.RefusalLaws.{refused-numbers, refused-name, blocks-sound}
 use Rattle.call_laws.specs.Fit.{Fit, Kept}
 use Rattle.call_laws.specs.Small.{Small}
@@ -57,9 +57,9 @@ module _ (c : Call) (x : Lent) where
         (blocks-sound (testsRules c) (x .block) (x .log) (ready .long) (ready .full) (ready .fit .sound))
 
     -- an accepted call named what is there
-    pub accepted-named : nameRefusal c (boardIn x) ≡ 0 → named c (boardIn x) ≡ true
+    pub accepted-named : nameRefusal c (boardIn x) ≡ 0 → present c (boardIn x) ≡ true
     accepted-named e =
-        tested (named c (boardIn x)) (λ y. y) (λ n. absurd (omega (arith, refused-name c (boardIn x) n, e)))
+        tested (present c (boardIn x)) (λ y. y) (λ n. absurd (omega (arith, refused-name c (boardIn x) n, e)))
 
     abbrev stepped : Stepped
     stepped = step c (boardIn x) (x .saved)

@@ -8,7 +8,7 @@ use borrow.Author.Tests.{lt-ltb, le-ltb, le-leb, lt-leb, eq-eqb, ne-eqb}
 use Rattle.select.specs.declared.Register.{Register}
 use Rattle.select.specs.declared.Register.the-variants.{Delivery, Threshold, Pending, Enable}
 use Rattle.select.specs.declared.Register.the-variants.{Unused}
-use Rattle.select.specs.Select.{selectLegal, registerOf, wordsFrom}
+use Rattle.select.specs.Select.{selectLegal, registerOf, registersFrom}
 
 module _ (s : ℕ) where
   pub legal-below : s < 0x70 → selectLegal s ≡ false
@@ -29,12 +29,12 @@ module _ (s : ℕ) where
 
 -- the words from base on: those that a file of n identities has, and the rest
 module _ (n base : ℕ) (r : ℕ → Register) (s : ℕ) where
-  pub words-there : (s - base) / 2 ≤ n / 64 → wordsFrom n base r s ≡ r ((s - base) / 2)
-  unfolding wordsFrom
+  pub words-there : (s - base) / 2 ≤ n / 64 → registersFrom n base r s ≡ r ((s - base) / 2)
+  unfolding registersFrom
   words-there h = simp (le-leb ((s - base) / 2) (n / 64) h)
 
-  pub words-past : n / 64 < (s - base) / 2 → wordsFrom n base r s ≡ Unused
-  unfolding wordsFrom
+  pub words-past : n / 64 < (s - base) / 2 → registersFrom n base r s ≡ Unused
+  unfolding registersFrom
   words-past h = simp (lt-leb ((s - base) / 2) (n / 64) h)
 
 module _ (n s : ℕ) where
@@ -50,7 +50,7 @@ module _ (n s : ℕ) where
   unfolding registerOf
   register-named a b h = simp (ne-eqb s 0x70 a, ne-eqb s 0x72 b, lt-ltb s 0x80 h)
 
-  pub register-pending : 0x80 ≤ s → s < 0xC0 → registerOf n s ≡ wordsFrom n 0x80 Pending s
+  pub register-pending : 0x80 ≤ s → s < 0xC0 → registerOf n s ≡ registersFrom n 0x80 Pending s
   unfolding registerOf
   register-pending l h =
       simp (
@@ -60,7 +60,7 @@ module _ (n s : ℕ) where
         lt-ltb s 0xC0 h,
       )
 
-  pub register-enable : 0xC0 ≤ s → registerOf n s ≡ wordsFrom n 0xC0 Enable s
+  pub register-enable : 0xC0 ≤ s → registerOf n s ≡ registersFrom n 0xC0 Enable s
   unfolding registerOf
   register-enable l =
       simp (

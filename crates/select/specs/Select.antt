@@ -1,7 +1,7 @@
 -- Select numbers: which are legal, and which register each names. 01, "One message file"; the standard 3.8.
 -- Assumes nothing.
 --   selectLegal s           0x70 to 0xFF, but no odd number from 0x80 on
---   wordsFrom n base r s    r j if s is base + 2j and a file of n identities has 64j; else reads 0
+--   registersFrom n base r s    r j if s is base + 2j and a file of n identities has 64j; else reads 0
 --   registerOf n s          the register that a legal s names in a file of n identities
 use Prim.Native.Nat.{ℕ, _-_, _/_, _%_}
 use mathlib.Core.Bool.{Bool, cond, not, _&&_}
@@ -13,12 +13,12 @@ use Rattle.select.specs.declared.Register.the-variants.{Unused}
 unfoldable pub selectLegal : ℕ → Bool
 selectLegal s = leb 0x70 s && leb s 0xFF && not (leb 0x80 s && eqb (s % 2) 1)
 
-unfoldable pub wordsFrom : ℕ → ℕ → (ℕ → Register) → ℕ → Register
-wordsFrom n base r s = cond (leb ((s - base) / 2) (n / 64)) (r ((s - base) / 2)) Unused
+unfoldable pub registersFrom : ℕ → ℕ → (ℕ → Register) → ℕ → Register
+registersFrom n base r s = cond (leb ((s - base) / 2) (n / 64)) (r ((s - base) / 2)) Unused
 
 unfoldable pub registerOf : ℕ → ℕ → Register
 registerOf n s =
     cond (eqb s 0x70) Delivery
     (cond (eqb s 0x72) Threshold
     (cond (ltb s 0x80) Unused
-    (cond (ltb s 0xC0) (wordsFrom n 0x80 Pending s) (wordsFrom n 0xC0 Enable s))))
+    (cond (ltb s 0xC0) (registersFrom n 0x80 Pending s) (registersFrom n 0xC0 Enable s))))

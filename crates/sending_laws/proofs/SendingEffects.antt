@@ -25,7 +25,7 @@ use Rattle.sending.specs.Sending.{candidate, Sent, sentNothing, servedAt, messa
 use Rattle.sending.proofs.SendingLaws.{served-hit, served-miss, messages-hit, messages-miss, messages-le}
 use Rattle.sending.proofs.SendingLaws.{from-none, sent-on, sent-off}
 use Rattle.sending_laws.specs.Candidates.{numbersFrom, thoseWith, candidates, messageAt, spent}
-use Rattle.sending_laws.specs.Candidates.{PendingOnly}
+use Rattle.sending_laws.specs.Candidates.{DomainPendingOnly}
 
 -- ---- a source after its turn
 
@@ -90,10 +90,15 @@ module _ (d : Domain) (i : ℕ) where
       (λ t. ap (λ (x : Domain). sourceAt x j) (served-less t) ∙ less-other j n)
       (λ f. ap (λ (x : Domain). sourceAt x j) (served-miss d i f))
 
-  served-rest : PendingOnly d (servedAt d i)
+  served-rest : DomainPendingOnly d (servedAt d i)
   served-rest =
-      let same : PendingOnly d d = record { source = refl; target = refl; enable = refl; delivery = refl } in
-      let less : PendingOnly d lessOne =
+      let same : DomainPendingOnly d d = record {
+        source = refl;
+        target = refl;
+        enable = refl;
+        delivery = refl;
+      } in
+      let less : DomainPendingOnly d lessOne =
       record { source = refl; target = refl; enable = refl; delivery = refl } in
       tested (candidate (sourceAt d i)) (λ t. rw (served-less t) less) (λ f. rw (served-miss d i f) same)
 
@@ -109,7 +114,7 @@ module _ (d : Domain) (i : ℕ) where
 
 -- ---- the pass over n sources from i on
 
-rest-joined : {d e f : Domain} → PendingOnly d e → PendingOnly e f → PendingOnly d f
+rest-joined : {d e f : Domain} → DomainPendingOnly d e → DomainPendingOnly e f → DomainPendingOnly d f
 rest-joined p q =
     record {
       source = q .source ∙ p .source;
@@ -118,7 +123,7 @@ rest-joined p q =
       delivery = q .delivery ∙ p .delivery;
     }
 
-pub from-rest : (c : Bool) (d : Domain) (i n : ℕ) → PendingOnly d (sentFrom c d i n .domain)
+pub from-rest : (c : Bool) (d : Domain) (i n : ℕ) → DomainPendingOnly d (sentFrom c d i n .domain)
 unfolding sentFrom
 from-rest c d i zero = record { source = refl; target = refl; enable = refl; delivery = refl }
 from-rest c d i (suc n) = rest-joined (served-rest d i) (from-rest c (servedAt d i) (suc i) n)
@@ -199,7 +204,7 @@ from-messages-of c d e i (suc n) same =
 
 module _ (c : Bool) (d : Domain) where
   -- nothing but pending bits changes
-  pub sent-rest : PendingOnly d (sent c d .domain)
+  pub sent-rest : DomainPendingOnly d (sent c d .domain)
   sent-rest =
       tested (isEnabled d && byMessages d) (λ t. rw (sent-on c d t) (from-rest c d 1 63))
       (λ f. rw (sent-off c d f) record { source = refl; target = refl; enable = refl; delivery = refl })

@@ -14,7 +14,7 @@ use borrow.Author.Tests.{eq-eqb, ne-eqb}
 use Rattle.words.specs.Bits.{bitOf, hasBit, withBit, withoutBit, union}
 use Rattle.words.specs.Sets.{member, insert, remove, put}
 use Rattle.words.specs.Parts.{low, high, joined, fieldOf, packed}
-use Rattle.select.specs.Select.{selectLegal, registerOf, wordsFrom}
+use Rattle.select.specs.Select.{selectLegal, registerOf, registersFrom}
 use Rattle.select.specs.Halves.{doubleword, putHalves, putDoubleword}
 use Rattle.select.specs.Deliveries.{deliveryLegal}
 use Rattle.file.specs.Page.{arrived, pageWritten}
@@ -26,7 +26,7 @@ use Rattle.target.specs.Target.{hartIn, fileIn, identityIn}
 use Rattle.source.specs.Pending as source
 use Rattle.domain.specs.Domain.{configOf, isEnabled, byMessages}
 use Rattle.domain.specs.Slot.{sourceAt, withSource}
-use Rattle.values.specs.Values.{valueOf}
+use Rattle.values.specs.Values.{registerValue}
 use Rattle.writes.specs.Writes.{targetWritten}
 use Rattle.registers.specs.Write.{registerWritten}
 use Rattle.wired.specs.Wired.{sourceWired, wireSet, domainIn, withDomain, writtenAs, writtenIn}
@@ -37,9 +37,10 @@ use Rattle.transfer_steps.specs.Steps.{actOf}
 use Rattle.call.specs.declared.Call.{Call}
 use Rattle.call.specs.Move.{retargetedIn, Acted, acted}
 use Rattle.call.specs.Change.{change}
-use Rattle.call.specs.Refusal.{isWire, isFile, isGuestFile, isMove, isPageAddress, named, addressed, selected}
+use Rattle.call.specs.Refusal.{isWire, isFile, isGuestFile, isMove, isPageAddress, present, addressed}
+use Rattle.call.specs.Refusal.{selected}
 use Rattle.call.specs.Refusal.{firstFailed, nameTests, nameRefusal}
-use Rattle.call.specs.Outcome.{settled, step}
+use Rattle.call.specs.Outcome.{thenSent, step}
 use Rattle.call_laws.specs.Small.{Small}
 use Rattle.runs.specs.Runs.{Lent, after, ran}
 use Rattle.runs.specs.Ready.{boardIn, Ready, AllSmall}
@@ -56,14 +57,14 @@ stepOn c y =
     cond (eqb (nameRefusal c (y .board)) 0) w y
 
 unfoldable pub boardRun : List Call → Acted → Acted
-unfolding stepOn step settled change acted retargetedIn actOf nameRefusal nameTests firstFailed named
+unfolding stepOn step thenSent change acted retargetedIn actOf nameRefusal nameTests firstFailed present
     addressed selected isWire isFile isGuestFile isMove isPageAddress namesFile renamed flushed hartIn
     fileIn identityIn candidate servedAt messagesAt sentFrom sent sourceWired wireSet domainIn withDomain
-    writtenAs writtenIn registerWritten targetWritten valueOf sourceAt withSource configOf isEnabled
+    writtenAs writtenIn registerWritten targetWritten registerValue sourceAt withSource configOf isEnabled
     byMessages source.settled source.wireChanged source.retargeted hartOf guestOf numberOf receiverOf
     keptTarget logWord messageOf isActive isLevel isRectified fileNumber isGuest theFile withFile namedBy
     reached allReached held written accessedAt accessed arrived pageWritten deliveryLegal doubleword
-    putHalves putDoubleword selectLegal registerOf wordsFrom low high joined fieldOf packed member insert
+    putHalves putDoubleword selectLegal registerOf registersFrom low high joined fieldOf packed member insert
     remove put bitOf hasBit withBit withoutBit union
 boardRun [] y = y
 boardRun (c ∷ cs) y = boardRun cs (stepOn c y)

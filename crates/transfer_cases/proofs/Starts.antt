@@ -36,7 +36,7 @@ use Rattle.config.specs.Config.{keptConfig}
 use Rattle.wired.specs.Wired.{wiredOf, isDelegated}
 use Rattle.source_rules.specs.SourceRules.{modeRange, targetRange, inactiveRule, levelRule, sourceSteady}
 use Rattle.source_rules.specs.SourceRules.{sentRule, sourceSound}
-use Rattle.rules.specs.Rules.{configRange, generatedRange, structureRange, zeroRule, generatedRule}
+use Rattle.rules.specs.Rules.{configRange, generatedRange, structureRange, sourceZeroRule, generatedRule}
 use Rattle.rules.specs.Rules.{sourceRule, domainSound, delegatedRule, wiredSound}
 use Rattle.transfer_steps.specs.Names.{namesFile, renamed}
 use Rattle.transfer_steps.specs.Steps.{saved}
@@ -70,7 +70,7 @@ unfoldable pub blockTests : Board → Bool
 unfolding allBelow every wordsOf fileWords domainWords wiredWords blockOf file.fileSound file.deliveryRule
     file.thresholdRule file.zeroRule soundAt filesSound keptMode sourceWord keptGenerated deliverySound
     generatedAt structureAt keptConfig isDelegated modeRange targetRange inactiveRule levelRule sourceSteady
-    sentRule sourceSound configRange generatedRange structureRange zeroRule generatedRule sourceRule
+    sentRule sourceSound configRange generatedRange structureRange sourceZeroRule generatedRule sourceRule
     domainSound delegatedRule wiredSound boardSound sourceAt configOf isEnabled byMessages hartOf guestOf
     numberOf receiverOf keptTarget isActive isLevel isRectified isGuest theFile deliveryLegal fieldOf packed
     member bitOf hasBit startFile startFilesFrom startDomain startBoard renamed fileNumber withFile held

@@ -15,7 +15,7 @@ use Rattle.select.specs.Size.{identities}
 use Rattle.select.specs.Halves.{doubleword}
 use Rattle.file.specs.declared.File.{File}
 use Rattle.file.specs.Shape.{Shaped}
-use Rattle.file.specs.Parts.{withPending}
+use Rattle.file.specs.Parts.{withPendingSet}
 use Rattle.file.specs.Page.{arrived}
 use Rattle.file_laws.proofs.Keeps.{Rules}
 use Rattle.file_laws.proofs.PageEffects.{arrived-pending, arrived-rest}
@@ -54,15 +54,16 @@ related-start o f s e =
 
 -- ---- messages
 
-arrived-only : (f : File) (i : ℕ) → arrived identities f i ≡ withPending f (arrived identities f i .pending)
+arrived-only : (f : File) (i : ℕ) → arrived identities f i
+    ≡ withPendingSet f (arrived identities f i .pending)
 arrived-only f i = let same = arrived-rest identities f i in file-path (same .0) (same .1) refl (same .2)
 
 -- no message changes anything but pending sets
 related-pending : (n : ℕ) (x : Three) (c : File) (p f q : List ℕ) → Related n x c
     → (72 ≤ n → p ≡ x .old .pending) → Shared n p f q
     → Related n
-    (record { old = withPending (x .old) p; new = withPending (x .new) f; numbers = x .numbers })
-    (withPending c q)
+    (record { old = withPendingSet (x .old) p; new = withPendingSet (x .new) f; numbers = x .numbers })
+    (withPendingSet c q)
 related-pending n x c p f q r kept s =
     record {
       untouched = record {

@@ -22,7 +22,7 @@ use Rattle.block.specs.Block.{Board}
 use Rattle.call.specs.declared.Call.{Call}
 use Rattle.call.specs.Change.{kindOf}
 use Rattle.call.specs.Outcome.{Stepped, step, doneAs}
-use Rattle.call.specs.Refusal.{isPageAddress, isGuestFile, named, addressed, selected, firstFailed}
+use Rattle.call.specs.Refusal.{isPageAddress, isGuestFile, present, addressed, selected, firstFailed}
 use Rattle.call.specs.Refusal.{nameTests, nameRefusal}
 use Rattle.call_laws.specs.Fit.{Fit}
 use Rattle.call_laws.specs.Small.{Small}
@@ -69,7 +69,7 @@ refusalIn FileCall.claim = 0
 
 module _ (h f : ℕ) (there : isGuestFile h f ≡ true) where
   refusal-on : (b : Board) (c : FileCall) → nameRefusal (callOn h f c) b ≡ refusalIn c
-  unfolding nameRefusal nameTests firstFailed named addressed selected
+  unfolding nameRefusal nameTests firstFailed present addressed selected
   refusal-on b (FileCall.pageRead a) = simp (guest-there h f there)
   refusal-on b (FileCall.pageWrite a v) = simp (guest-there h f there)
   refusal-on b (FileCall.register k s v) = simp (guest-there h f there)

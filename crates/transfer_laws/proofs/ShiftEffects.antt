@@ -19,7 +19,7 @@ use Rattle.transfer_wired.proofs.StepThree.{named-active, only-start, moved-sta
 use Rattle.call.specs.declared.Call.{Call}
 use Rattle.call.specs.declared.Call.the-variants.{Wire, PageWrite}
 use Rattle.call.specs.Outcome.{Outcome, step}
-use Rattle.call.specs.Refusal.{isWire, isFile, isPageAddress, isMove, named, addressed, selected}
+use Rattle.call.specs.Refusal.{isWire, isFile, isPageAddress, isMove, present, addressed, selected}
 use Rattle.call.specs.Refusal.{firstFailed, nameTests, nameRefusal}
 use Rattle.call.proofs.RefusalLaws.{numbers-name}
 use Rattle.call_laws.specs.Small.{Small}
@@ -91,12 +91,12 @@ module _ (m : Stations) (g : TwoGuests m) where
     beside-wire i level = both (Wire i level) (Wire i level) same wired
       where
         same : nameRefusal (Wire i level) (boardIn x) ≡ nameRefusal (Wire i level) (boardIn y)
-        same = unfold nameRefusal nameTests named in refl
+        same = unfold nameRefusal nameTests present in refl
 
         wired : nameRefusal (Wire i level) (boardIn x) ≡ 0 → nameRefusal (Wire i level) (boardIn y) ≡ 0
             → Beside n (after (Wire i level) x) (after (Wire i level) y)
         wired e e′ =
-            let there : isWire i level ≡ true = unfold named in accepted-named (Wire i level) x (r .ready) e
+            let there : isWire i level ≡ true = unfold present in accepted-named (Wire i level) x (r .ready) e
             in
             done n (Wire i level) (Wire i level) tt tt e e′
             (rw (step-wire (boardIn x) i level (x .saved), step-wire (boardIn y) i level (y .saved))
@@ -129,14 +129,15 @@ module _ (m : Stations) (g : TwoGuests m) where
         where
           same : nameRefusal (PageWrite h f a v) (boardIn x) ≡ nameRefusal (PageWrite h′ f′ a v) (boardIn y)
           same =
-              unfold nameRefusal nameTests firstFailed named addressed selected in
+              unfold nameRefusal nameTests firstFailed present addressed selected in
               ap (λ (b : Bool). cond b (cond (isPageAddress a) 0 5) 4) same-file
 
           written : nameRefusal (PageWrite h f a v) (boardIn x) ≡ 0
               → nameRefusal (PageWrite h′ f′ a v) (boardIn y) ≡ 0
               → Beside n (after (PageWrite h f a v) x) (after (PageWrite h′ f′ a v) y)
           written e e′ =
-              let there : isFile h f ≡ true = unfold named in accepted-named (PageWrite h f a v) x (r .ready)
+              let there : isFile h f ≡ true = unfold present in accepted-named (PageWrite h f a v) x
+              (r .ready)
               e in
               done n (PageWrite h f a v) (PageWrite h′ f′ a v) tt tt e e′
               (rw (
@@ -157,7 +158,7 @@ module _ (m : Stations) (g : TwoGuests m) where
       access-there = move-there m g (suc n) (omega arith) more
 
       pub access-accepted : nameRefusal next (boardIn x) ≡ 0
-      unfolding named addressed selected
+      unfolding present addressed selected
       access-accepted =
           numbers-name next (boardIn x)
           (and-both _ _ access-there (only-messages (r .middle .only) ∙ r .middle .messages)) refl refl

@@ -24,7 +24,7 @@ use Rattle.domain.specs.Slot.{sourceAt, withSource}
 use Rattle.domain.proofs.DomainLaws.{domain-path}
 use Rattle.domain_laws.proofs.SetsBack.{put-back}
 use Rattle.writes.specs.Writes.{targetWritten}
-use Rattle.values.specs.Values.{valueOf}
+use Rattle.values.specs.Values.{registerValue}
 use Rattle.registers.specs.Write.{registerWritten}
 use Rattle.wired.specs.Wired.{Wired, domainIn, withDomain, writtenAs, writtenIn}
 use Rattle.rules.specs.Rules.{wiredSound}
@@ -91,11 +91,11 @@ module _ (oh of nh nf : ℕ) (w : Wired) (i : ℕ) where
   next = retargetedIn oh of nh nf w i
 
   pub next-hit : namesFile here oh of ≡ true → next ≡ writtenIn w true (Target i) (renamed here nh nf)
-  unfolding retargetedIn valueOf domainIn
+  unfolding retargetedIn registerValue domainIn
   next-hit t = simp t
 
   pub next-miss : namesFile here oh of ≡ false → next ≡ w
-  unfolding retargetedIn valueOf domainIn
+  unfolding retargetedIn registerValue domainIn
   next-miss f = simp f
 
   pub retargeted-only : {u : Wired} → TargetsOnly w u → TargetsOnly next u

@@ -20,7 +20,7 @@ use Rattle.domain_laws.proofs.SlotEffects.{withSource-unpended}
 use Rattle.wired.specs.Wired.{Wired, domainIn, sourceWired, wireSet}
 use Rattle.sending.specs.Sending.{candidate, Sent, servedAt, sentFrom, sent}
 use Rattle.sending.proofs.SendingLaws.{served-hit, served-miss, sent-on, sent-off}
-use Rattle.sending_laws.specs.Candidates.{messageAt, PendingOnly}
+use Rattle.sending_laws.specs.Candidates.{messageAt, DomainPendingOnly}
 use Rattle.sending_laws.proofs.SendingEffects.{sent-rest}
 use Rattle.rules_laws.specs.Steady.{sends, WiredSteady, WiredQuiet}
 use Rattle.controller.specs.Controller.{flushed, wireCall}
@@ -102,7 +102,7 @@ abbrev after : Bool → ℕ → Bool → Domain → List ℕ → Domain
 after c i level d ws = sent c (sourceWired d i (member ws i) level) .domain
 
 after-rest : (c : Bool) (i : ℕ) (level : Bool) (d : Domain) (ws : List ℕ)
-    → PendingOnly d (after c i level d ws)
+    → DomainPendingOnly d (after c i level d ws)
 after-rest c i level d ws =
     let rest = sent-rest c (sourceWired d i (member ws i) level) in
     let e = wired-pending d i (member ws i) level in
@@ -115,7 +115,7 @@ after-rest c i level d ws =
 
 module _ (w : Wired) (i : ℕ) (level : Bool) where
   -- the pending bits of both domains are all that changes, besides the wire
-  pub wire-frame : (c : Bool) → PendingOnly (domainIn w c) (domainIn (wireCall w i level .wired) c)
+  pub wire-frame : (c : Bool) → DomainPendingOnly (domainIn w c) (domainIn (wireCall w i level .wired) c)
   unfolding domainIn wireCall flushed wireSet
   wire-frame true = after-rest true i level (w .child) (w .wires)
   wire-frame false = after-rest false i level (w .root) (w .wires)

@@ -6,9 +6,9 @@ use mathlib.Core.List.{List}
 use Rattle.region.specs.declared.Word.the-variants.{Claimi}
 use Rattle.domain.specs.Domain.{Domain}
 use Rattle.direct.specs.Direct.{topiOf}
-use Rattle.values.specs.Values.{valueOf}
+use Rattle.values.specs.Values.{registerValue}
 
 -- a claimi reads the topi of its hart
-pub claimi-value : (d : Domain) (ws : List ℕ) (h : ℕ) → valueOf d ws (Claimi h) ≡ topiOf d h
-unfolding valueOf
+pub claimi-value : (d : Domain) (ws : List ℕ) (h : ℕ) → registerValue d ws (Claimi h) ≡ topiOf d h
+unfolding registerValue
 claimi-value d ws h = refl

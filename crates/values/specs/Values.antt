@@ -1,6 +1,6 @@
 -- What a read of a register gives. 01, "The wired controller", "Direct delivery and signals". Assumes
 -- nothing.
---   valueOf d ws w     what register w of d reads; ws are the wires
+--   registerValue d ws w     what register w of d reads; ws are the wires
 -- domaincfg reads 0x80 in bits 31:24. clrie and the number registers read 0, and so does what is not named.
 use Prim.Native.Nat.{ℕ, _+_}
 use mathlib.Core.List.{List}
@@ -17,24 +17,24 @@ use Rattle.inputs.specs.Inputs.{inputWord}
 use Rattle.direct.specs.declared.Setting.the-variants as setting
 use Rattle.direct.specs.Direct.{topiOf, settingOf}
 
-unfoldable pub valueOf : Domain → List ℕ → Word → ℕ
-valueOf d ws Domaincfg = 0x80000000 + configOf d
-valueOf d ws (Sourcecfg i) = sourceAt d i .mode
-valueOf d ws (Setip k) = getD (d .pending) k 0
-valueOf d ws Setipnum = 0
-valueOf d ws (InClrip k) = inputWord d ws k
-valueOf d ws Clripnum = 0
-valueOf d ws (Setie k) = getD (d .enable) k 0
-valueOf d ws Setienum = 0
-valueOf d ws (Clrie k) = 0
-valueOf d ws Clrienum = 0
-valueOf d ws SetipnumLe = 0
-valueOf d ws SetipnumBe = 0
-valueOf d ws Genmsi = generatedRead d
-valueOf d ws (Target i) = sourceAt d i .target
-valueOf d ws (Idelivery h) = settingOf d h setting.Idelivery
-valueOf d ws (Iforce h) = settingOf d h setting.Iforce
-valueOf d ws (Ithreshold h) = settingOf d h setting.Ithreshold
-valueOf d ws (Topi h) = topiOf d h
-valueOf d ws (Claimi h) = topiOf d h
-valueOf d ws Unused = 0
+unfoldable pub registerValue : Domain → List ℕ → Word → ℕ
+registerValue d ws Domaincfg = 0x80000000 + configOf d
+registerValue d ws (Sourcecfg i) = sourceAt d i .mode
+registerValue d ws (Setip k) = getD (d .pending) k 0
+registerValue d ws Setipnum = 0
+registerValue d ws (InClrip k) = inputWord d ws k
+registerValue d ws Clripnum = 0
+registerValue d ws (Setie k) = getD (d .enable) k 0
+registerValue d ws Setienum = 0
+registerValue d ws (Clrie k) = 0
+registerValue d ws Clrienum = 0
+registerValue d ws SetipnumLe = 0
+registerValue d ws SetipnumBe = 0
+registerValue d ws Genmsi = generatedRead d
+registerValue d ws (Target i) = sourceAt d i .target
+registerValue d ws (Idelivery h) = settingOf d h setting.Idelivery
+registerValue d ws (Iforce h) = settingOf d h setting.Iforce
+registerValue d ws (Ithreshold h) = settingOf d h setting.Ithreshold
+registerValue d ws (Topi h) = topiOf d h
+registerValue d ws (Claimi h) = topiOf d h
+registerValue d ws Unused = 0

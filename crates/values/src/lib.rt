@@ -5,7 +5,7 @@ ghost use lib.ListN.{length};
 ghost use Rattle.region.specs.Region.{Within};
 ghost use Rattle.domain.specs.Domain.{domainOf, configOf};
 ghost use Rattle.domain.specs.Slot.{sourceAt};
-ghost use Rattle.values.specs.Values.{valueOf};
+ghost use Rattle.values.specs.Values.{registerValue};
 use direct::Setting;
 use region::Word;
 
@@ -34,7 +34,7 @@ fn config_word(part: &[u32]) -> u32
 
 pub fn value_of(part: &[u32], wires: [u32; 2], word: Word) -> u32
     requires { ⌜ (length (now part) ≡ 144) × (configOf (domainOf (now part)) < 0x80000000) × Within word ⌝ }
-    ensures { λ r. ⌜ r ≡ valueOf (domainOf (now (part .entry))) wires word ⌝ }
+    ensures { λ r. ⌜ r ≡ registerValue (domainOf (now (part .entry))) wires word ⌝ }
 {
     match word {
         Word::Domaincfg => config_word(part),

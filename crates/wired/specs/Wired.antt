@@ -18,7 +18,7 @@ use Rattle.region.specs.declared.role.Role.{Role}
 use Rattle.region.specs.declared.role.Role.the-variants.{Claims, Configures, Generates, Plain}
 use Rattle.region.specs.Role.{roleOf}
 use Rattle.domain.specs.Domain.{Domain}
-use Rattle.registers.specs.Read.{valueOf, claimedBy}
+use Rattle.registers.specs.Read.{registerValue, claimedBy}
 use Rattle.registers.specs.Write.{registerWritten}
 pub use Rattle.wires.specs.Wires.{Wired}
 unfoldable pub use Rattle.wires.specs.Wires.{wiredOf, sourceWired, wireSet}
@@ -38,7 +38,7 @@ withDomain w c d =
 -- ---- one register of a domain
 
 abbrev pub readIn : Wired → Bool → Word → ℕ
-readIn w c r = valueOf (domainIn w c) (w .wires) r
+readIn w c r = registerValue (domainIn w c) (w .wires) r
 
 abbrev pub claimedIn : Wired → Bool → Word → Wired
 claimedIn w c r = withDomain w c (claimedBy (domainIn w c) r)

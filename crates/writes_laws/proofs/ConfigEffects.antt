@@ -15,7 +15,7 @@ use Rattle.source.specs.declared.Source.{Source}
 use Rattle.source.specs.Pending.{redelivered}
 use Rattle.domain.specs.Domain.{Domain, configOf, isEnabled, byMessages, generatedAt, withConfig}
 use Rattle.domain.specs.Domain.{withGenerated}
-use Rattle.domain_laws.specs.Shape.{Shaped}
+use Rattle.domain_laws.specs.Shape.{DomainShaped}
 use Rattle.domain_laws.specs.Became.{Became, Touched}
 use Rattle.domain_laws.specs.Each.{withEach}
 use Rattle.domain_laws.proofs.EachEffects.{touched-withEach, among-in}
@@ -54,7 +54,7 @@ module _ (ws : List ℕ) (m : Bool) where
   redeliveredFrom-each d i (suc n) e l =
       rw e (redeliveredFrom-each _ (suc i) n (byMessages-withSource d i _ l ∙ e) (omega arith))
 
-  touched-redelivered : (d : Domain) → byMessages d ≡ m → Shaped d
+  touched-redelivered : (d : Domain) → byMessages d ≡ m → DomainShaped d
       → Touched d (redeliveredFrom d ws 1 63) resettled
   touched-redelivered d e shaped =
       rw (redeliveredFrom-each d 1 63 e (omega arith))
@@ -63,7 +63,7 @@ module _ (ws : List ℕ) (m : Bool) where
 
 -- ---- a write to domaincfg
 
-module _ (d : Domain) (ws : List ℕ) (v : ℕ) (shaped : Shaped d) where
+module _ (d : Domain) (ws : List ℕ) (v : ℕ) (shaped : DomainShaped d) where
   -- the word stored, and nothing else
   abbrev stored : Domain
   stored = withConfig d (keptConfig v)
@@ -107,7 +107,7 @@ module _ (d : Domain) (ws : List ℕ) (v : ℕ) (shaped : Shaped d) where
 
 -- ---- a write to genmsi
 
-pub became-generatedWritten : (d : Domain) (v : ℕ) → Shaped d
+pub became-generatedWritten : (d : Domain) (v : ℕ) → DomainShaped d
     → Became d (generatedWritten d v) (configOf d) (cond (byMessages d) (keptGenerated v) (generatedAt d))
     (λ j s. s)
 became-generatedWritten d v shaped =

@@ -18,7 +18,7 @@ use Rattle.source.specs.declared.Change.{Change}
 use Rattle.source.specs.Pending.{changed, retargeted}
 use Rattle.domain.specs.Domain.{Domain, byMessages}
 use Rattle.domain.specs.Slot.{sourceAt, withSource}
-use Rattle.domain_laws.specs.Shape.{Shaped}
+use Rattle.domain_laws.specs.Shape.{DomainShaped}
 use Rattle.domain_laws.specs.Became.{Touched}
 use Rattle.domain_laws.specs.Each.{withEach, among}
 use Rattle.domain_laws.proofs.EachEffects.{touched-withEach, among-in, among-below, among-above}
@@ -34,7 +34,7 @@ use Rattle.writes_laws.specs.Named.{named, changing}
 -- ---- one source named
 
 module _ (d : Domain) (ws : List ℕ) (c : Change) (i : ℕ) where
-  pub sourceAt-changedAt-same : Shaped d → i < 64
+  pub sourceAt-changedAt-same : DomainShaped d → i < 64
       → sourceAt (changedAt d ws c i) i ≡ changed (sourceAt d i) c (byMessages d) (member ws i)
   unfolding changedAt
   sourceAt-changedAt-same = sourceAt-withSource-same d i _
@@ -43,12 +43,13 @@ module _ (d : Domain) (ws : List ℕ) (c : Change) (i : ℕ) where
   unfolding changedAt
   sourceAt-changedAt-other = sourceAt-withSource-other d i _
 
-  pub touched-changedAt : Shaped d → 1 ≤ i → i < 64 → Touched d (changedAt d ws c i) (changing d ws c (eqb i))
+  pub touched-changedAt : DomainShaped d → 1 ≤ i → i < 64
+      → Touched d (changedAt d ws c i) (changing d ws c (eqb i))
   unfolding changedAt
   touched-changedAt = touched-withSource d i (λ j s. changed s c (byMessages d) (member ws j))
 
 module _ (c : Bool) (d : Domain) (i v : ℕ) where
-  pub sourceAt-targetWritten-same : Shaped d → i < 64
+  pub sourceAt-targetWritten-same : DomainShaped d → i < 64
       → sourceAt (targetWritten c d i v) i ≡ retargeted (sourceAt d i) c (byMessages d) v
   unfolding targetWritten
   sourceAt-targetWritten-same = sourceAt-withSource-same d i _
@@ -57,14 +58,14 @@ module _ (c : Bool) (d : Domain) (i v : ℕ) where
   unfolding targetWritten
   sourceAt-targetWritten-other = sourceAt-withSource-other d i _
 
-  pub touched-targetWritten : Shaped d → 1 ≤ i → i < 64
+  pub touched-targetWritten : DomainShaped d → 1 ≤ i → i < 64
       → Touched d (targetWritten c d i v) (λ j s. cond (eqb i j) (retargeted s c (byMessages d) v) s)
   unfolding targetWritten
   touched-targetWritten = touched-withSource d i (λ j s. retargeted s c (byMessages d) v)
 
 -- ---- a number
 
-module _ (d : Domain) (ws : List ℕ) (c : Change) (v : ℕ) (shaped : Shaped d) where
+module _ (d : Domain) (ws : List ℕ) (c : Change) (v : ℕ) (shaped : DomainShaped d) where
   number-none : ((j : ℕ) → 1 ≤ j → j < 64 → v ≢ j) → numberChanged d ws c v ≡ d
       → Touched d (numberChanged d ws c v) (changing d ws c (eqb v))
   number-none apart e =
@@ -121,7 +122,7 @@ module _ (j : ℕ) where
       (λ t. let h = ltb-true j 32 t in among-below 32 32 j h ∙ sym (ne-eqb (j / 32) 1 (λ e. omega arith)))
       (λ f. let h = ltb-false j 32 f in among-in 32 32 j h u ∙ sym (eq-eqb (j / 32) 1 (omega arith)))
 
-module _ (d : Domain) (ws : List ℕ) (c : Change) (v : ℕ) (shaped : Shaped d) where
+module _ (d : Domain) (ws : List ℕ) (c : Change) (v : ℕ) (shaped : DomainShaped d) where
   -- a stretch of sources that is word k
   word-touched : (k i n : ℕ) → 1 ≤ i → i + n ≤ 64
       → ((j : ℕ) → 1 ≤ j → j < 64 → among i n j ≡ eqb (j / 32) k)

@@ -2,7 +2,7 @@
 use mathlib.Core.Path.{ap, sym, subst, _∙_}
 use native.Mathlib.Omega.{arith}
 use Rattle.region.specs.Region.{Within}
-use Rattle.values.specs.Values.{valueOf}
+use Rattle.values.specs.Values.{registerValue}
 use borrow.Author.Needs.{needs}
 use Rattle.values.proofs.value_of.Statement.{statement}
 use Rattle.values.proofs.value_of.Tie as tie
@@ -124,84 +124,84 @@ enum-told-10 : tie.Need-enum-told-10
 enum-told-10 c = search needs
 
 returns : tie.Need-returns
-unfolding valueOf
-returns c = c .config-word .ensures ∙ sym (ap (valueOf _ _) (c .before .enum-told .given .1))
+unfolding registerValue
+returns c = c .config-word .ensures ∙ sym (ap (registerValue _ _) (c .before .enum-told .given .1))
 
 returns-2 : tie.Need-returns-2
-unfolding valueOf
-returns-2 c = c .source-word .ensures ∙ sym (ap (valueOf _ _) (c .before .before .word .given .1))
+unfolding registerValue
+returns-2 c = c .source-word .ensures ∙ sym (ap (registerValue _ _) (c .before .before .word .given .1))
 
 returns-3 : tie.Need-returns-3
-unfolding valueOf
-returns-3 c = c .pending-word .ensures ∙ sym (ap (valueOf _ _) (c .before .before .word2 .given .1))
+unfolding registerValue
+returns-3 c = c .pending-word .ensures ∙ sym (ap (registerValue _ _) (c .before .before .word2 .given .1))
 
 returns-4 : tie.Need-returns-4
-unfolding valueOf
-returns-4 c = sym (ap (valueOf _ _) (c .enum-told2 .given .1))
+unfolding registerValue
+returns-4 c = sym (ap (registerValue _ _) (c .enum-told2 .given .1))
 
 returns-5 : tie.Need-returns-5
-unfolding valueOf
-returns-5 c = c .input-word .ensures ∙ sym (ap (valueOf _ _) (c .before .before .word3 .given .1))
+unfolding registerValue
+returns-5 c = c .input-word .ensures ∙ sym (ap (registerValue _ _) (c .before .before .word3 .given .1))
 
 returns-6 : tie.Need-returns-6
-unfolding valueOf
-returns-6 c = sym (ap (valueOf _ _) (c .enum-told3 .given .1))
+unfolding registerValue
+returns-6 c = sym (ap (registerValue _ _) (c .enum-told3 .given .1))
 
 returns-7 : tie.Need-returns-7
-unfolding valueOf
-returns-7 c = c .enable-word .ensures ∙ sym (ap (valueOf _ _) (c .before .before .word4 .given .1))
+unfolding registerValue
+returns-7 c = c .enable-word .ensures ∙ sym (ap (registerValue _ _) (c .before .before .word4 .given .1))
 
 returns-8 : tie.Need-returns-8
-unfolding valueOf
-returns-8 c = sym (ap (valueOf _ _) (c .enum-told4 .given .1))
+unfolding registerValue
+returns-8 c = sym (ap (registerValue _ _) (c .enum-told4 .given .1))
 
 returns-9 : tie.Need-returns-9
-unfolding valueOf
-returns-9 c = sym (ap (valueOf _ _) (c .enum-told5 .given .1))
+unfolding registerValue
+returns-9 c = sym (ap (registerValue _ _) (c .enum-told5 .given .1))
 
 returns-10 : tie.Need-returns-10
-unfolding valueOf
-returns-10 c = sym (ap (valueOf _ _) (c .enum-told6 .given .1))
+unfolding registerValue
+returns-10 c = sym (ap (registerValue _ _) (c .enum-told6 .given .1))
 
 returns-11 : tie.Need-returns-11
-unfolding valueOf
-returns-11 c = sym (ap (valueOf _ _) (c .enum-told7 .given .1))
+unfolding registerValue
+returns-11 c = sym (ap (registerValue _ _) (c .enum-told7 .given .1))
 
 returns-12 : tie.Need-returns-12
-unfolding valueOf
-returns-12 c = sym (ap (valueOf _ _) (c .enum-told8 .given .1))
+unfolding registerValue
+returns-12 c = sym (ap (registerValue _ _) (c .enum-told8 .given .1))
 
 returns-13 : tie.Need-returns-13
-unfolding valueOf
-returns-13 c = c .read-generated .ensures ∙ sym (ap (valueOf _ _) (c .before .enum-told9 .given .1))
+unfolding registerValue
+returns-13 c = c .read-generated .ensures ∙ sym (ap (registerValue _ _) (c .before .enum-told9 .given .1))
 
 returns-14 : tie.Need-returns-14
-unfolding valueOf
-returns-14 c = c .target-word .ensures ∙ sym (ap (valueOf _ _) (c .before .before .word5 .given .1))
+unfolding registerValue
+returns-14 c = c .target-word .ensures ∙ sym (ap (registerValue _ _) (c .before .before .word5 .given .1))
 
 returns-15 : tie.Need-returns-15
-unfolding valueOf
-returns-15 c = c .setting-of .ensures ∙ sym (ap (valueOf _ _) (c .before .before .word6 .given .1))
+unfolding registerValue
+returns-15 c = c .setting-of .ensures ∙ sym (ap (registerValue _ _) (c .before .before .word6 .given .1))
 
 returns-16 : tie.Need-returns-16
-unfolding valueOf
-returns-16 c = c .setting-of2 .ensures ∙ sym (ap (valueOf _ _) (c .before .before .word7 .given .1))
+unfolding registerValue
+returns-16 c = c .setting-of2 .ensures ∙ sym (ap (registerValue _ _) (c .before .before .word7 .given .1))
 
 returns-17 : tie.Need-returns-17
-unfolding valueOf
-returns-17 c = c .setting-of3 .ensures ∙ sym (ap (valueOf _ _) (c .before .before .word8 .given .1))
+unfolding registerValue
+returns-17 c = c .setting-of3 .ensures ∙ sym (ap (registerValue _ _) (c .before .before .word8 .given .1))
 
 returns-18 : tie.Need-returns-18
-unfolding valueOf
-returns-18 c = c .topi .ensures ∙ sym (ap (valueOf _ _) (c .before .before .word9 .given .1))
+unfolding registerValue
+returns-18 c = c .topi .ensures ∙ sym (ap (registerValue _ _) (c .before .before .word9 .given .1))
 
 returns-19 : tie.Need-returns-19
-unfolding valueOf
-returns-19 c = c .topi2 .ensures ∙ sym (ap (valueOf _ _) (c .before .before .word10 .given .1))
+unfolding registerValue
+returns-19 c = c .topi2 .ensures ∙ sym (ap (registerValue _ _) (c .before .before .word10 .given .1))
 
 returns-20 : tie.Need-returns-20
-unfolding valueOf
-returns-20 c = sym (ap (valueOf _ _) (c .enum-told10 .given .1))
+unfolding registerValue
+returns-20 c = sym (ap (registerValue _ _) (c .enum-told10 .given .1))
 
 pub value-of-spec : {M : Type 1} → statement M
 value-of-spec =

@@ -2,7 +2,7 @@
 use mathlib.Core.Path.{refl, sym, ap, _∙_}
 use mathlib.Core.Bool.{true, false}
 use borrow.Author.Tests.{not-true, not-false}
-use Rattle.call.specs.Answer.{numberOf}
+use Rattle.call.specs.Answer.{refusalNumber}
 use Rattle.call.proofs.AnswerLaws.{done-case}
 use Rattle.call.proofs.RefusalLaws.{refused-lengths, refused-rules, blocks-sound, passed-state}
 use Rattle.call.proofs.RefusalLaws.{passed-log}
@@ -43,7 +43,7 @@ returns-3 c =
     let long = passed-state false _ _ none in
     let kept = sym (c .before .sound .ensures) ∙ not-false _ (c .if1 .left) in
     record {
-      number = ap numberOf (at-told .enum-told .given .1)
+      number = ap refusalNumber (at-told .enum-told .given .1)
           ∙ sym (blocks-sound true _ _ long (passed-log false _ _ none) kept);
       value = said .value;
       count = said .count;

@@ -4,7 +4,7 @@ use mathlib.Core.Path.{ap, ap₂, sym, _∙_}
 use mathlib.Core.Bool.{Bool}
 use borrow.Author.Tests.{not-true}
 use Rattle.delivery.specs.declared.Delivery.{Delivery}
-use Rattle.delivery.specs.Delivery.{signals}
+use Rattle.delivery.specs.Delivery.{structureSignals}
 use Rattle.direct.proofs.DirectLaws.{signal-messages, signal-direct, signal-silent}
 use borrow.Author.Needs.{needs}
 use Rattle.direct.proofs.hart.signal.Statement.{statement}
@@ -30,7 +30,7 @@ returns-2 c =
     let at-enabled = c .before .before in
     let at-mode = at-enabled .before .before .before in
     let direct = sym (at-mode .by-messages .ensures) ∙ at-enabled .before .before .if1 .left in
-    let same = ap₂ (λ (x : Delivery) (e : Bool). signals x e 1)
+    let same = ap₂ (λ (x : Delivery) (e : Bool). structureSignals x e 1)
     (at-enabled .before .load-structure .ensures) (at-enabled .enabled .ensures) in
     sym (signal-silent _ _ direct (sym (c .before .signals .ensures ∙ same) ∙ not-true _ (c .if2 .taken)))
 
@@ -45,9 +45,10 @@ returns-3 c =
     let at-enabled = c .before .before .before .before in
     let at-mode = at-enabled .before .before .before in
     let direct = sym (at-mode .by-messages .ensures) ∙ at-enabled .before .before .if1 .left in
-    let same = ap₂ (λ (x : Delivery) (e : Bool). signals x e (c .before .topi .result))
+    let same = ap₂ (λ (x : Delivery) (e : Bool). structureSignals x e (c .before .topi .result))
     (at-enabled .before .load-structure .ensures) (at-enabled .enabled .ensures) in
-    c .signals2 .ensures ∙ same ∙ ap (signals _ _) (c .before .topi .ensures) ∙ sym (signal-direct _ _ direct)
+    c .signals2 .ensures ∙ same ∙ ap (structureSignals _ _) (c .before .topi .ensures)
+    ∙ sym (signal-direct _ _ direct)
 
 pub signal-spec : {M : Type 1} → statement M
 signal-spec =

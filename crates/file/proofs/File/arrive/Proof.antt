@@ -5,7 +5,7 @@ use mathlib.Core.Path.{ap, sym, _∙_}
 use native.Mathlib.Omega.{arith}
 use lib.ListN.{set}
 use Rattle.words.proofs.SetsLaws.{insert-word}
-use Rattle.file.specs.Parts.{withPending}
+use Rattle.file.specs.Parts.{withPendingSet}
 use Rattle.file.proofs.PageLaws.{arrived-below, arrived-above, arrived-within}
 use borrow.Author.Needs.{needs}
 use Rattle.file.proofs.File.arrive.Statement.{statement}
@@ -40,8 +40,8 @@ returns-3 c =
     let before = c .before .before .before in
     let f = before .before .args .t1 in
     let i = before .before .args .identity in
-    ap (λ (w : ℕ). withPending f (set (f .pending) (i / 32) w)) (c .with-bit .ensures)
-    ∙ ap (withPending f) (insert-word (f .pending) i)
+    ap (λ (w : ℕ). withPendingSet f (set (f .pending) (i / 32) w)) (c .with-bit .ensures)
+    ∙ ap (withPendingSet f) (insert-word (f .pending) i)
     ∙ sym (arrived-within _ _ _ (before .if1 .left) (omega arith))
 
 pub arrive-spec : {M : Type 1} → statement M

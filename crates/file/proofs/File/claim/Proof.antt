@@ -6,7 +6,7 @@ use native.Mathlib.Omega.{arith}
 use lib.ListN.{set}
 use Rattle.words.specs.Sets.{remove}
 use Rattle.words.proofs.SetsLaws.{remove-word}
-use Rattle.file.specs.Parts.{withPending}
+use Rattle.file.specs.Parts.{withPendingSet}
 use Rattle.file.specs.Top.{topIdentity, topOf}
 use Rattle.file.proofs.TopLaws.{topIdentity-le, topOf-zero-2, claimed-none, claimed-some}
 use borrow.Author.Needs.{needs}
@@ -69,10 +69,10 @@ returns-2 c =
     let same = at-top .top-identity .ensures in
     let there : topIdentity 255 f ≡ 0 → ⊥ = λ z. c .before .before .if1 .left (same ∙ z) in (
       ap (λ (i : ℕ). i * 65536 + i) same,
-      ap (λ (w : ℕ). withPending f (set (f .pending) (at-top .top-identity .result / 32) w))
+      ap (λ (w : ℕ). withPendingSet f (set (f .pending) (at-top .top-identity .result / 32) w))
           (c .without-bit .ensures)
-          ∙ ap (withPending f) (remove-word (f .pending) (at-top .top-identity .result))
-          ∙ ap (λ (i : ℕ). withPending f (remove (f .pending) i)) same ∙ sym (claimed-some 255 f there),
+          ∙ ap (withPendingSet f) (remove-word (f .pending) (at-top .top-identity .result))
+          ∙ ap (λ (i : ℕ). withPendingSet f (remove (f .pending) i)) same ∙ sym (claimed-some 255 f there),
     )
 
 pub claim-spec : {M : Type 1} → statement M

@@ -3,7 +3,7 @@ use mathlib.Core.Path.{ap, sym, _∙_}
 use native.Mathlib.Nat.{mod-eq-of-lt}
 use Rattle.select.specs.declared.Register.{Register}
 use Rattle.select.proofs.DeliveriesLaws.{legal-lt}
-use Rattle.file.specs.Parts.{withDelivery, withPending, withEnable}
+use Rattle.file.specs.Parts.{withDelivery, withPendingSet, withEnable}
 use Rattle.file.specs.Register.{written}
 use Rattle.file.proofs.RegisterLaws.{written-legal, written-illegal}
 use borrow.Author.Needs.{needs}
@@ -72,7 +72,7 @@ returns-4 : tie.Need-returns-4
 unfolding written
 returns-4 c =
     let args = c .before .before .before .before .before .args in
-    ap (withPending (args .self)) (c .put-doubleword .ensures)
+    ap (withPendingSet (args .self)) (c .put-doubleword .ensures)
     ∙ sym
     (ap (λ (r : Register). written 255 (args .guest) (args .self) r (args .value))
     (c .before .before .before .register .given .1))

@@ -2,7 +2,7 @@
 use Prim.Native.Nat.{ℕ}
 use mathlib.Core.List.{List}
 use Rattle.domain.specs.Domain.{Domain}
-use Rattle.registers.specs.Read.{valueOf, claimedBy}
+use Rattle.registers.specs.Read.{registerValue, claimedBy}
 use mathlib.Core.Path.{ap, ap₂, sym, _∙_}
 use Rattle.wired.specs.Wired.{wiredOf}
 use Rattle.wires.proofs.WiresLaws.{child-long, root-long, child-part, root-part, put-child, put-root}
@@ -45,7 +45,7 @@ returns c =
     let wires = at-test .before .wires .ensures in
     let put = put-child l (at-call .read .last .0) long (at-call .read .kept .0 ∙ child-long l long) in (
       at-call .read .ensures .0
-          ∙ ap₂ (λ (d : Domain) (ws : List ℕ). valueOf d ws (start .args .word)) part wires,
+          ∙ ap₂ (λ (d : Domain) (ws : List ℕ). registerValue d ws (start .args .word)) part wires,
       put
           ∙ ap (λ (d : Domain). record { wires = wiredOf l .wires; root = wiredOf l .root; child = d })
           (at-call .read .ensures .1 ∙ ap (λ (d : Domain). claimedBy d (start .args .word)) part)
@@ -82,7 +82,7 @@ returns-2 c =
     let wires = at-test .before .wires .ensures in
     let put = put-root l (at-call .read2 .last .0) long (at-call .read2 .kept .0 ∙ root-long l long) in (
       at-call .read2 .ensures .0
-          ∙ ap₂ (λ (d : Domain) (ws : List ℕ). valueOf d ws (start .args .word)) part wires,
+          ∙ ap₂ (λ (d : Domain) (ws : List ℕ). registerValue d ws (start .args .word)) part wires,
       put
           ∙ ap (λ (d : Domain). record { wires = wiredOf l .wires; root = d; child = wiredOf l .child })
           (at-call .read2 .ensures .1 ∙ ap (λ (d : Domain). claimedBy d (start .args .word)) part)
