@@ -10,7 +10,7 @@ use native.Mathlib.Omega.{arith}
 use lib.ListN.{length, take, drop, length-take, length-drop, length-append}
 use lib.Seq.{take-at, drop-at}
 use Rattle.files.specs.Files.{filesOf, filesSound}
-use Rattle.wired.specs.Wired.{wiredOf}
+use Rattle.wires.specs.Wires.{wiredOf}
 use Rattle.rules.specs.Rules.{wiredSound}
 use Rattle.block.specs.Block.{Board, boardOf, boardSound}
 

@@ -14,7 +14,7 @@ use Rattle.files.specs.Files.{filesOf, theFile, withFile}
 use Rattle.files.proofs.FilesLaws.{theFile-first, theFile-next, files-same, length-filesOf, guest-read}
 use Rattle.files.proofs.FilesLaws.{theFile-withFile-same, theFile-withFile-other}
 use Rattle.domain_laws.proofs.ZeroEffects.{domainOf-zeros}
-use Rattle.wired.specs.Wired.{wiredOf}
+use Rattle.wires.specs.Wires.{wiredOf}
 use Rattle.wires.proofs.WiresLaws.{wired-path, wires-read, root-part, child-part}
 use Rattle.block.specs.Start.{startFile, startFilesFrom, startDomain, startBoard}
 

@@ -12,7 +12,7 @@ use lib.ListN.{take, drop}
 use Rattle.file.specs.declared.File.{File}
 use Rattle.files.specs.Files.{filesOf, wordsOf, filesSound}
 use Rattle.domain.specs.Domain.{Domain}
-use Rattle.wired.specs.Wired.{Wired, wiredOf}
+use Rattle.wires.specs.Wires.{Wired, wiredOf}
 use Rattle.rules.specs.Rules.{wiredSound}
 
 pub record Board : Type 0 where

@@ -14,7 +14,7 @@ use Rattle.files.proofs.FilesLaws.{length-filesOf}
 use Rattle.files_laws.proofs.BlockBack.{words-back, files-back}
 use Rattle.files_laws.proofs.Keeps.{filesOf-long}
 use Rattle.domain_laws.proofs.SlotEffects.{domainOf-shaped}
-use Rattle.wired.specs.Wired.{wiredOf}
+use Rattle.wires.specs.Wires.{wiredOf}
 use Rattle.wires.proofs.WiresLaws.{root-long, child-long}
 use Rattle.block.specs.Block.{Board, boardOf, blockOf, wiredWords}
 use Rattle.block.proofs.BlockLaws.{board-path, files-long, wired-long}

@@ -9,7 +9,7 @@ use lib.Seq.{take-all, take-add, take-at, drop-at}
 use Rattle.domain.specs.Domain.{Domain, domainOf}
 use Rattle.domain.proofs.DomainLaws.{domain-path}
 use Rattle.domain_laws.specs.Shape.{DomainShaped}
-use Rattle.wired.specs.Wired.{Wired, wiredOf}
+use Rattle.wires.specs.Wires.{Wired, wiredOf}
 use Rattle.wires.proofs.WiresLaws.{wired-path, root-long, child-long}
 use Rattle.block.specs.Block.{domainWords, wiredWords}
 

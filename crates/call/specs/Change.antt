@@ -24,7 +24,8 @@ use Rattle.file.specs.Top.{topOf, claimed, signals}
 use Rattle.files.specs.Files.{fileNumber, theFile, withFile}
 use Rattle.region.specs.Region.{wordAt}
 use Rattle.direct.specs.Direct.{signalOf}
-use Rattle.wired.specs.Wired.{Wired, domainIn, readIn, claimedIn, writtenIn, wireSet}
+use Rattle.wires.specs.Wires.{Wired, domainIn, wireSet}
+use Rattle.wired.specs.Wired.{readIn, claimedIn, writtenIn}
 use Rattle.controller.specs.Controller.{generatedBy}
 use Rattle.transfer_steps.specs.Steps.{actOf}
 use Rattle.block.specs.Block.{Board}

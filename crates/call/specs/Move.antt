@@ -21,7 +21,8 @@ use Rattle.file.specs.Reply.{replyValue}
 use Rattle.file.specs.Register.{accessed}
 use Rattle.files.specs.Files.{fileNumber, isGuest, theFile, withFile}
 use Rattle.region.specs.declared.Word.the-variants as word
-use Rattle.wired.specs.Wired.{Wired, readIn, writtenIn}
+use Rattle.wires.specs.Wires.{Wired}
+use Rattle.wired.specs.Wired.{readIn, writtenIn}
 use Rattle.transfer_steps.specs.declared.Act.{Act}
 use Rattle.transfer_steps.specs.declared.Act.the-variants.{Save, Zero, Target, Put}
 use Rattle.transfer_steps.specs.Names.{namesFile, renamed}

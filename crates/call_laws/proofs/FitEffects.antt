@@ -24,7 +24,7 @@ use Rattle.domain.specs.Domain.{Domain}
 use Rattle.domain_laws.specs.Shape as domain
 use Rattle.sending.specs.Sending.{sent}
 use Rattle.sending_laws.proofs.SendingEffects.{sent-rest, sent-long}
-use Rattle.wired.specs.Wired.{Wired}
+use Rattle.wires.specs.Wires.{Wired}
 use Rattle.rules.specs.Rules.{wiredSound}
 use Rattle.rules_laws.specs.Steady.{WiredSteady}
 use Rattle.rules_laws.proofs.SoundParts.{wired-sound-steady}

@@ -20,7 +20,7 @@ use Rattle.file.specs.Top.{signals}
 use Rattle.files.specs.Files.{fileNumber, theFile}
 use Rattle.direct.specs.Direct.{signalOf}
 use Rattle.sending.proofs.SendingLaws.{logged-none}
-use Rattle.wired.specs.Wired.{Wired, wiredOf, domainIn}
+use Rattle.wires.specs.Wires.{Wired, wiredOf, domainIn}
 use Rattle.block.specs.Block.{Board, boardOf, boardSound}
 use Rattle.block.specs.Start.{startBoard}
 use Rattle.block.proofs.BlockLaws.{wired-part}

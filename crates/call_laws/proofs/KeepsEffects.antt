@@ -20,7 +20,7 @@ use Rattle.files.specs.Files.{fileNumber, isGuest, theFile}
 use Rattle.region.specs.Region.{wordAt}
 use Rattle.region.proofs.RegionLaws.{word-within}
 use Rattle.domain.specs.Domain.{byMessages}
-use Rattle.wired.specs.Wired.{Wired}
+use Rattle.wires.specs.Wires.{Wired}
 use Rattle.rules_laws.specs.Steady.{WiredSteady}
 use Rattle.rules_laws.proofs.WiredEffects.{steady-wireSet, steady-claimedIn}
 use Rattle.rules_laws.proofs.DelegationEffects.{steady-writtenIn}

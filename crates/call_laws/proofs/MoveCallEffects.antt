@@ -20,7 +20,8 @@ use Rattle.files.specs.Files.{fileNumber, theFile}
 use Rattle.domain.specs.Domain.{configOf, byMessages}
 use Rattle.region.specs.declared.Word.the-variants as word
 use Rattle.registers.specs.Read.{claimedAs, claimedBy}
-use Rattle.wired.specs.Wired.{Wired, domainIn, withDomain, readIn, claimedIn, writtenIn}
+use Rattle.wires.specs.Wires.{Wired, domainIn, withDomain}
+use Rattle.wired.specs.Wired.{readIn, claimedIn, writtenIn}
 use Rattle.rules_laws.proofs.ConfigEffects.{config-low}
 use Rattle.rules_laws.proofs.WiredEffects.{steady-domainIn}
 use Rattle.rules_laws.specs.Steady.{WiredSteady}

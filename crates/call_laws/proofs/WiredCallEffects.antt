@@ -11,7 +11,8 @@ use borrow.Author.Tests.{leb-true, lt-ltb}
 use Rattle.words.proofs.TestsLaws.{and-first, and-second}
 use Rattle.files.specs.Files.{allReached}
 use Rattle.region.specs.Region.{addressLegal, wordAt}
-use Rattle.wired.specs.Wired.{Wired, readIn}
+use Rattle.wires.specs.Wires.{Wired}
+use Rattle.wired.specs.Wired.{readIn}
 use Rattle.controller.specs.Controller.{wireCall, readCall, writeCall}
 use Rattle.block.specs.Block.{Board, boardOf}
 use Rattle.call.specs.declared.Answer.the-variants.{Done}

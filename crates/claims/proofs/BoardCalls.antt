@@ -13,7 +13,7 @@ use Rattle.file.specs.Top.{signals}
 use Rattle.files.specs.Files.{fileNumber, theFile}
 use Rattle.direct.specs.Direct.{signalOf}
 use Rattle.direct_laws.proofs.ClaimEffects.{signal-iff}
-use Rattle.wired.specs.Wired.{domainIn}
+use Rattle.wires.specs.Wires.{domainIn}
 use Rattle.block.specs.Block.{Board, boardOf}
 use Rattle.block_laws.proofs.BlockBack.{block-back, board-back, length-blockOf}
 use Rattle.block_laws.proofs.StartEffects.{start-sound}

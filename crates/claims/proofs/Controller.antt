@@ -8,7 +8,8 @@ use native.Mathlib.Omega.{arith}
 use Rattle.region.specs.declared.Word.{Word}
 use Rattle.region.specs.declared.Word.the-variants.{Genmsi}
 use Rattle.region.proofs.RoleLaws.{generates-only}
-use Rattle.wired.specs.Wired.{Wired, domainIn, writtenIn, wireSet}
+use Rattle.wires.specs.Wires.{Wired, domainIn, wireSet}
+use Rattle.wired.specs.Wired.{writtenIn}
 use Rattle.sending.specs.Sending.{Sent}
 use Rattle.genmsi.specs.Genmsi.{generatedSent}
 use Rattle.rules_laws.specs.Steady.{WiredSteady, WiredQuiet}

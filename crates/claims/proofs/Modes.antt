@@ -16,8 +16,8 @@ use Rattle.source.specs.Pending.{inactive, settled, moded}
 use Rattle.domain.specs.Domain.{Domain}
 use Rattle.domain.specs.Slot.{sourceAt}
 use Rattle.domain_laws.proofs.SlotEffects.{sourceAt-withSource-same, sourceAt-withSource-other}
-use Rattle.wired.specs.Wired.{Wired, isDelegated}
-use Rattle.wires.proofs.DelegationLaws.{root-stays, root-moves}
+use Rattle.wires.specs.Wires.{Wired, isDelegated}
+use Rattle.wired_sourcecfg.proofs.DelegationLaws.{root-stays, root-moves}
 use Rattle.claims.specs.Modes.{Claim-94, Claim-95}
 
 -- ---- the source

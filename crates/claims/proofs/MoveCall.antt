@@ -27,7 +27,7 @@ use Rattle.target.specs.Target.{hartOf, guestOf}
 use Rattle.source.specs.declared.Source.{Source}
 use Rattle.domain.specs.Domain.{byMessages, generatedAt}
 use Rattle.domain.specs.Slot.{sourceAt}
-use Rattle.wired.specs.Wired.{Wired}
+use Rattle.wires.specs.Wires.{Wired}
 use Rattle.files.specs.Files.{fileNumber, theFile}
 use Rattle.transfer_steps.specs.Names.{namesFile}
 use Rattle.transfer_steps.specs.Steps.{actOf}

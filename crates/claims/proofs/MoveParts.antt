@@ -30,7 +30,7 @@ use Rattle.source.proofs.PendingLaws.{retargeted-active}
 use Rattle.source_laws.proofs.SteadyParts.{steady-target}
 use Rattle.domain.specs.Domain.{byMessages, generatedAt}
 use Rattle.domain.specs.Slot.{sourceAt}
-use Rattle.wired.specs.Wired.{Wired, domainIn}
+use Rattle.wires.specs.Wires.{Wired, domainIn}
 use Rattle.rules_laws.specs.Steady.{WiredSteady}
 use Rattle.controller_laws.proofs.TargetEffects.{target-own, target-other}
 use Rattle.transfer_steps.specs.Names.{namesFile, renamed}

@@ -9,7 +9,7 @@ use native.Mathlib.Omega.{arith}
 use lib.Dec.{eqb}
 use Rattle.words.specs.Sets.{member}
 use Rattle.domain.specs.Slot.{sourceAt}
-use Rattle.wired.specs.Wired.{Wired, domainIn, wireSet}
+use Rattle.wires.specs.Wires.{Wired, domainIn, wireSet}
 use Rattle.sending.specs.Sending.{candidate}
 use Rattle.sending_laws.specs.Candidates.{messageAt}
 use Rattle.rules_laws.proofs.PassEffects.{quiet-candidate}

@@ -28,8 +28,9 @@ use Rattle.registers.specs.Write.{registerWritten}
 use Rattle.registers.specs.Read.{claimedBy}
 use Rattle.registers.proofs.ReadLaws.{claimed-by}
 use Rattle.sending_laws.proofs.SendingEffects.{sent-source, spent-hit}
-use Rattle.wired.specs.Wired.{wireSet, sourceWired, sourceModed, childWritten, rootWritten}
-use Rattle.wired.specs.Wired.{sourceWritten}
+use Rattle.wires.specs.Wires.{wireSet, sourceWired}
+use Rattle.wired_sourcecfg.specs.Delegation.{sourceModed, childWritten, rootWritten}
+use Rattle.wired_sourcecfg.specs.Delegation.{sourceWritten}
 use Rattle.claims.specs.Causes.{happens}
 use Rattle.claims.specs.Operations.{Claim-59}
 use Rattle.claims.proofs.Writes.{word-written}

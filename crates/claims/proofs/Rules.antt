@@ -18,7 +18,7 @@ use Rattle.domain.specs.Slot.{sourceAt}
 use Rattle.domain.specs.Structure.{structureAt}
 use Rattle.domain_laws.specs.Shape.{DomainShaped}
 use Rattle.domain_laws.proofs.SlotEffects.{domainOf-shaped}
-use Rattle.wired.specs.Wired.{Wired, wiredOf, isDelegated}
+use Rattle.wires.specs.Wires.{Wired, wiredOf, isDelegated}
 use Rattle.wires.proofs.WiresLaws.{root-long, child-long}
 use Rattle.source_laws.proofs.ModeEffects.{active-delegated}
 use Rattle.rules.specs.Rules.{configRange, generatedRange, structureRange, sourceZeroRule, generatedRule}

@@ -10,7 +10,7 @@ use Rattle.domain.specs.Domain.{Domain, domainOf}
 use denote.Ref.{now}
 use Rattle.region.specs.declared.Word.the-variants.{Sourcecfg}
 use Rattle.region.proofs.RoleLaws.{configures-only}
-use Rattle.wired.specs.Wired.{Wired, wiredOf}
+use Rattle.wires.specs.Wires.{Wired, wiredOf}
 use Rattle.wired.proofs.WiredLaws.{written-part, written-source}
 use Rattle.files.specs.Files.{wordsOf}
 use Rattle.files_laws.proofs.BlockBack.{words-back}

@@ -34,8 +34,9 @@ use Rattle.writes_laws.proofs.ConfigEffects.{keptConfig-messages, became-config
 use Rattle.writes_laws.proofs.ConfigEffects.{byMessages-configWritten, isEnabled-configWritten}
 use Rattle.source_laws.proofs.ModeEffects.{active-level}
 use Rattle.source_laws.proofs.TargetEffects.{keptTarget-back}
-use Rattle.wired.specs.Wired.{Wired}
-use Rattle.wired.specs.Wired.{sourceWritten, writtenIn}
+use Rattle.wires.specs.Wires.{Wired}
+use Rattle.wired_sourcecfg.specs.Delegation.{sourceWritten}
+use Rattle.wired.specs.Wired.{writtenIn}
 use Rattle.wired.proofs.WiredLaws.{written-source}
 use Rattle.rules_laws.proofs.SoundParts.{wired-sound-steady}
 use Rattle.rules_laws.proofs.WiredSameEffects.{wireSet-same, delegated-again}

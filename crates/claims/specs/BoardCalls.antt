@@ -18,7 +18,7 @@ use Rattle.files.specs.Files.{fileNumber, theFile}
 use Rattle.domain.specs.Domain.{isEnabled, byMessages}
 use Rattle.domain.specs.Structure.{structureAt}
 use Rattle.direct.specs.Direct.{topiOf}
-use Rattle.wired.specs.Wired.{domainIn}
+use Rattle.wires.specs.Wires.{domainIn}
 use Rattle.block.specs.Block.{Board, boardOf, blockOf, boardSound}
 use Rattle.block.specs.Start.{startBoard}
 use Rattle.block_laws.specs.Shape.{BoardShaped}

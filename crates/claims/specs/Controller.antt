@@ -13,7 +13,8 @@ use Rattle.target.specs.Target.{fileIn}
 use Rattle.region.specs.Region.{Within}
 use Rattle.region.specs.declared.Word.{Word}
 use Rattle.region.specs.declared.Word.the-variants.{Genmsi}
-use Rattle.wired.specs.Wired.{Wired, wiredOf, domainIn, readIn, claimedIn, writtenIn, wireSet}
+use Rattle.wires.specs.Wires.{Wired, wiredOf, domainIn, wireSet}
+use Rattle.wired.specs.Wired.{readIn, claimedIn, writtenIn}
 use Rattle.rules.specs.Rules.{wiredSound}
 use Rattle.sending.specs.Sending.{sent}
 use Rattle.genmsi.specs.Genmsi.{generatedSent}

@@ -11,7 +11,8 @@ use Rattle.source.specs.declared.Source.{Source}
 use Rattle.source.specs.Pending.{moded}
 use Rattle.domain.specs.Slot.{sourceAt}
 use Rattle.domain_laws.specs.Shape.{DomainShaped}
-use Rattle.wired.specs.Wired.{Wired, isDelegated, rootWritten}
+use Rattle.wires.specs.Wires.{Wired, isDelegated}
+use Rattle.wired_sourcecfg.specs.Delegation.{rootWritten}
 
 -- its rectified value rises by the write
 abbrev pub rises : Bool → Source → ℕ → Bool

@@ -14,7 +14,7 @@ use Rattle.source.specs.Pending.{wireChanged, retargeted}
 use Rattle.region.specs.declared.Word.the-variants.{Target}
 use Rattle.domain.specs.Domain.{isEnabled, byMessages}
 use Rattle.domain.specs.Slot.{sourceAt}
-use Rattle.wired.specs.Wired.{Wired, domainIn, wireSet}
+use Rattle.wires.specs.Wires.{Wired, domainIn, wireSet}
 use Rattle.sending.specs.Sending.{candidate}
 use Rattle.sending_laws.specs.Candidates.{messageAt, spent}
 use Rattle.controller.specs.Controller.{wireCall, writeCall}

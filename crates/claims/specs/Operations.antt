@@ -21,7 +21,8 @@ use Rattle.registers.specs.Read.{claimedBy}
 use Rattle.registers.specs.Write.{registerWritten}
 use Rattle.sending.specs.Sending.{candidate}
 use Rattle.sending.specs.Sending as sending
-use Rattle.wired.specs.Wired.{Wired, wireSet, isDelegated, writtenIn}
+use Rattle.wires.specs.Wires.{Wired, wireSet, isDelegated}
+use Rattle.wired.specs.Wired.{writtenIn}
 use Rattle.claims.specs.Causes.{Cause, happens}
 use Rattle.claims.specs.Causes.Cause.{wire, setip, clrip, claim, sent}
 use Rattle.claims.specs.Rules.{Long}

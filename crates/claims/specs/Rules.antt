@@ -24,7 +24,8 @@ use Rattle.domain.specs.Domain.{Domain, configOf, isEnabled, byMessages, genera
 use Rattle.domain.specs.Slot.{sourceAt}
 use Rattle.domain.specs.Structure.{structureAt}
 use Rattle.domain_laws.specs.Shape.{DomainShaped}
-use Rattle.wired.specs.Wired.{Wired, wiredOf, wireSet, writtenIn, claimedIn}
+use Rattle.wires.specs.Wires.{Wired, wiredOf, wireSet}
+use Rattle.wired.specs.Wired.{writtenIn, claimedIn}
 use Rattle.rules.specs.Rules.{wiredSound}
 use Rattle.rules_laws.specs.Steady.{passed}
 use Rattle.rules.proofs.sound.Reads as sound

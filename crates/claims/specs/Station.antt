@@ -12,7 +12,7 @@ use mathlib.Core.Logic.{_≢_}
 use Rattle.words.specs.Sets.{member}
 use Rattle.file.specs.Top.{topIdentity}
 use Rattle.files.specs.Files.{fileNumber, theFile}
-use Rattle.wired.specs.Wired.{domainIn}
+use Rattle.wires.specs.Wires.{domainIn}
 use Rattle.call.specs.declared.Call.{Call}
 use Rattle.call.specs.declared.Call.the-variants.{Claim}
 use Rattle.call.specs.Outcome.{step}

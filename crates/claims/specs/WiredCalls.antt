@@ -20,7 +20,9 @@ use Rattle.registers.specs.Write.{registerWritten}
 use Rattle.sending.specs.Sending.{sent, logged}
 use Rattle.genmsi.specs.Genmsi.{generatedSent}
 use Rattle.files.specs.Files.{filesOf, wordsOf, allReached}
-use Rattle.wired.specs.Wired.{wiredOf, readIn, claimedIn, partWritten, wireSet, sourceWritten}
+use Rattle.wires.specs.Wires.{wiredOf, wireSet}
+use Rattle.wired_sourcecfg.specs.Delegation.{sourceWritten}
+use Rattle.wired.specs.Wired.{readIn, claimedIn, partWritten}
 use Rattle.region.proofs.word_at.Reads as word-at
 use Rattle.registers.proofs.read.Reads as read
 use Rattle.registers.proofs.write.Reads as write

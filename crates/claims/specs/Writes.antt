@@ -26,7 +26,8 @@ use Rattle.domain_laws.specs.Shape.{DomainShaped}
 use Rattle.domain_laws.specs.Became.{Became, Touched}
 use Rattle.writes.specs.Writes.{wordChanged, numberChanged, targetWritten}
 use Rattle.config.specs.Config.{configWritten}
-use Rattle.wired.specs.Wired.{Wired, wireSet, isDelegated, writtenIn}
+use Rattle.wires.specs.Wires.{Wired, wireSet, isDelegated}
+use Rattle.wired.specs.Wired.{writtenIn}
 use Rattle.claims.specs.Rules.{Sound, TargetStored}
 
 -- a write of v to word k of a family changes the sources whose bits are set, and a number that source alone

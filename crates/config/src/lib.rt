@@ -4,7 +4,7 @@ ghost use Prim.Native.Nat.{_-_, _≤_, _<_};
 ghost use lib.ListN.{length};
 ghost use Rattle.domain.specs.Domain.{domainOf};
 ghost use Rattle.config.specs.Config.{keptConfig, redeliveredAt, redeliveredFrom, configWritten};
-use writes::wire_at;
+use source_wire::wire_at;
 
 // What of a written domaincfg is stored.
 pub fn kept_config(value: u32) -> u32

@@ -11,9 +11,10 @@ use Rattle.region.specs.declared.Word.{Word}
 use Rattle.region.specs.declared.Word.the-variants.{Genmsi}
 use Rattle.domain_laws.specs.Shape.{DomainShaped}
 use Rattle.domain_laws.proofs.SlotEffects.{domainOf-shaped}
-use Rattle.wired.specs.Wired.{Wired, wiredOf, wireSet, writtenIn, claimedIn}
+use Rattle.wires.specs.Wires.{Wired, wiredOf, wireSet}
+use Rattle.wired.specs.Wired.{writtenIn, claimedIn}
 use Rattle.wires.proofs.WiresLaws.{root-part, child-part, root-long, child-long, wires-read}
-use Rattle.wired.proofs.WiredLaws.{domain-root, domain-child}
+use Rattle.wires.proofs.WiresLaws.{domain-root, domain-child}
 use Rattle.rules.specs.Rules.{wiredSound}
 use Rattle.sending.specs.Sending.{Sent}
 use Rattle.rules_laws.specs.Steady.{Quiet, WiredSteady, WiredQuiet}

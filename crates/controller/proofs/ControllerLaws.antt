@@ -8,7 +8,8 @@ use mathlib.Core.Logic.{_≢_, inl, inr}
 use native.Mathlib.Omega.{arith}
 use lib.ListN.{length}
 use Rattle.domain.specs.Domain.{Domain}
-use Rattle.wired.specs.Wired.{Wired, domainIn, writtenIn}
+use Rattle.wires.specs.Wires.{Wired, domainIn}
+use Rattle.wired.specs.Wired.{writtenIn}
 use Rattle.wires.proofs.WiresLaws.{wired-path}
 use Rattle.sending.specs.Sending.{Sent, sent, sentNothing, logged}
 use Rattle.sending.proofs.SendingLaws.{logged-none}

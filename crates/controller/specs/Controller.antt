@@ -23,7 +23,8 @@ use Rattle.region.specs.declared.role.Role.{Role}
 use Rattle.region.specs.declared.role.Role.the-variants.{Claims, Configures, Generates, Plain}
 use Rattle.region.specs.Role.{roleOf}
 use Rattle.domain.specs.Domain.{Domain}
-use Rattle.wired.specs.Wired.{Wired, domainIn, claimedIn, writtenIn, wireSet}
+use Rattle.wires.specs.Wires.{Wired, domainIn, wireSet}
+use Rattle.wired.specs.Wired.{claimedIn, writtenIn}
 use Rattle.sending.specs.Sending.{sent, sentNothing, logged}
 use Rattle.genmsi.specs.Genmsi.{generatedSent}
 

@@ -1,7 +1,7 @@
 // The pass after a change: each domain sends what is to be sent.
 ghost use mathlib.Core.Path.{_≡_};
 ghost use lib.ListN.{length};
-ghost use Rattle.wired.specs.Wired.{wiredOf};
+ghost use Rattle.wires.specs.Wires.{wiredOf};
 ghost use Rattle.controller.specs.Controller.{flushed, OneSends, Leaves};
 
 // Both domains never send in one call. The messages come first in `log`; answers their number.

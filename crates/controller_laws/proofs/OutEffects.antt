@@ -13,7 +13,8 @@ use Rattle.region.specs.Region.{Within}
 use Rattle.region.specs.declared.Word.{Word}
 use Rattle.region.proofs.RoleLaws.{generates-only}
 use Rattle.domain.specs.Domain.{Domain, byMessages}
-use Rattle.wired.specs.Wired.{Wired, domainIn, wireSet, writtenIn, claimedIn}
+use Rattle.wires.specs.Wires.{Wired, domainIn, wireSet}
+use Rattle.wired.specs.Wired.{writtenIn, claimedIn}
 use Rattle.rules.specs.Rules.{wiredSound}
 use Rattle.sending.specs.Sending.{sent}
 use Rattle.sending_laws.proofs.MessageEffects.{Every, every-none, every-one, every-append, sent-named}

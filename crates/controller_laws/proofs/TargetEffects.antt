@@ -13,7 +13,8 @@ use Rattle.domain_laws.specs.Shape.{DomainShaped}
 use Rattle.writes.specs.Writes.{targetWritten}
 use Rattle.writes_laws.proofs.WritesEffects.{sourceAt-targetWritten-same, sourceAt-targetWritten-other}
 use Rattle.registers.specs.Write.{registerWritten}
-use Rattle.wired.specs.Wired.{Wired, domainIn, withDomain, writtenAs, writtenIn}
+use Rattle.wires.specs.Wires.{Wired, domainIn, withDomain}
+use Rattle.wired.specs.Wired.{writtenAs, writtenIn}
 use Rattle.rules_laws.specs.Steady.{WiredSteady, WiredQuiet}
 use Rattle.rules_laws.proofs.WiredQuietEffects.{quiet-target, other-withDomain}
 use Rattle.controller.specs.Controller.{generatedAs, generatedBy, writeCall}

@@ -19,7 +19,7 @@ use Rattle.domain.specs.Slot.{sourceAt}
 use Rattle.domain_laws.specs.Shape.{DomainShaped}
 use Rattle.domain_laws.proofs.OwnEffects.{configOf-withSource}
 use Rattle.domain_laws.proofs.SlotEffects.{sourceAt-withSource-same, sourceAt-withSource-other}
-use Rattle.wired.specs.Wired.{Wired, domainIn, wireSet, sourceWired}
+use Rattle.wires.specs.Wires.{Wired, domainIn, wireSet, sourceWired}
 use Rattle.sending.specs.Sending.{candidate, Sent, sent}
 use Rattle.sending.proofs.SendingLaws.{messages-hit, messages-miss, sent-off}
 use Rattle.sending_laws.specs.Candidates.{messageAt, spent}

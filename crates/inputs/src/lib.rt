@@ -14,7 +14,7 @@ fn input(part: &[u32], wires: [u32; 2], i: usize) -> bool
     }
     let s = domain::load(part, i);
     if mode::active(s.mode) {
-        return writes::wire_at(wires, i);
+        return source_wire::wire_at(wires, i);
     }
     false
 }

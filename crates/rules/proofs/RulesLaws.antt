@@ -12,8 +12,8 @@ use Rattle.source.specs.declared.Source.{Source}
 use Rattle.domain.specs.Domain.{Domain, isEnabled, byMessages, generatedAt}
 use Rattle.domain.specs.Slot.{sourceAt}
 use Rattle.domain.proofs.SlotLaws.{pending-word, enable-word}
-use Rattle.wired.specs.Wired.{Wired}
-use Rattle.wires.proofs.DelegationLaws.{delegated-mode}
+use Rattle.wires.specs.Wires.{Wired}
+use Rattle.wires.proofs.WiresLaws.{delegated-mode}
 use Rattle.source_rules.specs.SourceRules.{sourceSound}
 use Rattle.words.specs.Every.{every}
 use Rattle.rules.specs.Rules.{configRange, generatedRange, structureRange, sourceZeroRule}

@@ -21,7 +21,7 @@ use Rattle.domain.specs.Domain.{Domain, configOf, isEnabled, byMessages, genera
 use Rattle.domain.specs.Slot.{sourceAt}
 use Rattle.domain.specs.Structure.{structureAt}
 use Rattle.config.specs.Config.{keptConfig}
-use Rattle.wired.specs.Wired.{Wired, isDelegated}
+use Rattle.wires.specs.Wires.{Wired, isDelegated}
 use Rattle.source_rules.specs.SourceRules.{sourceSound}
 use Rattle.words.specs.Every.{every}
 

@@ -4,7 +4,7 @@ ghost use mathlib.Core.Bool.{_&&_};
 ghost use Prim.Native.Nat.{_<_};
 ghost use lib.ListN.{length};
 ghost use Rattle.domain.specs.Domain.{domainOf};
-ghost use Rattle.wired.specs.Wired.{wiredOf};
+ghost use Rattle.wires.specs.Wires.{wiredOf};
 ghost use Rattle.words.specs.Every.{every};
 ghost use Rattle.rules.specs.Rules.{configRange, generatedRange, generatedRule, sourceZeroRule};
 ghost use Rattle.rules.specs.Rules.{domainSound};

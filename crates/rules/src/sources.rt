@@ -14,7 +14,7 @@ fn source_rule(part: &[u32], child: bool, wires: [u32; 2], i: usize) -> bool
     let messages = domain::by_messages(part);
     let sends = domain::enabled(part) & messages;
     let s = domain::load(part, i);
-    source_rules::source_sound(child, messages, sends, writes::wire_at(wires, i), s)
+    source_rules::source_sound(child, messages, sends, source_wire::wire_at(wires, i), s)
 }
 
 pub fn source_pass(part: &[u32], child: bool, wires: [u32; 2]) -> bool

@@ -17,9 +17,10 @@ use Rattle.source.specs.Pending.{inactive}
 use Rattle.domain.specs.Domain.{Domain}
 use Rattle.domain.specs.Slot.{sourceAt, withSource}
 use Rattle.domain_laws.proofs.SlotEffects.{sourceAt-withSource-same, sourceAt-withSource-other}
-use Rattle.wired.specs.Wired.{Wired, isDelegated, sourceModed, childWritten, rootWritten, sourceWritten}
+use Rattle.wires.specs.Wires.{Wired, isDelegated}
+use Rattle.wired_sourcecfg.specs.Delegation.{sourceModed, childWritten, rootWritten, sourceWritten}
 use Rattle.wired.specs.Wired.{writtenIn}
-use Rattle.wires.proofs.DelegationLaws.{root-stays, root-moves, written-child, written-root}
+use Rattle.wired_sourcecfg.proofs.DelegationLaws.{root-stays, root-moves, written-child, written-root}
 use Rattle.wired.proofs.WiredLaws.{written-cases}
 use Rattle.rules.specs.Rules.{delegatedRule}
 use Rattle.rules_laws.specs.Steady.{Steady, WiredSteady}

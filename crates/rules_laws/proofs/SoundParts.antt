@@ -11,7 +11,7 @@ use Rattle.words.proofs.TestsLaws.{and-first, and-second, and-both}
 use Rattle.domain.specs.Domain.{Domain, byMessages}
 use Rattle.domain.specs.Slot.{sourceAt}
 use Rattle.domain_laws.specs.Shape.{DomainShaped}
-use Rattle.wired.specs.Wired.{Wired}
+use Rattle.wires.specs.Wires.{Wired}
 use Rattle.source_rules.specs.SourceRules.{sourceSteady, sentRule, sourceSound}
 use Rattle.words.specs.Every.{every}
 use Rattle.rules.specs.Rules.{configRange, generatedRange, structureRange, sourceZeroRule, generatedRule}

@@ -18,7 +18,8 @@ use Rattle.domain.specs.Slot.{sourceAt, withSource}
 use Rattle.domain_laws.specs.Shape.{DomainShaped}
 use Rattle.domain_laws.proofs.SlotEffects.{sourceAt-withSource-same, sourceAt-withSource-other}
 use Rattle.domain_laws.proofs.SlotEffects.{withSource-back}
-use Rattle.wired.specs.Wired.{sourceWired, sourceModed}
+use Rattle.wires.specs.Wires.{sourceWired}
+use Rattle.wired_sourcecfg.specs.Delegation.{sourceModed}
 use Rattle.source_laws.proofs.SteadyParts.{steady-start}
 use Rattle.source_laws.proofs.SteadyEffects.{steady-wireChanged, steady-moded, steady-sourceWord}
 use Rattle.source_laws.proofs.SameEffects.{wireChanged-inactive, wireChanged-same, moded-same}

@@ -15,7 +15,8 @@ use Rattle.domain.specs.Domain.{Domain}
 use Rattle.domain.specs.Slot.{sourceAt}
 use Rattle.registers.specs.Read.{claimedBy}
 use Rattle.registers.specs.Write.{registerWritten}
-use Rattle.wired.specs.Wired.{Wired, domainIn, withDomain, claimedIn, partWritten, wireSet, isDelegated}
+use Rattle.wires.specs.Wires.{Wired, domainIn, withDomain, wireSet, isDelegated}
+use Rattle.wired.specs.Wired.{claimedIn, partWritten}
 use Rattle.rules.specs.Rules.{sourceZeroRule, delegatedRule, wiredSound}
 use Rattle.rules_laws.specs.Steady.{Steady, DomainKept, WiredSteady, WiredQuiet, passed}
 use Rattle.rules_laws.proofs.SoundParts.{wired-sound-joined}

@@ -21,9 +21,11 @@ use Rattle.domain.specs.Slot.{sourceAt}
 use Rattle.writes.specs.Writes.{targetWritten}
 use Rattle.registers.specs.Read.{claimedBy}
 use Rattle.registers.specs.Write.{registerWritten}
-use Rattle.wired.specs.Wired.{Wired, domainIn, withDomain, claimedIn, partWritten, wireSet, isDelegated}
-use Rattle.wired.specs.Wired.{childWritten, rootWritten, sourceWritten, writtenAs, writtenIn}
-use Rattle.wires.proofs.DelegationLaws.{root-stays, root-moves}
+use Rattle.wires.specs.Wires.{Wired, domainIn, withDomain, wireSet, isDelegated}
+use Rattle.wired.specs.Wired.{claimedIn, partWritten}
+use Rattle.wired_sourcecfg.specs.Delegation.{childWritten, rootWritten, sourceWritten}
+use Rattle.wired.specs.Wired.{writtenAs, writtenIn}
+use Rattle.wired_sourcecfg.proofs.DelegationLaws.{root-stays, root-moves}
 use Rattle.wired.proofs.WiredLaws.{written-cases}
 use Rattle.rules.specs.Rules.{delegatedRule}
 use Rattle.rules_laws.specs.Steady.{sends, Quiet, WiredSteady, WiredQuiet}

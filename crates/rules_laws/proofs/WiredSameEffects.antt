@@ -12,9 +12,10 @@ use Rattle.mode.proofs.ModeLaws.{word-delegated}
 use Rattle.domain.specs.Domain.{byMessages}
 use Rattle.domain.specs.Slot.{sourceAt}
 use Rattle.domain_laws.proofs.SetsBack.{put-back}
-use Rattle.wired.specs.Wired.{Wired, wireSet, isDelegated, sourceWritten}
+use Rattle.wires.specs.Wires.{Wired, wireSet, isDelegated}
+use Rattle.wired_sourcecfg.specs.Delegation.{sourceWritten}
 use Rattle.wires.proofs.WiresLaws.{wired-path}
-use Rattle.wires.proofs.DelegationLaws.{root-stays, written-root}
+use Rattle.wired_sourcecfg.proofs.DelegationLaws.{root-stays, written-root}
 use Rattle.source_laws.proofs.ModeEffects.{range-greatest}
 use Rattle.source_laws.proofs.SteadyParts.{steady-mode}
 use Rattle.rules_laws.specs.Steady.{WiredSteady}

@@ -17,7 +17,7 @@ use Rattle.domain.specs.Domain.{Domain, isEnabled, byMessages}
 use Rattle.domain.specs.Slot.{sourceAt}
 use Rattle.domain_laws.specs.Shape.{DomainShaped}
 use Rattle.sending.specs.Sending.{sent}
-use Rattle.wired.specs.Wired.{Wired}
+use Rattle.wires.specs.Wires.{Wired}
 use Rattle.source_rules.specs.SourceRules.{sourceSteady, sentRule}
 use Rattle.rules.specs.Rules.{configRange, generatedRange, structureRange, sourceZeroRule, generatedRule}
 use Rattle.rules.specs.Rules.{delegatedRule}

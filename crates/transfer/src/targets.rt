@@ -4,7 +4,7 @@ ghost use mathlib.Core.Bool.{true};
 ghost use Prim.Native.Nat.{_≤_, _<_};
 ghost use lib.ListN.{length};
 ghost use Rattle.domain.specs.Domain.{configOf, byMessages};
-ghost use Rattle.wired.specs.Wired.{wiredOf, domainIn};
+ghost use Rattle.wires.specs.Wires.{wiredOf, domainIn};
 ghost use Rattle.block.specs.Block.{boardOf, boardSound};
 ghost use Rattle.call.specs.Refusal.{isGuestFile};
 ghost use Rattle.call.specs.Move.{retargetedIn};

@@ -29,7 +29,8 @@ use Rattle.domain.specs.Slot.{sourceAt, withSource}
 use Rattle.values.specs.Values.{registerValue}
 use Rattle.writes.specs.Writes.{targetWritten}
 use Rattle.registers.specs.Write.{registerWritten}
-use Rattle.wired.specs.Wired.{sourceWired, wireSet, domainIn, withDomain, writtenAs, writtenIn}
+use Rattle.wires.specs.Wires.{sourceWired, wireSet, domainIn, withDomain}
+use Rattle.wired.specs.Wired.{writtenAs, writtenIn}
 use Rattle.sending.specs.Sending.{candidate, servedAt, messagesAt, sentFrom, sent}
 use Rattle.controller.specs.Controller.{flushed}
 use Rattle.transfer_steps.specs.Names.{namesFile, renamed}

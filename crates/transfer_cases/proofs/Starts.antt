@@ -33,7 +33,7 @@ use Rattle.domain.specs.Domain.{domainOf, configOf, isEnabled, byMessages, gene
 use Rattle.domain.specs.Slot.{sourceAt}
 use Rattle.domain.specs.Structure.{structureAt}
 use Rattle.config.specs.Config.{keptConfig}
-use Rattle.wired.specs.Wired.{wiredOf, isDelegated}
+use Rattle.wires.specs.Wires.{wiredOf, isDelegated}
 use Rattle.source_rules.specs.SourceRules.{modeRange, targetRange, inactiveRule, levelRule, sourceSteady}
 use Rattle.source_rules.specs.SourceRules.{sentRule, sourceSound}
 use Rattle.rules.specs.Rules.{configRange, generatedRange, structureRange, sourceZeroRule, generatedRule}

@@ -12,7 +12,7 @@ use lib.ListN.{replicate}
 use Rattle.file.specs.declared.File.{File}
 use Rattle.files.specs.Files.{withFile}
 use Rattle.domain.specs.Domain.{Domain}
-use Rattle.wired.specs.Wired.{Wired}
+use Rattle.wires.specs.Wires.{Wired}
 use Rattle.transfer_steps.specs.Names.{renamed}
 use Rattle.transfer_steps.specs.Steps.{saved}
 use Rattle.block.specs.Block.{Board, blockOf}

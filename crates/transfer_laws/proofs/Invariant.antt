@@ -23,7 +23,7 @@ use Rattle.files.specs.Files.{fileNumber, theFile, reached, allReached}
 use Rattle.target.specs.Target.{hartOf, guestOf, numberOf, messageOf}
 use Rattle.target.proofs.TargetLaws.{hartOf-lt, guestOf-lt}
 use Rattle.domain.specs.Domain.{configOf, byMessages}
-use Rattle.wired.specs.Wired.{Wired, domainIn}
+use Rattle.wires.specs.Wires.{Wired, domainIn}
 use Rattle.controller.specs.Controller.{wireCall}
 use Rattle.transfer_steps.specs.Names.{renamed}
 use Rattle.transfer_steps.specs.Steps.{accesses, actOf}

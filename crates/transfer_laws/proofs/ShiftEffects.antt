@@ -11,7 +11,7 @@ use native.Mathlib.Omega.{arith}
 use lib.Dec.{eqb}
 use Rattle.words.proofs.TestsLaws.{tested, and-both, not-same}
 use Rattle.domain.specs.Domain.{Domain}
-use Rattle.wired.specs.Wired.{Wired, domainIn}
+use Rattle.wires.specs.Wires.{Wired, domainIn}
 use Rattle.transfer_steps.specs.Steps.{accesses}
 use Rattle.transfer_files.proofs.RelatedEffects.{related-start, related-end}
 use Rattle.transfer_wired.proofs.WireRelated.{only-messages}

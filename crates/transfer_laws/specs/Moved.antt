@@ -17,7 +17,7 @@ use mathlib.Core.List.{List, [], _∷_}
 use mathlib.Core.Logic.{_≢_}
 use Rattle.file.specs.declared.File.{File}
 use Rattle.files.specs.Files.{fileNumber, theFile}
-use Rattle.wired.specs.Wired.{domainIn}
+use Rattle.wires.specs.Wires.{domainIn}
 use Rattle.block.specs.Block.{Board}
 use Rattle.call.specs.declared.Call.the-variants.{Wire, PageWrite}
 use Rattle.runs.specs.Runs.{Lent, outcomeOn, after, ran}

@@ -26,7 +26,8 @@ use Rattle.domain_laws.proofs.SetsBack.{put-back}
 use Rattle.writes.specs.Writes.{targetWritten}
 use Rattle.values.specs.Values.{registerValue}
 use Rattle.registers.specs.Write.{registerWritten}
-use Rattle.wired.specs.Wired.{Wired, domainIn, withDomain, writtenAs, writtenIn}
+use Rattle.wires.specs.Wires.{Wired, domainIn, withDomain}
+use Rattle.wired.specs.Wired.{writtenAs, writtenIn}
 use Rattle.rules.specs.Rules.{wiredSound}
 use Rattle.rules_laws.specs.Steady.{WiredSteady, WiredQuiet}
 use Rattle.rules_laws.proofs.DelegationEffects.{steady-writtenIn}

@@ -17,7 +17,7 @@ use Rattle.domain.specs.Slot.{sourceAt, withSource}
 use Rattle.domain.proofs.DomainLaws.{domain-path}
 use Rattle.domain_laws.proofs.SetsBack.{put-back}
 use Rattle.domain_laws.proofs.SlotEffects.{withSource-unpended}
-use Rattle.wired.specs.Wired.{Wired, domainIn, sourceWired, wireSet}
+use Rattle.wires.specs.Wires.{Wired, domainIn, sourceWired, wireSet}
 use Rattle.sending.specs.Sending.{candidate, Sent, servedAt, sentFrom, sent}
 use Rattle.sending.proofs.SendingLaws.{served-hit, served-miss, sent-on, sent-off}
 use Rattle.sending_laws.specs.Candidates.{messageAt, DomainPendingOnly}

@@ -12,7 +12,7 @@ use mathlib.Core.Path.{_≡_}
 use mathlib.Core.Bool.{true, false}
 use mathlib.Core.Logic.{_⊎_}
 use Rattle.domain.specs.Slot.{sourceAt}
-use Rattle.wired.specs.Wired.{Wired}
+use Rattle.wires.specs.Wires.{Wired}
 use Rattle.transfer_steps.specs.Names.{namesFile, renamed}
 
 pub record TargetsOnly (w u : Wired) : Type 0 where

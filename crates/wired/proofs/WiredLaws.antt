@@ -12,27 +12,10 @@ use Rattle.region.specs.declared.role.Role.the-variants.{Claims, Configures, Ge
 use Rattle.region.specs.Role.{roleOf}
 use Rattle.region.proofs.RoleLaws.{configures-range}
 use Rattle.domain.specs.Domain.{Domain}
-use Rattle.wired.specs.Wired.{Wired, domainIn, withDomain, sourceWritten, partWritten, writtenAs}
+use Rattle.wires.specs.Wires.{Wired, domainIn, withDomain}
+use Rattle.wired_sourcecfg.specs.Delegation.{sourceWritten}
+use Rattle.wired.specs.Wired.{partWritten, writtenAs}
 use Rattle.wired.specs.Wired.{writtenIn}
-
-module _ (w : Wired) (c : Bool) where
-  pub domain-child : c ≡ true → domainIn w c ≡ w .child
-  unfolding domainIn
-  domain-child e = simp e
-
-  pub domain-root : c ≡ false → domainIn w c ≡ w .root
-  unfolding domainIn
-  domain-root e = simp e
-
-  pub with-child : (d : Domain) → c ≡ true
-      → withDomain w c d ≡ record { wires = w .wires; root = w .root; child = d }
-  unfolding withDomain
-  with-child d e = simp e
-
-  pub with-root : (d : Domain) → c ≡ false
-      → withDomain w c d ≡ record { wires = w .wires; root = d; child = w .child }
-  unfolding withDomain
-  with-root d e = simp e
 
 -- ---- a write to any register
 

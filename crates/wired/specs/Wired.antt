@@ -1,10 +1,5 @@
 -- The wired controller: the registers of its two domains. 01, "The board", "The wired controller"; the
 -- standard 4.5. Assumes nothing.
---   Wired, wiredOf, sourceWired, wireSet     the wires and the two domains, in 290 words: Rattle.wires
---   isDelegated, sourceModed, childWritten, rootWritten, sourceWritten
---                            a sourcecfg that is written: Rattle.wires
---   domainIn w c             the child (c), or the machine domain
---   withDomain w c d         w with that domain as d
 --   readIn w c r             what register r of a domain reads
 --   claimedIn w c r          w after that read
 --   partWritten w c r v      w after v was written to it, where it is no sourcecfg
@@ -20,20 +15,8 @@ use Rattle.region.specs.Role.{roleOf}
 use Rattle.domain.specs.Domain.{Domain}
 use Rattle.registers.specs.Read.{registerValue, claimedBy}
 use Rattle.registers.specs.Write.{registerWritten}
-pub use Rattle.wires.specs.Wires.{Wired}
-unfoldable pub use Rattle.wires.specs.Wires.{wiredOf, sourceWired, wireSet}
-unfoldable pub use Rattle.wires.specs.Delegation.{isDelegated, sourceModed, childWritten, rootWritten}
-unfoldable pub use Rattle.wires.specs.Delegation.{sourceWritten}
-
--- ---- one of the two domains
-
-unfoldable pub domainIn : Wired → Bool → Domain
-domainIn w c = cond c (w .child) (w .root)
-
-unfoldable pub withDomain : Wired → Bool → Domain → Wired
-withDomain w c d =
-    cond c (record { wires = w .wires; root = w .root; child = d })
-    (record { wires = w .wires; root = d; child = w .child })
+use Rattle.wires.specs.Wires.{Wired, domainIn, withDomain}
+use Rattle.wired_sourcecfg.specs.Delegation.{sourceWritten}
 
 -- ---- one register of a domain
 

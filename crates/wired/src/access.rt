@@ -5,7 +5,8 @@ ghost use lib.ListN.{length};
 ghost use Rattle.region.specs.Region.{Within};
 ghost use Rattle.domain.specs.Domain.{configOf};
 ghost use Rattle.direct.specs.Direct.{signalOf};
-ghost use Rattle.wired.specs.Wired.{wiredOf, domainIn, readIn, claimedIn, partWritten};
+ghost use Rattle.wires.specs.Wires.{wiredOf, domainIn};
+ghost use Rattle.wired.specs.Wired.{readIn, claimedIn, partWritten};
 use region::Word;
 use wires::wires;
 

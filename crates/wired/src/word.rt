@@ -2,12 +2,13 @@
 ghost use mathlib.Core.Path.{_≡_};
 ghost use lib.ListN.{length};
 ghost use Rattle.region.specs.Region.{Within};
-ghost use Rattle.wired.specs.Wired.{wiredOf, writtenIn};
+ghost use Rattle.wires.specs.Wires.{wiredOf};
+ghost use Rattle.wired.specs.Wired.{writtenIn};
 use super::access::write_part;
 use region::Role;
 use region::Word;
 use region::role_of;
-use wires::write_source;
+use wired_sourcecfg::write_source;
 
 pub fn write(w: &mut [u32], child: bool, word: Word, value: u32)
     requires { ⌜ (length (now w) ≡ 290) × Within word ⌝ }

@@ -10,7 +10,7 @@ use Rattle.files.specs.Files.{filesOf, allReached, Named}
 use Rattle.files.proofs.FilesLaws.{named-of}
 use Rattle.region.specs.Region.{Within}
 use Rattle.region.specs.declared.Word.{Word}
-use Rattle.wired.specs.Wired.{Wired, wiredOf}
+use Rattle.wires.specs.Wires.{Wired, wiredOf}
 use Rattle.rules.specs.Rules.{wiredSound}
 use Rattle.sending.specs.Sending.{logged}
 use Rattle.sending_laws.proofs.MessageEffects.{logged-back, logged-every, Every}

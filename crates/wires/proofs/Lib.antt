@@ -1,3 +1,2 @@
--- The laws of the wires and of delegation. Assumes nothing.
+-- The laws of the wires and of both domains. Assumes nothing.
 pub mod WiresLaws
-pub mod DelegationLaws

@@ -3,16 +3,18 @@
 -- Assumes nothing.
 use Prim.Native.Nat.{ℕ, _/_, _%_, _<_}
 use mathlib.Core.Path.{_≡_, refl, sym, ap, _∙_}
-use mathlib.Core.Bool.{Bool}
+use mathlib.Core.Bool.{Bool, true, false}
 use mathlib.Core.List.{List, [], _∷_, _++_, append-assoc}
 use native.Mathlib.Omega.{arith}
+use lib.Dec.{leb}
 use lib.ListN.{length, getD, take, drop, set, length-take, length-drop, length-append}
 use lib.Seq.{take-at, drop-at, drop-drop, take-add, drop-cons, take-set-lt, drop-set-lt, getD-take}
 use Rattle.words.specs.Bits.{putBit}
 use Rattle.words.specs.Sets.{put}
 use Rattle.words.proofs.SetsLaws.{put-word}
-use Rattle.domain.specs.Domain.{domainOf}
-use Rattle.wires.specs.Wires.{Wired, wiredOf, withWires}
+use Rattle.domain.specs.Domain.{Domain, domainOf}
+use Rattle.domain.specs.Slot.{sourceAt}
+use Rattle.wires.specs.Wires.{Wired, wiredOf, domainIn, withDomain, isDelegated, withWires}
 
 -- two controllers are equal if their parts are
 pub wired-path : {w v : Wired} → w .wires ≡ v .wires → w .root ≡ v .root → w .child ≡ v .child → w ≡ v
@@ -106,3 +108,30 @@ wire-put l i v b h e =
     ∙ put-word (take 2 l) i b)
     (ap (λ (x : List ℕ). domainOf (take 144 x)) (drop-set-lt 2 l (i / 32) v (omega arith)))
     (ap (λ (x : List ℕ). domainOf (take 144 x)) (drop-set-lt 146 l (i / 32) v (omega arith)))
+
+-- ---- one of the two domains
+
+module _ (w : Wired) (c : Bool) where
+  pub domain-child : c ≡ true → domainIn w c ≡ w .child
+  unfolding domainIn
+  domain-child e = simp e
+
+  pub domain-root : c ≡ false → domainIn w c ≡ w .root
+  unfolding domainIn
+  domain-root e = simp e
+
+  pub with-child : (d : Domain) → c ≡ true
+      → withDomain w c d ≡ record { wires = w .wires; root = w .root; child = d }
+  unfolding withDomain
+  with-child d e = simp e
+
+  pub with-root : (d : Domain) → c ≡ false
+      → withDomain w c d ≡ record { wires = w .wires; root = d; child = w .child }
+  unfolding withDomain
+  with-root d e = simp e
+
+-- ---- one source
+
+pub delegated-mode : (w : Wired) (i : ℕ) → isDelegated w i ≡ leb 1024 (sourceAt (w .root) i .mode)
+unfolding isDelegated
+delegated-mode w i = refl

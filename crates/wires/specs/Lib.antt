@@ -1,3 +1,2 @@
--- The wires and both domains: a wire set, a sourcecfg written. Assumes nothing.
+-- The wires and both domains. Assumes nothing.
 pub mod Wires
-pub mod Delegation

@@ -2,13 +2,17 @@
 -- controller"; the standard 4.7. Assumes nothing.
 --   Wired                    wires: the levels of wires 1 to 63, a set; root: the machine domain; child
 --   wiredOf l                the controller whose words are l: 2 of wires, 144 of the root, 144 of the child
+--   domainIn w c             the child (c), or the machine domain
+--   withDomain w c d         w with that domain as d
+--   isDelegated w i          source i is delegated: the machine domain's sourcecfg says so
 --   withWires w ws           w with the wires ws
 --   sourceWired d i was is   d after the wire of source i went from was to is
 --   wireSet w i level        w after wire i was set: both domains see the change
 -- Nothing is sent here: that comes after.
 use Prim.Native.Nat.{ℕ}
-use mathlib.Core.Bool.{Bool}
+use mathlib.Core.Bool.{Bool, cond}
 use mathlib.Core.List.{List}
+use lib.Dec.{leb}
 use lib.ListN.{take, drop}
 use Rattle.words.specs.Sets.{member, put}
 use Rattle.source.specs.Pending.{wireChanged}
@@ -28,6 +32,21 @@ wiredOf l =
       child =
           domainOf (take 144 (drop 146 l));
     }
+
+-- ---- one of the two domains
+
+unfoldable pub domainIn : Wired → Bool → Domain
+domainIn w c = cond c (w .child) (w .root)
+
+unfoldable pub withDomain : Wired → Bool → Domain → Wired
+withDomain w c d =
+    cond c (record { wires = w .wires; root = w .root; child = d })
+    (record { wires = w .wires; root = d; child = w .child })
+
+-- ---- one source
+
+unfoldable pub isDelegated : Wired → ℕ → Bool
+isDelegated w i = leb 1024 (sourceAt (w .root) i .mode)
 
 -- ---- one wire
 

@@ -1,8 +1,7 @@
-// The wires and two domains in 290 words: a wire that is set, and a sourcecfg that is written, with
-// delegation and taking back. Nothing is sent here.
-mod delegation;
+// The wires and two domains in 290 words, and a wire that is set. Nothing is sent here.
+mod state;
 mod wire;
 
-pub use delegation::write_source;
+pub use state::delegated;
+pub use state::wires;
 pub use wire::set_wire;
-pub use wire::wires;

@@ -1,17 +1,11 @@
-// The wires, and a wire that is set: both domains see the change.
+// A wire that is set: both domains see the change.
 ghost use mathlib.Core.Path.{_≡_};
 ghost use Prim.Native.Nat.{_≤_, _<_};
 ghost use lib.ListN.{length};
 ghost use Rattle.words.specs.Sets.{put};
 ghost use Rattle.domain.specs.Domain.{domainOf};
 ghost use Rattle.wires.specs.Wires.{wiredOf, withWires, sourceWired, wireSet};
-
-pub fn wires(w: &[u32]) -> [u32; 2]
-    requires { ⌜ length (now w) ≡ 290 ⌝ }
-    ensures { λ r. ⌜ r ≡ wiredOf (now (w .entry)) .wires ⌝ }
-{
-    [w[0], w[1]]
-}
+use super::state::wires;
 
 fn wire_source(part: &mut [u32], i: usize, was: bool, is: bool)
     requires { ⌜ (length (now part) ≡ 144) × (i < 64) ⌝ }
@@ -34,7 +28,7 @@ pub fn set_wire(w: &mut [u32], i: usize, level: bool)
     requires { ⌜ (length (now w) ≡ 290) × (1 ≤ i) × (i < 64) ⌝ }
     ensures { λ r. ⌜ wiredOf (now (w .exit)) ≡ wireSet (wiredOf (now (w .entry))) i level ⌝ }
 {
-    let was = writes::wire_at(wires(w), i);
+    let was = source_wire::wire_at(wires(w), i);
     put_wire(w, i, level);
     wire_source(&mut w[2..146], i, was, level);
     wire_source(&mut w[146..290], i, was, level);

@@ -2,18 +2,11 @@
 ghost use mathlib.Core.Path.{_≡_};
 ghost use Prim.Native.Nat.{_-_, _≤_, _<_};
 ghost use lib.ListN.{length};
-ghost use Rattle.words.specs.Sets.{member};
 ghost use Rattle.domain.specs.Domain.{domainOf};
 ghost use Rattle.writes.specs.Writes.{changedAt, changedBit, changedFrom, wordChanged};
 ghost use Rattle.writes.specs.Writes.{numberChanged, targetWritten};
 use source::Change;
-
-pub fn wire_at(wires: [u32; 2], i: usize) -> bool
-    requires { ⌜ i < 64 ⌝ }
-    ensures { λ r. ⌜ r ≡ member wires i ⌝ }
-{
-    words::has_bit(wires[i / 32], (i % 32) as u32)
-}
+use source_wire::wire_at;
 
 fn change_source(part: &mut [u32], wires: [u32; 2], change: Change, i: usize)
     requires { ⌜ (length (now part) ≡ 144) × (i < 64) ⌝ }

@@ -3,5 +3,4 @@ mod change;
 
 pub use change::change_number;
 pub use change::change_word;
-pub use change::wire_at;
 pub use change::write_target;

@@ -1,7 +1,7 @@
 -- `block::start` meets its contract: the files, then the wired controller. Assumes nothing.
 use mathlib.Core.Path.{ap, _∙_}
 use lib.ListN.{length}
-use Rattle.wired.specs.Wired.{wiredOf}
+use Rattle.wires.specs.Wires.{wiredOf}
 use Rattle.block.specs.Start.{startBoard}
 use Rattle.block.proofs.BlockLaws.{board-path, files-long, put-files-wired}
 use Rattle.block.proofs.StartLaws.{start-wired}

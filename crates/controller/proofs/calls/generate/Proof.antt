@@ -6,9 +6,9 @@ use mathlib.Core.List.{[], _∷_}
 use denote.Enum.Declared.{tagOf}
 use Rattle.region.proofs.role.Role.{the-type}
 use Rattle.region.proofs.RoleLaws.{arm-else}
-use Rattle.wired.specs.Wired.{wiredOf}
+use Rattle.wires.specs.Wires.{wiredOf}
 use Rattle.wires.proofs.WiresLaws.{root-part, child-part}
-use Rattle.wired.proofs.WiredLaws.{domain-root, domain-child}
+use Rattle.wires.proofs.WiresLaws.{domain-root, domain-child}
 use Rattle.controller.proofs.ControllerLaws.{answered-else, answered-genmsi}
 use borrow.Author.Needs.{needs}
 use Rattle.controller.proofs.calls.generate.Statement.{statement}

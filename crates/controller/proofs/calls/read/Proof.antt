@@ -1,6 +1,6 @@
 -- `controller::calls::read` meets its contract: nothing is to be sent after it. Assumes nothing.
 use mathlib.Core.Path.{sym, ap, _∙_}
-use Rattle.wired.specs.Wired.{wiredOf}
+use Rattle.wires.specs.Wires.{wiredOf}
 use Rattle.rules_laws.proofs.ConfigEffects.{config-low}
 use Rattle.rules_laws.proofs.WiredEffects.{steady-domainIn}
 use Rattle.controller.specs.Controller.{Out}

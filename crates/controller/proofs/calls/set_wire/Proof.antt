@@ -1,6 +1,6 @@
 -- `controller::calls::set_wire` meets its contract: a wire, and the pass after it. Assumes nothing.
 use mathlib.Core.Path.{sym, ap, subst, _∙_}
-use Rattle.wired.specs.Wired.{wiredOf}
+use Rattle.wires.specs.Wires.{wiredOf}
 use Rattle.controller.specs.Controller.{flushed, wireCall, OneSends}
 use Rattle.controller.proofs.ControllerLaws.{leaves-of}
 use Rattle.controller.proofs.CallLaws.{words-steady, words-quiet, one-wireSet}

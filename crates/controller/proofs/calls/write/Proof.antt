@@ -1,7 +1,7 @@
 -- `controller::calls::write` meets its contract: what genmsi sends at once is all, and else the pass sends.
 -- Assumes nothing.
 use mathlib.Core.Path.{sym, ap, subst, _∙_}
-use Rattle.wired.specs.Wired.{wiredOf}
+use Rattle.wires.specs.Wires.{wiredOf}
 use Rattle.controller.specs.Controller.{flushed, OneSends}
 use Rattle.controller.proofs.ControllerLaws.{leaves-of, write-alone, write-passed, own-genmsi}
 use Rattle.controller.proofs.CallLaws.{words-steady, words-quiet, one-writtenIn, genmsi-silent}

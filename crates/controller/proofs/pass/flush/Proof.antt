@@ -3,7 +3,7 @@ use mathlib.Core.Path.{_∙_}
 use mathlib.Core.Bool.{true, false}
 use mathlib.Core.List.{_++_}
 use lib.ListN.{take, drop}
-use Rattle.wired.specs.Wired.{wiredOf}
+use Rattle.wires.specs.Wires.{wiredOf}
 use Rattle.wires.proofs.WiresLaws.{root-part, root-long, child-long, put-root, put-long, both-put}
 use Rattle.wires.proofs.WiresLaws.{second-part}
 use Rattle.controller.proofs.ControllerLaws.{answers-of, answered-first, answered-second}

@@ -4,7 +4,7 @@ use Prim.Native.Nat.{_+_, _-_, _≤_}
 use mathlib.Core.Path.{_≡_, refl, sym, ap, _∙_}
 use mathlib.Core.Bool.{Bool, _&&_}
 use native.Mathlib.Omega.{arith}
-use Rattle.wired.specs.Wired.{wiredOf}
+use Rattle.wires.specs.Wires.{wiredOf}
 use Rattle.rules.specs.Rules.{delegatedRule}
 use Rattle.words.specs.Every.{every}
 use Rattle.words.proofs.EveryLaws.{every-step, every-done}

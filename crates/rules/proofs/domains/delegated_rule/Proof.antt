@@ -2,7 +2,7 @@
 use mathlib.Core.Path.{ap, _∙_}
 use Rattle.domain.specs.Domain.{Domain}
 use Rattle.domain.specs.Slot.{sourceAt}
-use Rattle.wired.specs.Wired.{wiredOf}
+use Rattle.wires.specs.Wires.{wiredOf}
 use Rattle.wires.proofs.WiresLaws.{root-part, child-part}
 use Rattle.rules.proofs.RulesLaws.{delegated-rule-read}
 use borrow.Author.Needs.{needs}

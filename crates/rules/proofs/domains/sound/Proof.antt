@@ -7,7 +7,7 @@ use mathlib.Core.List.{List}
 use Rattle.words.specs.Sets.{member}
 use Rattle.words.proofs.SetsLaws.{member-word}
 use Rattle.domain.specs.Domain.{Domain}
-use Rattle.wired.specs.Wired.{wiredOf}
+use Rattle.wires.specs.Wires.{wiredOf}
 use Rattle.wires.proofs.WiresLaws.{root-part, child-part}
 use Rattle.rules.specs.Rules.{domainSound}
 use Rattle.rules.proofs.RulesLaws.{wired-sound-read}

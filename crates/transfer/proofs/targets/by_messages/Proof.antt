@@ -2,7 +2,7 @@
 use mathlib.Core.Path.{ap, _∙_}
 use lib.ListN.{take, drop}
 use Rattle.domain.specs.Domain.{byMessages}
-use Rattle.wired.specs.Wired.{Wired}
+use Rattle.wires.specs.Wires.{Wired}
 use Rattle.wires.proofs.WiresLaws.{child-part}
 use Rattle.block.proofs.BlockLaws.{wired-long, wired-part}
 use borrow.Author.Needs.{needs}

@@ -3,7 +3,7 @@ use Prim.Native.Nat.{_<_}
 use mathlib.Core.Path.{refl, sym, ap, subst, _∙_}
 use mathlib.Core.Bool.{true}
 use Rattle.domain.specs.Domain.{configOf}
-use Rattle.wired.specs.Wired.{Wired, domainIn}
+use Rattle.wires.specs.Wires.{Wired, domainIn}
 use Rattle.block.proofs.BlockLaws.{board-path, wired-long, wired-part, put-wired}
 use Rattle.call.specs.Move.{retargetedIn}
 use Rattle.call_laws.proofs.MoveCallEffects.{child-config}

@@ -1,7 +1,7 @@
 -- `transfer::targets::rewrite` meets its contract: read, and written if it names old. Assumes nothing.
 use mathlib.Core.Path.{sym, _∙_}
 use native.Mathlib.Omega.{arith}
-use Rattle.wired.specs.Wired.{wiredOf}
+use Rattle.wires.specs.Wires.{wiredOf}
 use Rattle.call_laws.proofs.MoveEffects.{guest-hart, guest-low, guest-high}
 use Rattle.call_laws.proofs.MoveCallEffects.{retarget-made, retarget-none}
 use borrow.Author.Needs.{needs}

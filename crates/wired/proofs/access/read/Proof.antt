@@ -4,9 +4,9 @@ use mathlib.Core.List.{List}
 use Rattle.domain.specs.Domain.{Domain}
 use Rattle.registers.specs.Read.{registerValue, claimedBy}
 use mathlib.Core.Path.{ap, ap₂, sym, _∙_}
-use Rattle.wired.specs.Wired.{wiredOf}
+use Rattle.wires.specs.Wires.{wiredOf}
 use Rattle.wires.proofs.WiresLaws.{child-long, root-long, child-part, root-part, put-child, put-root}
-use Rattle.wired.proofs.WiredLaws.{domain-child, domain-root, with-child, with-root}
+use Rattle.wires.proofs.WiresLaws.{domain-child, domain-root, with-child, with-root}
 use borrow.Author.Needs.{needs}
 use Rattle.wired.proofs.access.read.Statement.{statement}
 use Rattle.wired.proofs.access.read.Tie as tie

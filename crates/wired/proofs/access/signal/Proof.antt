@@ -2,9 +2,9 @@
 use mathlib.Core.Path.{ap, sym, _∙_}
 use Rattle.domain.specs.Domain.{Domain}
 use Rattle.direct.specs.Direct.{signalOf}
-use Rattle.wired.specs.Wired.{wiredOf}
+use Rattle.wires.specs.Wires.{wiredOf}
 use Rattle.wires.proofs.WiresLaws.{child-part, root-part}
-use Rattle.wired.proofs.WiredLaws.{domain-child, domain-root}
+use Rattle.wires.proofs.WiresLaws.{domain-child, domain-root}
 use borrow.Author.Needs.{needs}
 use Rattle.wired.proofs.access.signal.Statement.{statement}
 use Rattle.wired.proofs.access.signal.Tie as tie

@@ -5,9 +5,9 @@ use mathlib.Core.Bool.{Bool, true, false}
 use mathlib.Core.List.{List}
 use Rattle.domain.specs.Domain.{Domain}
 use Rattle.registers.specs.Write.{registerWritten}
-use Rattle.wired.specs.Wired.{wiredOf, domainIn}
+use Rattle.wires.specs.Wires.{wiredOf, domainIn}
 use Rattle.wires.proofs.WiresLaws.{child-long, root-long, child-part, root-part, put-child, put-root}
-use Rattle.wired.proofs.WiredLaws.{domain-child, domain-root, with-child, with-root}
+use Rattle.wires.proofs.WiresLaws.{domain-child, domain-root, with-child, with-root}
 use borrow.Author.Needs.{needs}
 use Rattle.wired.proofs.access.write_part.Statement.{statement}
 use Rattle.wired.proofs.access.write_part.Tie as tie

@@ -1,7 +1,7 @@
 -- `wired_calls::done::wire_done` meets its contract: a wire, then the messages. Assumes nothing.
 use mathlib.Core.Path.{ap, _∙_}
 use lib.ListN.{take, drop}
-use Rattle.wired.specs.Wired.{Wired, wiredOf}
+use Rattle.wires.specs.Wires.{Wired, wiredOf}
 use Rattle.controller.specs.Controller.{wireCall}
 use Rattle.controller_laws.proofs.OutEffects.{wire-exists}
 use Rattle.block.proofs.BlockLaws.{files-long, wired-long, wired-part, wiredPut, put-wired-long}

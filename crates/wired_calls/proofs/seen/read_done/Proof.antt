@@ -1,6 +1,7 @@
 -- `wired_calls::seen::read_done` meets its contract: the files stay. Assumes nothing.
 use mathlib.Core.Path.{refl, ap, _∙_}
-use Rattle.wired.specs.Wired.{Wired, readIn}
+use Rattle.wires.specs.Wires.{Wired}
+use Rattle.wired.specs.Wired.{readIn}
 use Rattle.controller.specs.Controller.{readCall}
 use Rattle.block.proofs.BlockLaws.{board-path, wired-long, wired-part, put-wired}
 use Rattle.wired_calls.proofs.DoneLaws.{part-sound}

@@ -1,4 +1,5 @@
-// A sourcecfg that is written: the machine domain's word says who has the source.
+// A sourcecfg that is written, with delegation and taking back. Nothing is sent here. The machine domain's
+// word says who has the source.
 ghost use mathlib.Core.Path.{_≡_};
 ghost use Prim.Native.Nat.{_≤_, _<_};
 ghost use mathlib.Core.Bool.{true, false};
@@ -6,11 +7,13 @@ ghost use lib.ListN.{length};
 ghost use Rattle.source.specs.Pending.{inactive};
 ghost use Rattle.domain.specs.Domain.{domainOf};
 ghost use Rattle.domain.specs.Slot.{withSource};
 ghost use Rattle.wires.specs.Wires.{wiredOf};
-ghost use Rattle.wires.specs.Delegation.{sourceModed, isDelegated, childWritten, rootWritten};
-ghost use Rattle.wires.specs.Delegation.{sourceWritten};
-use super::wire::wires;
+ghost use Rattle.wires.specs.Wires.{isDelegated};
+ghost use Rattle.wired_sourcecfg.specs.Delegation.{sourceModed, childWritten, rootWritten};
+ghost use Rattle.wired_sourcecfg.specs.Delegation.{sourceWritten};
 use source::Source;
+use wires::delegated;
+use wires::wires;
 
 fn mode_source(part: &mut [u32], i: usize, mode: u32, wire: bool)
     requires { ⌜ (length (now part) ≡ 144) × (i < 64) ⌝ }
@@ -35,19 +38,11 @@ fn clear_source(part: &mut [u32], i: usize)
     domain::store(part, i, none);
 }
 
-fn delegated(w: &[u32], i: usize) -> bool
-    requires { ⌜ (length (now w) ≡ 290) × (i < 64) ⌝ }
-    ensures { λ r. ⌜ r ≡ isDelegated (wiredOf (now (w .entry))) i ⌝ }
-{
-    let s = domain::load(&w[2..146], i);
-    1024 <= s.mode
-}
-
 fn write_child(w: &mut [u32], i: usize, value: u32)
     requires { ⌜ (length (now w) ≡ 290) × (i < 64) ⌝ }
     ensures { λ r. ⌜ wiredOf (now (w .exit)) ≡ childWritten (wiredOf (now (w .entry))) i value ⌝ }
 {
-    let wire = writes::wire_at(wires(w), i);
+    let wire = source_wire::wire_at(wires(w), i);
     let has = delegated(w, i);
     mode_source(
         &mut w[146..290],
@@ -61,7 +56,7 @@ fn write_root(w: &mut [u32], i: usize, value: u32)
     requires { ⌜ (length (now w) ≡ 290) × (i < 64) ⌝ }
     ensures { λ r. ⌜ wiredOf (now (w .exit)) ≡ rootWritten (wiredOf (now (w .entry))) i value ⌝ }
 {
-    let wire = writes::wire_at(wires(w), i);
+    let wire = source_wire::wire_at(wires(w), i);
     let had = delegated(w, i);
     let mode = mode::source_word(false, false, value);
     mode_source(&mut w[2..146], i, mode, wire);

@@ -8,12 +8,9 @@ use Rattle.words.specs.Sets.{member}
 use Rattle.mode.specs.Mode.{sourceWord}
 use Rattle.source.specs.Pending.{inactive}
 use Rattle.domain.specs.Slot.{sourceAt, withSource}
 use Rattle.wires.specs.Wires.{Wired}
-use Rattle.wires.specs.Delegation.{sourceModed, isDelegated, childWritten, rootWritten, sourceWritten}
-
-pub delegated-mode : (w : Wired) (i : ℕ) → isDelegated w i ≡ leb 1024 (sourceAt (w .root) i .mode)
-unfolding isDelegated
-delegated-mode w i = refl
+use Rattle.wires.specs.Wires.{isDelegated}
+use Rattle.wired_sourcecfg.specs.Delegation.{sourceModed, childWritten, rootWritten, sourceWritten}
 
 module _ (w : Wired) (i v : ℕ) where
   abbrev moves : Bool

@@ -1,4 +1,4 @@
--- `wires::delegation::write_root` meets its contract: the machine domain, and the child where the delegation
+-- `wired_sourcecfg::write_root` meets its contract: the machine domain, and the child where the delegation
 -- changes. Assumes nothing.
 use Prim.Native.Nat.{ℕ}
 use mathlib.Core.Path.{ap, ap₂, sym, _∙_}
@@ -11,14 +11,14 @@ use Rattle.mode.specs.Mode.{sourceWord}
 use Rattle.source.specs.Pending.{inactive}
 use Rattle.domain.specs.Domain.{Domain, domainOf}
 use Rattle.domain.specs.Slot.{withSource}
 use Rattle.wires.specs.Wires.{wiredOf}
-use Rattle.wires.specs.Delegation.{sourceModed}
+use Rattle.wired_sourcecfg.specs.Delegation.{sourceModed}
 use Rattle.wires.proofs.WiresLaws.{put-root, both-put, put-long, second-part, root-long, child-long}
 use Rattle.wires.proofs.WiresLaws.{root-part}
-use Rattle.wires.proofs.DelegationLaws.{root-stays, root-moves}
+use Rattle.wired_sourcecfg.proofs.DelegationLaws.{root-stays, root-moves}
 use borrow.Author.Needs.{needs}
-use Rattle.wires.proofs.delegation.write_root.Statement.{statement}
-use Rattle.wires.proofs.delegation.write_root.Tie as tie
+use Rattle.wired_sourcecfg.proofs.write_root.Statement.{statement}
+use Rattle.wired_sourcecfg.proofs.write_root.Tie as tie
 
 wires-requires : tie.Need-wires-requires
 wires-requires c κs = search needs

@@ -1,11 +1,11 @@
--- `wires::delegation::mode_source` meets its contract: the source is read, changed and stored.
+-- `wired_sourcecfg::mode_source` meets its contract: the source is read, changed and stored.
 -- Assumes nothing.
 use mathlib.Core.Path.{ap, _∙_}
 use Rattle.domain.specs.Slot.{withSource}
-use Rattle.wires.specs.Delegation.{sourceModed}
+use Rattle.wired_sourcecfg.specs.Delegation.{sourceModed}
 use borrow.Author.Needs.{needs}
-use Rattle.wires.proofs.delegation.mode_source.Statement.{statement}
-use Rattle.wires.proofs.delegation.mode_source.Tie as tie
+use Rattle.wired_sourcecfg.proofs.mode_source.Statement.{statement}
+use Rattle.wired_sourcecfg.proofs.mode_source.Tie as tie
 
 by-messages-requires : tie.Need-by-messages-requires
 by-messages-requires c κs = search needs

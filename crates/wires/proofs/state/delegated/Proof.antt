@@ -1,14 +1,14 @@
--- `wires::delegation::delegated` meets its contract: the machine domain has the word. Assumes nothing.
+-- `wires::state::delegated` meets its contract: the machine domain has the word. Assumes nothing.
 use mathlib.Core.Path.{ap, _∙_}
 use lib.Dec.{leb}
 use Rattle.source.specs.declared.Source.{Source}
 use Rattle.domain.specs.Domain.{Domain}
 use Rattle.domain.specs.Slot.{sourceAt}
-use Rattle.wires.specs.Delegation.{isDelegated}
+use Rattle.wires.specs.Wires.{isDelegated}
 use Rattle.wires.proofs.WiresLaws.{root-part}
 use borrow.Author.Needs.{needs}
-use Rattle.wires.proofs.delegation.delegated.Statement.{statement}
-use Rattle.wires.proofs.delegation.delegated.Tie as tie
+use Rattle.wires.proofs.state.delegated.Statement.{statement}
+use Rattle.wires.proofs.state.delegated.Tie as tie
 
 sub-load : tie.Need-sub-load
 sub-load c = search needs

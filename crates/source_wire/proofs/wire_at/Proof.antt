@@ -1,9 +1,9 @@
--- `writes::change::wire_at` meets its contract: the bit of a word. Assumes nothing.
+-- `source_wire::wire_at` meets its contract: the bit of a word. Assumes nothing.
 use mathlib.Core.Path.{_∙_}
 use Rattle.words.proofs.SetsLaws.{member-word}
 use borrow.Author.Needs.{needs}
-use Rattle.writes.proofs.change.wire_at.Statement.{statement}
-use Rattle.writes.proofs.change.wire_at.Tie as tie
+use Rattle.source_wire.proofs.wire_at.Statement.{statement}
+use Rattle.source_wire.proofs.wire_at.Tie as tie
 
 mul-has-bit : tie.Need-mul-has-bit
 mul-has-bit c = search needs

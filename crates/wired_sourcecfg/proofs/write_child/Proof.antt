@@ -1,4 +1,4 @@
--- `wires::delegation::write_child` meets its contract: the child alone changes. Assumes nothing.
+-- `wired_sourcecfg::write_child` meets its contract: the child alone changes. Assumes nothing.
 use Prim.Native.Nat.{ℕ}
 use mathlib.Core.Path.{ap, ap₂, _∙_}
 use mathlib.Core.Bool.{Bool, true}
@@ -7,12 +7,13 @@ use lib.ListN.{take, drop}
 use Rattle.words.specs.Sets.{member}
 use Rattle.mode.specs.Mode.{sourceWord}
 use Rattle.domain.specs.Domain.{Domain, domainOf}
 use Rattle.wires.specs.Wires.{wiredOf}
-use Rattle.wires.specs.Delegation.{sourceModed, isDelegated, childWritten}
+use Rattle.wires.specs.Wires.{isDelegated}
+use Rattle.wired_sourcecfg.specs.Delegation.{sourceModed, childWritten}
 use Rattle.wires.proofs.WiresLaws.{put-child, child-long, child-part}
 use borrow.Author.Needs.{needs}
-use Rattle.wires.proofs.delegation.write_child.Statement.{statement}
-use Rattle.wires.proofs.delegation.write_child.Tie as tie
+use Rattle.wired_sourcecfg.proofs.write_child.Statement.{statement}
+use Rattle.wired_sourcecfg.proofs.write_child.Tie as tie
 
 wires-requires : tie.Need-wires-requires
 wires-requires c κs = search needs

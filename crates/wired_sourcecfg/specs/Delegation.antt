@@ -1,6 +1,5 @@
 -- A sourcecfg that is written, with delegation and taking back. 01, "The wired controller"; the standard
 -- 4.5.2. Assumes nothing.
---   isDelegated w i          source i is delegated: the machine domain's sourcecfg says so
 --   sourceModed d i m wire   d after the sourcecfg word of source i became m
 --   childWritten, rootWritten, sourceWritten w c i v
 --                            w after v was written to sourcecfg[i] of a domain
@@ -14,10 +13,7 @@ use Rattle.mode.specs.Mode.{sourceWord}
 use Rattle.source.specs.Pending.{inactive, moded}
 use Rattle.domain.specs.Domain.{Domain, byMessages}
 use Rattle.domain.specs.Slot.{sourceAt, withSource}
-use Rattle.wires.specs.Wires.{Wired}
-
-unfoldable pub isDelegated : Wired → ℕ → Bool
-isDelegated w i = leb 1024 (sourceAt (w .root) i .mode)
+use Rattle.wires.specs.Wires.{Wired, isDelegated}
 
 -- the source with a new sourcecfg word
 unfoldable pub sourceModed : Domain → ℕ → ℕ → Bool → Domain

@@ -1,9 +1,9 @@
--- `wires::delegation::write_source` meets its contract: the child or the machine domain. Assumes nothing.
+-- `wired_sourcecfg::write_source` meets its contract: the child or the machine domain. Assumes nothing.
 use mathlib.Core.Path.{sym, _∙_}
-use Rattle.wires.proofs.DelegationLaws.{written-child, written-root}
+use Rattle.wired_sourcecfg.proofs.DelegationLaws.{written-child, written-root}
 use borrow.Author.Needs.{needs}
-use Rattle.wires.proofs.delegation.write_source.Statement.{statement}
-use Rattle.wires.proofs.delegation.write_source.Tie as tie
+use Rattle.wired_sourcecfg.proofs.write_source.Statement.{statement}
+use Rattle.wired_sourcecfg.proofs.write_source.Tie as tie
 
 write-child-requires : tie.Need-write-child-requires
 write-child-requires c κs = search needs

@@ -1,8 +1,8 @@
--- `wires::wire::wires` meets its contract: the first two words. Assumes nothing.
+-- `wires::state::wires` meets its contract: the first two words. Assumes nothing.
 use Rattle.wires.proofs.WiresLaws.{wires-read}
 use borrow.Author.Needs.{needs}
-use Rattle.wires.proofs.wire.wires.Statement.{statement}
-use Rattle.wires.proofs.wire.wires.Tie as tie
+use Rattle.wires.proofs.state.wires.Statement.{statement}
+use Rattle.wires.proofs.state.wires.Tie as tie
 
 shared-slice-read-t3 : tie.Need-shared-slice-read-t3
 shared-slice-read-t3 c = search needs

@@ -1,0 +1,2 @@
+-- The laws of a sourcecfg that is written. Assumes nothing.
+pub mod DelegationLaws

@@ -1,0 +1,2 @@
+-- A sourcecfg that is written. Assumes nothing.
+pub mod Delegation
