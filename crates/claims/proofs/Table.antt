@@ -15,7 +15,8 @@ use Rattle.file.specs.Top.{passes, qualifies, lowest, topIdentity, topOf}
 use Rattle.file.specs.Register.{held, accessedAt, accessed}
 use Rattle.stored.specs.Stored.{fileWords}
 use Rattle.mode.specs.Mode.{isActive}
-use Rattle.target.specs.Target.{hartOf, guestOf, numberOf, receiverOf, keptTarget, logWord, messageOf}
+use Rattle.file_message.specs.Message.{logWord}
+use Rattle.target.specs.Target.{hartOf, guestOf, numberOf, receiverOf, keptTarget, messageOf}
 use Rattle.delivery.specs.Delivery.{lets}
 use Rattle.source.specs.Pending.{redelivered}
 use Rattle.domain.specs.Domain.{configOf, byMessages, withConfig, withGenerated}

@@ -9,7 +9,7 @@ use mathlib.Core.Logic.{_⊎_, _≢_}
 use lib.ListN.{length, getD}
 use contract.Lifetimes.{Lfts}
 use denote.Ref.{RefT, now}
-use Rattle.target.specs.Target.{fileIn}
+use Rattle.file_message.specs.Message.{fileIn}
 use Rattle.region.specs.Region.{Within}
 use Rattle.region.specs.declared.Word.{Word}
 use Rattle.region.specs.declared.Word.the-variants.{Genmsi}

@@ -8,7 +8,8 @@ use mathlib.Core.Logic.{inl, inr}
 use native.Mathlib.Omega.{arith}
 use lib.ListN.{length}
 use Rattle.words.proofs.TestsLaws.{tested}
-use Rattle.target.specs.Target.{fileIn, generatedOf}
+use Rattle.file_message.specs.Message.{fileIn}
+use Rattle.target.specs.Target.{generatedOf}
 use Rattle.region.specs.Region.{Within}
 use Rattle.region.specs.declared.Word.{Word}
 use Rattle.region.proofs.RoleLaws.{generates-only}

@@ -11,7 +11,7 @@ use lib.Dec.{leb}
 use lib.ListN.{length, getD, take, length-set}
 use lib.Seq.{getD-set-same, getD-set-other, ext-getD, take-suc}
 use Rattle.select.specs.Size.{identities}
-use Rattle.target.specs.Target.{hartIn, fileIn, identityIn}
+use Rattle.file_message.specs.Message.{hartIn, fileIn, identityIn}
 use Rattle.file.specs.declared.File.{File}
 use Rattle.file.specs.Page.{arrived}
 use Rattle.file.specs.Rules.{fileSound}

@@ -20,7 +20,7 @@ use lib.Dec.{leb}
 use lib.ListN.{getD, set, replicate}
 use Rattle.words.specs.Every.{every}
 use Rattle.select.specs.Size.{identities}
-use Rattle.target.specs.Target.{hartIn, fileIn, identityIn}
+use Rattle.file_message.specs.Message.{hartIn, fileIn, identityIn}
 use Rattle.file.specs.declared.File.{File}
 use Rattle.file.specs.Page.{arrived}
 use Rattle.file.specs.Rules.{fileSound}

@@ -2,13 +2,13 @@
 ghost use mathlib.Core.Path.{_≡_};
 ghost use Prim.Native.Nat.{_≤_, _<_};
 ghost use lib.ListN.{length, take};
-ghost use Rattle.target.specs.Target.{fileIn};
+ghost use Rattle.file_message.specs.Message.{fileIn};
 ghost use Rattle.files.specs.Files.{filesOf, reached, allReached, Named};
 use super::load;
 use super::store;
-use target::file_in;
-use target::hart_in;
-use target::identity_in;
+use file_message::file_in;
+use file_message::hart_in;
+use file_message::identity_in;
 
 fn deliver_one(files: &mut [u32], word: u32)
     requires { ⌜ (length (now files) ≡ 360) × (fileIn word < 5) ⌝ }

@@ -5,7 +5,7 @@ use mathlib.Core.List.{[], _∷_}
 use lib.ListN.{getD, replicate}
 use Rattle.words.specs.Bits.{bitOf, withBit}
 use Rattle.words.specs.Sets.{insert}
-use Rattle.target.specs.Target.{hartIn, fileIn, identityIn}
+use Rattle.file_message.specs.Message.{hartIn, fileIn, identityIn}
 use Rattle.file.specs.Page.{arrived}
 use Rattle.stored.specs.Stored.{fileWords, fileAt}
 use Rattle.files.specs.Files.{fileNumber, filesFrom, filesOf, wordsOf, theFile, withFile, zeroFile}

@@ -15,8 +15,8 @@ use Rattle.words.specs.Sets.{member}
 use Rattle.words.proofs.SetsLaws.{member-insert-other}
 use Rattle.words.proofs.TestsLaws.{tested}
 use Rattle.select.specs.Size.{identities}
-use Rattle.target.specs.Target.{identityIn}
-use Rattle.target.proofs.TargetLaws.{identityIn-lt}
+use Rattle.file_message.specs.Message.{identityIn}
+use Rattle.file_message.proofs.MessageLaws.{identityIn-lt}
 use Rattle.file.specs.declared.File.{File}
 use Rattle.file.specs.Page.{arrived}
 use Rattle.file_laws.proofs.PageEffects.{arrived-ignored, arrived-pending, arrived-rest, arrived-length}

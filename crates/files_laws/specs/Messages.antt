@@ -8,7 +8,7 @@ use mathlib.Core.Path.{_≡_}
 use mathlib.Core.Bool.{Bool, false, _&&_, _||_}
 use mathlib.Core.List.{List, [], _∷_}
 use lib.Dec.{eqb}
-use Rattle.target.specs.Target.{identityIn}
+use Rattle.file_message.specs.Message.{identityIn}
 use Rattle.file.specs.declared.File.{File}
 use Rattle.files.specs.Files.{namedBy}
 

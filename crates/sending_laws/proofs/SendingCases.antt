@@ -9,7 +9,8 @@ use Rattle.words.specs.Bits.{bitOf, hasBit, withoutBit}
 use Rattle.words.specs.Parts.{fieldOf}
 use Rattle.words.specs.Sets.{member, remove, put}
 use Rattle.mode.specs.Mode.{isActive}
-use Rattle.target.specs.Target.{hartOf, guestOf, numberOf, logWord, messageOf}
+use Rattle.file_message.specs.Message.{logWord}
+use Rattle.target.specs.Target.{hartOf, guestOf, numberOf, messageOf}
 use Rattle.domain.specs.Domain.{Domain, configOf, isEnabled, byMessages}
 use Rattle.domain.specs.Slot.{sourceAt, withSource}
 use Rattle.sending.specs.Sending.{candidate, servedAt, messagesAt, sentFrom, sent, logged}

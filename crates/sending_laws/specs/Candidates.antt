@@ -12,7 +12,8 @@ use Prim.Native.Nat.{ℕ, zero, suc, _≤_, _<_}
 use mathlib.Core.Path.{_≡_}
 use mathlib.Core.Bool.{Bool, true, false, cond}
 use mathlib.Core.List.{List, [], _∷_}
-use Rattle.target.specs.Target.{fileIn, messageOf}
+use Rattle.file_message.specs.Message.{fileIn}
+use Rattle.target.specs.Target.{messageOf}
 use Rattle.source.specs.declared.Source.{Source}
 use Rattle.source.specs.Pending.{withPending}
 use Rattle.domain.specs.Domain.{Domain}

@@ -3,15 +3,14 @@
 --   hartOf t, guestOf t, numberOf t    bits 19:18, bits 13:12, and bits 7:0, a priority or an identity
 --   startTarget messages               the target of a source that becomes active
 --   keptTarget child messages v        what a write of v stores
---   logWord hart file identity         a message in the log
---   hartIn m, fileIn m, identityIn m   the parts of a log word: bits 12:11, bits 10:8, and bits 7:0
 --   messageOf child t                  the message of a source with target t
 --   keptGenerated v, generatedOf c v   what a genmsi write keeps, and the message that it sends
 -- The machine domain sends to file 0, the child to file 1 + guest index.
-use Prim.Native.Nat.{ℕ, _+_, _*_, _/_, _%_}
+use Prim.Native.Nat.{ℕ, _+_}
 use mathlib.Core.Bool.{Bool, cond}
 use lib.Dec.{eqb}
 use Rattle.words.specs.Parts.{fieldOf, packed}
+use Rattle.file_message.specs.Message.{logWord}
 
 unfoldable pub hartOf : ℕ → ℕ
 hartOf t = fieldOf t 18 2
@@ -35,18 +34,6 @@ receiverOf child v = cond child (packed (guestOf v) 12 (numberOf v)) (numberOf v
 
 unfoldable pub keptTarget : Bool → Bool → ℕ → ℕ
 keptTarget child messages v = packed (hartOf v) 18 (cond messages (receiverOf child v) (priorityOf v))
-
-unfoldable pub logWord : ℕ → ℕ → ℕ → ℕ
-logWord hart file identity = hart * 2048 + file * 256 + identity
-
-unfoldable pub hartIn : ℕ → ℕ
-hartIn m = m / 2048 % 4
-
-unfoldable pub fileIn : ℕ → ℕ
-fileIn m = m / 256 % 8
-
-unfoldable pub identityIn : ℕ → ℕ
-identityIn m = m % 256
 
 unfoldable pub messageOf : Bool → ℕ → ℕ
 messageOf child t = logWord (hartOf t) (cond child (guestOf t + 1) 0) (numberOf t)

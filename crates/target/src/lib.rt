@@ -2,9 +2,9 @@
 ghost use mathlib.Core.Path.{_≡_};
 ghost use Prim.Native.Nat.{_<_, _^_};
 ghost use Rattle.words.specs.Parts.{packed};
-ghost use Rattle.target.specs.Target.{hartOf, guestOf, numberOf, startTarget, keptTarget, logWord};
-ghost use Rattle.target.specs.Target.{hartIn, fileIn, identityIn};
+ghost use Rattle.target.specs.Target.{hartOf, guestOf, numberOf, startTarget, keptTarget};
 ghost use Rattle.target.specs.Target.{messageOf, keptGenerated, generatedOf};
+use file_message::log_word;
 
 pub fn hart_of(target: u32) -> u32
     ensures { λ r. ⌜ (r ≡ hartOf target) × (r < 4) ⌝ }
@@ -30,32 +30,6 @@ fn under_hart(hart: u32, below: u32) -> u32
     ensures { λ r. ⌜ r ≡ packed hart 18 below ⌝ }
 {
     words::packed32(hart, 18, below)
-}
-
-fn log_word(hart: u32, file: u32, identity: u32) -> u32
-    requires { ⌜ (hart < 4) × (file < 8) × (identity < 256) ⌝ }
-    ensures { λ r. ⌜ r ≡ logWord hart file identity ⌝ }
-{
-    words::packed32(hart, 11, words::packed32(file, 8, identity))
-}
-
-// The parts of a log word.
-pub fn hart_in(word: u32) -> u32
-    ensures { λ r. ⌜ (r ≡ hartIn word) × (r < 4) ⌝ }
-{
-    words::field32(word, 11, 2)
-}
-
-pub fn file_in(word: u32) -> u32
-    ensures { λ r. ⌜ (r ≡ fileIn word) × (r < 8) ⌝ }
-{
-    words::field32(word, 8, 3)
-}
-
-pub fn identity_in(word: u32) -> u32
-    ensures { λ r. ⌜ (r ≡ identityIn word) × (r < 256) ⌝ }
-{
-    words::field32(word, 0, 8)
 }
 
 pub fn start_target(messages: bool) -> u32

@@ -21,8 +21,9 @@ use Rattle.file.specs.Page.{arrived, pageWritten}
 use Rattle.file.specs.Register.{held, written, accessedAt, accessed}
 use Rattle.files.specs.Files.{fileNumber, isGuest, theFile, withFile, namedBy, reached, allReached}
 use Rattle.mode.specs.Mode.{isActive, isLevel, isRectified}
-use Rattle.target.specs.Target.{hartOf, guestOf, numberOf, receiverOf, keptTarget, logWord, messageOf}
-use Rattle.target.specs.Target.{hartIn, fileIn, identityIn}
+use Rattle.file_message.specs.Message.{logWord}
+use Rattle.target.specs.Target.{hartOf, guestOf, numberOf, receiverOf, keptTarget, messageOf}
+use Rattle.file_message.specs.Message.{hartIn, fileIn, identityIn}
 use Rattle.source.specs.Pending as source
 use Rattle.domain.specs.Domain.{configOf, isEnabled, byMessages}
 use Rattle.domain.specs.Slot.{sourceAt, withSource}

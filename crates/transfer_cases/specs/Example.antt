@@ -16,7 +16,7 @@ use mathlib.Core.List.{List, [], _∷_, _++_}
 use lib.ListN.{getD, replicate}
 use Rattle.words.specs.Sets.{member}
 use Rattle.file.specs.declared.File.{File}
-use Rattle.target.specs.Target.{logWord}
+use Rattle.file_message.specs.Message.{logWord}
 use Rattle.call.specs.declared.Call.{Call}
 use Rattle.call.specs.declared.Call.the-variants.{Wire}
 use Rattle.runs.specs.Runs.{Lent, outcomeOn, after, ran}

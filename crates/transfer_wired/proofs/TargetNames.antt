@@ -13,9 +13,10 @@ use Rattle.words.proofs.TestsLaws.{tested, and-first, and-second, and-both, not
 use Rattle.select.specs.Size.{identities}
 use Rattle.file.specs.declared.File.{File}
 use Rattle.file.specs.Page.{arrived}
-use Rattle.target.specs.Target.{hartOf, guestOf, numberOf, keptTarget, identityIn, messageOf}
+use Rattle.file_message.specs.Message.{identityIn}
+use Rattle.target.specs.Target.{hartOf, guestOf, numberOf, keptTarget, messageOf}
 use Rattle.target.proofs.TargetLaws.{hartOf-lt, guestOf-lt, numberOf-lt, kept-child}
-use Rattle.target.proofs.TargetLaws.{hartIn-logWord, fileIn-logWord, identityIn-logWord}
+use Rattle.file_message.proofs.MessageLaws.{hartIn-logWord, fileIn-logWord, identityIn-logWord}
 use Rattle.files.specs.Files.{fileNumber, theFile, withFile, namedBy, reached}
 use Rattle.transfer_steps.specs.Names.{namesFile, renamed}
 

@@ -2,7 +2,7 @@
 -- the machine domain. Assumes nothing.
 use Prim.Native.Nat.{ℕ}
 use mathlib.Core.Path.{ap₂, sym, _∙_}
-use Rattle.target.specs.Target.{logWord}
+use Rattle.file_message.specs.Message.{logWord}
 use Rattle.target.proofs.TargetLaws.{generated-child, generated-machine}
 use borrow.Author.Needs.{needs}
 use Rattle.target.proofs.generated.Statement.{statement}

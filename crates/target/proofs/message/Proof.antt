@@ -2,7 +2,7 @@
 -- machine domain to file 0. Assumes nothing.
 use Prim.Native.Nat.{ℕ, _+_}
 use mathlib.Core.Path.{ap, ap₂, sym, _∙_}
-use Rattle.target.specs.Target.{logWord}
+use Rattle.file_message.specs.Message.{logWord}
 use Rattle.target.proofs.TargetLaws.{message-child, message-machine}
 use borrow.Author.Needs.{needs}
 use Rattle.target.proofs.message.Statement.{statement}

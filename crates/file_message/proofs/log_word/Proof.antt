@@ -1,11 +1,11 @@
--- `target::log_word` meets its contract: a hart above a file above an identity. Assumes nothing.
+-- `file_message::log_word` meets its contract: a hart above a file above an identity. Assumes nothing.
 use mathlib.Core.Path.{ap, _∙_}
 use native.Mathlib.Omega.{arith}
 use Rattle.words.specs.Parts.{packed}
 use Rattle.words.proofs.PartsLaws.{packed-is}
-use Rattle.target.proofs.TargetLaws.{logWord-packed}
-use Rattle.target.proofs.log_word.Statement.{statement}
-use Rattle.target.proofs.log_word.Tie as tie
+use Rattle.file_message.proofs.MessageLaws.{logWord-packed}
+use Rattle.file_message.proofs.log_word.Statement.{statement}
+use Rattle.file_message.proofs.log_word.Tie as tie
 
 packed32-requires : tie.Need-packed32-requires
 packed32-requires c κs = (omega arith, omega arith, omega arith)

@@ -1,9 +1,9 @@
--- `target::file_in` meets its contract: a field of its size. Assumes nothing.
+-- `file_message::file_in` meets its contract: a field of its size. Assumes nothing.
 use mathlib.Core.Path.{_∙_}
-use Rattle.target.proofs.TargetLaws.{fileIn-lt, fileIn-field}
+use Rattle.file_message.proofs.MessageLaws.{fileIn-lt, fileIn-field}
 use borrow.Author.Needs.{needs}
-use Rattle.target.proofs.file_in.Statement.{statement}
-use Rattle.target.proofs.file_in.Tie as tie
+use Rattle.file_message.proofs.file_in.Statement.{statement}
+use Rattle.file_message.proofs.file_in.Tie as tie
 
 field32-requires : tie.Need-field32-requires
 field32-requires c κs = search needs

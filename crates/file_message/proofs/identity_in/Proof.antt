@@ -1,9 +1,9 @@
--- `target::identity_in` meets its contract: a field of its size. Assumes nothing.
+-- `file_message::identity_in` meets its contract: a field of its size. Assumes nothing.
 use mathlib.Core.Path.{_∙_}
-use Rattle.target.proofs.TargetLaws.{identityIn-lt, identityIn-field}
+use Rattle.file_message.proofs.MessageLaws.{identityIn-lt, identityIn-field}
 use borrow.Author.Needs.{needs}
-use Rattle.target.proofs.identity_in.Statement.{statement}
-use Rattle.target.proofs.identity_in.Tie as tie
+use Rattle.file_message.proofs.identity_in.Statement.{statement}
+use Rattle.file_message.proofs.identity_in.Tie as tie
 
 field32-requires : tie.Need-field32-requires
 field32-requires c κs = search needs

@@ -1,0 +1,2 @@
+-- The laws of a log word. Assumes nothing.
+pub mod MessageLaws

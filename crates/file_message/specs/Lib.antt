@@ -1,0 +1,2 @@
+-- The log word of a message. Assumes nothing.
+pub mod Message

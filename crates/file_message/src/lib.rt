@@ -1,0 +1,30 @@
+// A message as a word of the log: made of hart, file and identity, and taken apart again.
+ghost use mathlib.Core.Path.{_≡_};
+ghost use Prim.Native.Nat.{_<_};
+ghost use Rattle.file_message.specs.Message.{logWord, hartIn, fileIn, identityIn};
+
+pub fn log_word(hart: u32, file: u32, identity: u32) -> u32
+    requires { ⌜ (hart < 4) × (file < 8) × (identity < 256) ⌝ }
+    ensures { λ r. ⌜ r ≡ logWord hart file identity ⌝ }
+{
+    words::packed32(hart, 11, words::packed32(file, 8, identity))
+}
+
+// The parts of a log word.
+pub fn hart_in(word: u32) -> u32
+    ensures { λ r. ⌜ (r ≡ hartIn word) × (r < 4) ⌝ }
+{
+    words::field32(word, 11, 2)
+}
+
+pub fn file_in(word: u32) -> u32
+    ensures { λ r. ⌜ (r ≡ fileIn word) × (r < 8) ⌝ }
+{
+    words::field32(word, 8, 3)
+}
+
+pub fn identity_in(word: u32) -> u32
+    ensures { λ r. ⌜ (r ≡ identityIn word) × (r < 256) ⌝ }
+{
+    words::field32(word, 0, 8)
+}
