@@ -11,7 +11,8 @@ use Rattle.file.specs.Rules as file
 use Rattle.file_laws.proofs.Stored.{Long}
 use Rattle.files.specs.Files.{isGuest, theFile, soundAt, filesSound}
 use Rattle.mode.specs.Mode.{isActive, isLevel, keptMode, sourceWord}
-use Rattle.target.specs.Target.{hartOf, numberOf, keptGenerated}
+use Rattle.target.specs.Target.{hartOf, numberOf}
+use Rattle.genmsi.specs.Genmsi.{keptGenerated}
 use Rattle.delivery.specs.Delivery.{deliverySound}
 use Rattle.domain.specs.Domain.{configOf, isEnabled, byMessages, generatedAt}
 use Rattle.domain.specs.Slot.{sourceAt}

@@ -1,7 +1,7 @@
 -- Claims 50 to 54, from the laws of sending. Assumes nothing.
 use mathlib.Core.Path.{ap}
 use Rattle.file_message.specs.Message.{logWord}
-use Rattle.target.specs.Target.{generatedOf}
+use Rattle.genmsi.specs.Genmsi.{generatedOf}
 use Rattle.sending.specs.Sending.{Sent}
 use Rattle.sending.proofs.SendingLaws.{sent-off}
 use Rattle.genmsi.proofs.GenmsiLaws.{generated-on, generated-off}

@@ -14,7 +14,8 @@ use Rattle.words.proofs.PartsLaws.{packed-is}
 use Rattle.words.proofs.TestsLaws.{tested}
 use Rattle.mode.specs.Mode.{isActive, isLevel, isRectified, sourceWord}
 use Rattle.mode.proofs.ModeLaws.{kept-other, word-child-has, word-machine}
-use Rattle.target.specs.Target.{hartOf, numberOf, receiverOf, keptTarget, keptGenerated}
+use Rattle.target.specs.Target.{hartOf, numberOf, receiverOf, keptTarget}
+use Rattle.genmsi.specs.Genmsi.{keptGenerated}
 use Rattle.target.proofs.TargetLaws.{kept-first, kept-priority}
 use Rattle.source.specs.declared.Source.{Source}
 use Rattle.source.specs.Pending.{inactive}

@@ -9,7 +9,7 @@ use native.Mathlib.Omega.{arith}
 use lib.ListN.{length}
 use Rattle.words.proofs.TestsLaws.{tested}
 use Rattle.file_message.specs.Message.{fileIn}
-use Rattle.target.specs.Target.{generatedOf}
+use Rattle.genmsi.specs.Genmsi.{generatedOf}
 use Rattle.region.specs.Region.{Within}
 use Rattle.region.specs.declared.Word.{Word}
 use Rattle.region.proofs.RoleLaws.{generates-only}

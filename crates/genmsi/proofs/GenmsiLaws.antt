@@ -5,11 +5,21 @@ use mathlib.Core.Path.{_≡_, refl, sym, ap, _∙_}
 use mathlib.Core.Bool.{Bool, true, false}
 use mathlib.Core.List.{List, [], _∷_}
 use lib.ListN.{length, set}
-use Rattle.target.specs.Target.{keptGenerated, generatedOf}
+use Rattle.file_message.specs.Message.{logWord}
+use Rattle.target.specs.Target.{hartOf, numberOf}
 use Rattle.domain.specs.Domain.{Domain, byMessages, withGenerated}
 use Rattle.sending.specs.Sending.{logged}
 use Rattle.sending.proofs.SendingLaws.{logged-none, logged-one}
-use Rattle.genmsi.specs.Genmsi.{generatedWritten, generatedSent}
+use Rattle.genmsi.specs.Genmsi.{keptGenerated, generatedOf, generatedWritten, generatedSent}
+
+module _ (c : Bool) (t : ℕ) where
+  pub generated-child : c ≡ true → generatedOf c t ≡ logWord (hartOf t) 1 (numberOf t)
+  unfolding generatedOf
+  generated-child e = simp e
+
+  pub generated-machine : c ≡ false → generatedOf c t ≡ logWord (hartOf t) 0 (numberOf t)
+  unfolding generatedOf
+  generated-machine e = simp e
 
 module _ (d : Domain) (v : ℕ) where
   pub generated-messages : byMessages d ≡ true → generatedWritten d v ≡ withGenerated d (keptGenerated v)

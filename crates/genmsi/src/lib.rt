@@ -3,7 +3,28 @@ ghost use mathlib.Core.Path.{_≡_};
 ghost use lib.ListN.{length};
 ghost use Rattle.domain.specs.Domain.{domainOf};
 ghost use Rattle.sending.specs.Sending.{logged};
-ghost use Rattle.genmsi.specs.Genmsi.{generatedWritten, generatedRead, generatedSent};
+ghost use Rattle.genmsi.specs.Genmsi.{keptGenerated, generatedOf, generatedWritten, generatedRead};
+ghost use Rattle.genmsi.specs.Genmsi.{generatedSent};
+use file_message::log_word;
+use target::hart_of;
+use target::number_of;
+use target::under_hart;
+
+// What a write keeps, and the log word of the message that it sends at once.
+pub fn kept_generated(value: u32) -> u32
+    ensures { λ r. ⌜ r ≡ keptGenerated value ⌝ }
+{
+    under_hart(hart_of(value), number_of(value))
+}
+
+pub fn generated(child: bool, value: u32) -> u32
+    ensures { λ r. ⌜ r ≡ generatedOf child value ⌝ }
+{
+    if child {
+        return log_word(hart_of(value), 1, number_of(value));
+    }
+    log_word(hart_of(value), 0, number_of(value))
+}
 
 // Ignored in direct mode. What it sends is not sent here.
 pub fn write_generated(part: &mut [u32], value: u32)
@@ -11,7 +32,7 @@ pub fn write_generated(part: &mut [u32], value: u32)
     ensures { λ r. ⌜ domainOf (now (part .exit)) ≡ generatedWritten (domainOf (now (part .entry))) value ⌝ }
 {
     if domain::by_messages(part) {
-        domain::put_generated(part, target::kept_generated(value));
+        domain::put_generated(part, kept_generated(value));
     }
 }
 
@@ -37,6 +58,6 @@ pub fn send_generated(part: &[u32], child: bool, value: u32, log: &mut [u32]) ->
     if !domain::by_messages(part) {
         return 0;
     }
-    log[0] = target::generated(child, value);
+    log[0] = generated(child, value);
     1
 }

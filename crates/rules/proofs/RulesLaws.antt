@@ -7,7 +7,7 @@ use mathlib.Core.List.{List}
 use lib.Dec.{eqb, leb}
 use Rattle.words.specs.Sets.{member}
 use Rattle.words.proofs.SetsLaws.{member-word}
-use Rattle.target.specs.Target.{keptGenerated}
+use Rattle.genmsi.specs.Genmsi.{keptGenerated}
 use Rattle.source.specs.declared.Source.{Source}
 use Rattle.domain.specs.Domain.{Domain, isEnabled, byMessages, generatedAt}
 use Rattle.domain.specs.Slot.{sourceAt}

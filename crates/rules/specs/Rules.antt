@@ -15,7 +15,7 @@ use mathlib.Core.Bool.{Bool, true, false, not, _&&_, _||_}
 use mathlib.Core.List.{List}
 use lib.Dec.{eqb}
 use Rattle.words.specs.Sets.{member}
-use Rattle.target.specs.Target.{keptGenerated}
+use Rattle.genmsi.specs.Genmsi.{keptGenerated}
 use Rattle.delivery.specs.Delivery.{deliverySound}
 use Rattle.domain.specs.Domain.{Domain, configOf, isEnabled, byMessages, generatedAt}
 use Rattle.domain.specs.Slot.{sourceAt}

@@ -26,7 +26,7 @@ fn generated_rules(part: &[u32]) -> bool
         && generatedRule (domainOf (now (part .entry)))) ⌝ }
 {
     let word = domain::generated(part);
-    (word == target::kept_generated(word)) & (domain::by_messages(part) | (word == 0))
+    (word == genmsi::kept_generated(word)) & (domain::by_messages(part) | (word == 0))
 }
 
 fn no_zero(part: &[u32]) -> bool

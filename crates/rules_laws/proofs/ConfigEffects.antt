@@ -10,7 +10,8 @@ use Rattle.words.specs.Bits.{hasBit}
 use Rattle.words.specs.Parts.{fieldOf, packed}
 use Rattle.words.specs.Sets.{member}
 use Rattle.words.proofs.TestsLaws.{tested, beq-true}
-use Rattle.target.specs.Target.{hartOf, numberOf, keptGenerated}
+use Rattle.target.specs.Target.{hartOf, numberOf, receiverOf, keptTarget}
+use Rattle.genmsi.specs.Genmsi.{keptGenerated}
 use Rattle.source.specs.declared.Source.{Source}
 use Rattle.source.specs.Pending.{redelivered}
 use Rattle.delivery.specs.declared.Delivery.{Delivery}
@@ -29,7 +30,7 @@ use Rattle.direct.specs.declared.Setting.the-variants.{Idelivery, Iforce, Ithre
 use Rattle.direct.specs.Direct.{writtenAt, settingWritten}
 use Rattle.direct.proofs.DirectLaws.{written-messages, written-direct}
 use Rattle.source_rules.specs.SourceRules.{sourceSteady}
-use Rattle.source_laws.proofs.TargetEffects.{keptGenerated-back}
+use Rattle.source_laws.proofs.TargetEffects.{keptTarget-back}
 use Rattle.source_laws.proofs.SteadyEffects.{steady-redelivered}
 use Rattle.rules.specs.Rules.{structureRange, generatedRule}
 use Rattle.rules_laws.specs.Steady.{Steady, DomainKept, Quiet}
@@ -51,6 +52,10 @@ keptConfig-lt v = omega arith
 -- a stored domaincfg leaves bits 31:24 free, which read 0x80
 pub config-low : {c : Bool} {ws : List ℕ} {d : Domain} → Steady c ws d → configOf d < 0x80000000
 config-low {d = d} s = omega (arith, steady-config s, keptConfig-lt (configOf d))
+
+keptGenerated-back : (v : ℕ) → keptGenerated (keptGenerated v) ≡ keptGenerated v
+unfolding keptGenerated keptTarget receiverOf
+keptGenerated-back v = keptTarget-back false true v
 
 keptGenerated-zero : keptGenerated 0 ≡ 0
 unfolding keptGenerated hartOf numberOf packed fieldOf

@@ -11,7 +11,7 @@ use lib.Dec.{eqb}
 use borrow.Author.Tests.{eq-eqb, ne-eqb, eqb-true}
 use Rattle.words.specs.Bits.{hasBit}
 use Rattle.words.specs.Sets.{member}
-use Rattle.target.specs.Target.{keptGenerated}
+use Rattle.genmsi.specs.Genmsi.{keptGenerated}
 use Rattle.source.specs.declared.Source.{Source}
 use Rattle.delivery.specs.declared.Delivery.{Delivery}
 use Rattle.delivery.specs.Delivery.{deliverySound}

@@ -10,10 +10,11 @@ use lib.ListN.{length, getD, take, drop, length-append, List·getD-append}
 use lib.Seq.{getD-append-add, take-at}
 use Rattle.words.proofs.TestsLaws.{tested, not-same}
 use Rattle.file_message.specs.Message.{logWord, fileIn}
-use Rattle.target.specs.Target.{hartOf, guestOf, numberOf, messageOf, generatedOf}
+use Rattle.target.specs.Target.{hartOf, guestOf, numberOf, messageOf}
+use Rattle.genmsi.specs.Genmsi.{generatedOf}
 use Rattle.target.proofs.TargetLaws.{hartOf-lt, guestOf-lt, numberOf-lt, message-child, message-machine}
 use Rattle.file_message.proofs.MessageLaws.{fileIn-logWord}
-use Rattle.target.proofs.TargetLaws.{generated-child, generated-machine}
+use Rattle.genmsi.proofs.GenmsiLaws.{generated-child, generated-machine}
 use Rattle.domain.specs.Domain.{Domain, isEnabled, byMessages}
 use Rattle.domain.specs.Slot.{sourceAt}
 use Rattle.sending.specs.Sending.{candidate, servedAt, messagesAt, sentFrom, sent, logged}

@@ -8,7 +8,6 @@ use Rattle.words.specs.Parts.{fieldOf, packed}
 use Rattle.words.proofs.PartsLaws.{fieldOf-packed}
 use Rattle.words.proofs.TestsLaws.{tested}
 use Rattle.target.specs.Target.{hartOf, guestOf, numberOf, startTarget, priorityOf, receiverOf, keptTarget}
-use Rattle.target.specs.Target.{keptGenerated}
 use Rattle.target.proofs.TargetLaws.{hartOf-lt, guestOf-lt, numberOf-lt, receiver-lt}
 
 -- ---- what stands below a hart
@@ -68,7 +67,3 @@ unfolding keptTarget startTarget receiverOf priorityOf hartOf guestOf numberOf p
 keptTarget-start true true = refl
 keptTarget-start false true = refl
 keptTarget-start c false = refl
-
-pub keptGenerated-back : (v : ℕ) → keptGenerated (keptGenerated v) ≡ keptGenerated v
-unfolding keptGenerated keptTarget receiverOf
-keptGenerated-back v = keptTarget-back false true v

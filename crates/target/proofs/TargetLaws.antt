@@ -9,7 +9,7 @@ use Rattle.words.specs.Parts.{packed}
 use Rattle.words.proofs.PartsLaws.{fieldOf-lt, packed-is}
 use Rattle.file_message.specs.Message.{logWord}
 use Rattle.target.specs.Target.{hartOf, guestOf, numberOf, priorityOf, receiverOf}
-use Rattle.target.specs.Target.{keptTarget, messageOf, generatedOf}
+use Rattle.target.specs.Target.{keptTarget, messageOf}
 
 module _ (t : ℕ) where
   pub hartOf-lt : hartOf t < 4
@@ -52,14 +52,6 @@ module _ (c : Bool) (t : ℕ) where
   pub message-machine : c ≡ false → messageOf c t ≡ logWord (hartOf t) 0 (numberOf t)
   unfolding messageOf
   message-machine e = simp e
-
-  pub generated-child : c ≡ true → generatedOf c t ≡ logWord (hartOf t) 1 (numberOf t)
-  unfolding generatedOf
-  generated-child e = simp e
-
-  pub generated-machine : c ≡ false → generatedOf c t ≡ logWord (hartOf t) 0 (numberOf t)
-  unfolding generatedOf
-  generated-machine e = simp e
 
 -- a guest index above an identity has fewer than 18 bits
 pub receiver-lt : (g i : ℕ) → g < 4 → i < 256 → packed g 12 i < 2 ^ 18

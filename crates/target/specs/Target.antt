@@ -1,10 +1,9 @@
--- A target, and the message that goes to it. 01, "The wired controller"; the standard 4.5.15, 4.5.16, 4.9.1.
+-- A target, and the message that goes to it. 01, "The wired controller"; the standard 4.5.16, 4.9.1.
 -- Assumes nothing.
 --   hartOf t, guestOf t, numberOf t    bits 19:18, bits 13:12, and bits 7:0, a priority or an identity
 --   startTarget messages               the target of a source that becomes active
 --   keptTarget child messages v        what a write of v stores
 --   messageOf child t                  the message of a source with target t
---   keptGenerated v, generatedOf c v   what a genmsi write keeps, and the message that it sends
 -- The machine domain sends to file 0, the child to file 1 + guest index.
 use Prim.Native.Nat.{ℕ, _+_}
 use mathlib.Core.Bool.{Bool, cond}
@@ -37,9 +36,3 @@ keptTarget child messages v = packed (hartOf v) 18 (cond messages (receiverOf ch
 
 unfoldable pub messageOf : Bool → ℕ → ℕ
 messageOf child t = logWord (hartOf t) (cond child (guestOf t + 1) 0) (numberOf t)
-
-unfoldable pub keptGenerated : ℕ → ℕ
-keptGenerated v = packed (hartOf v) 18 (numberOf v)
-
-unfoldable pub generatedOf : Bool → ℕ → ℕ
-generatedOf child v = logWord (hartOf v) (cond child 1 0) (numberOf v)

@@ -3,7 +3,7 @@ ghost use mathlib.Core.Path.{_≡_};
 ghost use Prim.Native.Nat.{_<_, _^_};
 ghost use Rattle.words.specs.Parts.{packed};
 ghost use Rattle.target.specs.Target.{hartOf, guestOf, numberOf, startTarget, keptTarget};
-ghost use Rattle.target.specs.Target.{messageOf, keptGenerated, generatedOf};
+ghost use Rattle.target.specs.Target.{messageOf};
 use file_message::log_word;
 
 pub fn hart_of(target: u32) -> u32
@@ -25,7 +25,7 @@ pub fn number_of(target: u32) -> u32
     words::field32(target, 0, 8)
 }
 
-fn under_hart(hart: u32, below: u32) -> u32
+pub fn under_hart(hart: u32, below: u32) -> u32
     requires { ⌜ (hart < 4) × (below < 2 ^ 18) ⌝ }
     ensures { λ r. ⌜ r ≡ packed hart 18 below ⌝ }
 {
@@ -63,20 +63,4 @@ pub fn message(child: bool, target: u32) -> u32
         return log_word(hart_of(target), guest_of(target) + 1, number_of(target));
     }
     log_word(hart_of(target), 0, number_of(target))
-}
-
-// What a genmsi write keeps, and the log word of the message that it sends at once.
-pub fn kept_generated(value: u32) -> u32
-    ensures { λ r. ⌜ r ≡ keptGenerated value ⌝ }
-{
-    under_hart(hart_of(value), number_of(value))
-}
-
-pub fn generated(child: bool, value: u32) -> u32
-    ensures { λ r. ⌜ r ≡ generatedOf child value ⌝ }
-{
-    if child {
-        return log_word(hart_of(value), 1, number_of(value));
-    }
-    log_word(hart_of(value), 0, number_of(value))
 }

@@ -27,7 +27,8 @@ use Rattle.stored.specs.Stored.{fileWords, fileAt}
 use Rattle.files.specs.Files.{fileNumber, isGuest, filesFrom, filesOf, wordsOf, theFile, withFile, soundAt}
 use Rattle.files.specs.Files.{filesSound}
 use Rattle.mode.specs.Mode.{isActive, isLevel, isRectified, keptMode, sourceWord}
-use Rattle.target.specs.Target.{hartOf, guestOf, numberOf, receiverOf, keptTarget, keptGenerated}
+use Rattle.target.specs.Target.{hartOf, guestOf, numberOf, receiverOf, keptTarget}
+use Rattle.genmsi.specs.Genmsi.{keptGenerated}
 use Rattle.delivery.specs.Delivery.{deliverySound}
 use Rattle.domain.specs.Domain.{domainOf, configOf, isEnabled, byMessages, generatedAt}
 use Rattle.domain.specs.Slot.{sourceAt}

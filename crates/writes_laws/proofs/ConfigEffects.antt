@@ -10,7 +10,7 @@ use Rattle.words.specs.Parts.{fieldOf, packed}
 use Rattle.words.specs.Sets.{member}
 use Rattle.words.proofs.BitsLaws.{hasBit-bitOf}
 use Rattle.words.proofs.TestsLaws.{tested}
-use Rattle.target.specs.Target.{keptGenerated}
+use Rattle.genmsi.specs.Genmsi.{keptGenerated}
 use Rattle.source.specs.declared.Source.{Source}
 use Rattle.source.specs.Pending.{redelivered}
 use Rattle.domain.specs.Domain.{Domain, configOf, isEnabled, byMessages, generatedAt, withConfig}

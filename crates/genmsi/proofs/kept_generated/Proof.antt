@@ -1,11 +1,11 @@
--- `target::kept_generated` meets its contract: hart and identity. Assumes nothing.
+-- `genmsi::kept_generated` meets its contract: hart and identity. Assumes nothing.
 use Prim.Native.Nat.{ℕ}
 use mathlib.Core.Path.{ap₂, _∙_}
 use Rattle.words.specs.Parts.{packed}
-use Rattle.target.specs.Target.{keptGenerated}
+use Rattle.genmsi.specs.Genmsi.{keptGenerated}
 use borrow.Author.Needs.{needs}
-use Rattle.target.proofs.kept_generated.Statement.{statement}
-use Rattle.target.proofs.kept_generated.Tie as tie
+use Rattle.genmsi.proofs.kept_generated.Statement.{statement}
+use Rattle.genmsi.proofs.kept_generated.Tie as tie
 
 hart-of-requires : tie.Need-hart-of-requires
 hart-of-requires c κs = search needs

@@ -1,12 +1,12 @@
--- `target::generated` meets its contract: to the supervisor file of the child, the machine file of
+-- `genmsi::generated` meets its contract: to the supervisor file of the child, the machine file of
 -- the machine domain. Assumes nothing.
 use Prim.Native.Nat.{ℕ}
 use mathlib.Core.Path.{ap₂, sym, _∙_}
 use Rattle.file_message.specs.Message.{logWord}
-use Rattle.target.proofs.TargetLaws.{generated-child, generated-machine}
+use Rattle.genmsi.proofs.GenmsiLaws.{generated-child, generated-machine}
 use borrow.Author.Needs.{needs}
-use Rattle.target.proofs.generated.Statement.{statement}
-use Rattle.target.proofs.generated.Tie as tie
+use Rattle.genmsi.proofs.generated.Statement.{statement}
+use Rattle.genmsi.proofs.generated.Tie as tie
 
 hart-of-requires : tie.Need-hart-of-requires
 hart-of-requires c κs = search needs
