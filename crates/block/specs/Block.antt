@@ -9,6 +9,7 @@ use Prim.Native.Nat.{ℕ}
 use mathlib.Core.Bool.{Bool, _&&_}
 use mathlib.Core.List.{List, _++_}
 use lib.ListN.{take, drop}
+use Rattle.sizes.specs.Sizes.{filesSize, wiredSize, wiredPlace}
 use Rattle.file.specs.declared.File.{File}
 use Rattle.files.specs.Files.{filesOf, wordsOf, filesSound}
 use Rattle.domain.specs.Domain.{Domain}
@@ -20,7 +21,10 @@ pub record Board : Type 0 where
   pub wired : Wired
 
 unfoldable pub boardOf : List ℕ → Board
-boardOf l = record { files = filesOf (take 360 l); wired = wiredOf (take 290 (drop 360 l)) }
+boardOf l = record {
+  files = filesOf (take filesSize l);
+  wired = wiredOf (take wiredSize (drop wiredPlace l));
+}
 
 unfoldable pub domainWords : Domain → List ℕ
 domainWords d = d .source ++ d .target ++ d .pending ++ d .enable ++ d .delivery

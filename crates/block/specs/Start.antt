@@ -8,6 +8,8 @@ use Prim.Native.Nat.{ℕ, zero, suc}
 use mathlib.Core.Bool.{cond}
 use mathlib.Core.List.{List, [], _∷_}
 use lib.ListN.{replicate}
+use Rattle.sizes.specs.Sizes.{fileCount, slotCount, fileSetSize, sourceSetSize, structuresSize}
+use Rattle.select.specs.Deliveries.{fromWired}
 use Rattle.file.specs.declared.File.{File}
 use Rattle.files.specs.Files.{isGuest}
 use Rattle.domain.specs.Domain.{Domain}
@@ -16,10 +18,10 @@ use Rattle.block.specs.Block.{Board}
 unfoldable pub startFile : ℕ → File
 startFile k =
     record {
-      delivery = cond (isGuest k) 0 0x40000000;
+      delivery = cond (isGuest k) 0 fromWired;
       threshold = 0;
-      pending = replicate 8 0;
-      enable = replicate 8 0;
+      pending = replicate fileSetSize 0;
+      enable = replicate fileSetSize 0;
     }
 
 unfoldable pub startFilesFrom : ℕ → ℕ → List File
@@ -29,16 +31,16 @@ startFilesFrom k (suc n) = startFile k ∷ startFilesFrom (suc k) n
 unfoldable pub startDomain : Domain
 startDomain =
     record {
-      source = replicate 64 0;
-      target = replicate 64 0;
-      pending = replicate 2 0;
-      enable = replicate 2 0;
-      delivery = replicate 12 0;
+      source = replicate slotCount 0;
+      target = replicate slotCount 0;
+      pending = replicate sourceSetSize 0;
+      enable = replicate sourceSetSize 0;
+      delivery = replicate structuresSize 0;
     }
 
 unfoldable pub startBoard : Board
 startBoard =
     record {
-      files = startFilesFrom 0 20;
-      wired = record { wires = replicate 2 0; root = startDomain; child = startDomain };
+      files = startFilesFrom 0 fileCount;
+      wired = record { wires = replicate sourceSetSize 0; root = startDomain; child = startDomain };
     }

@@ -3,14 +3,15 @@
 use Prim.Native.Nat.{ℕ, _<_}
 use mathlib.Core.Path.{_≡_}
 use lib.ListN.{length}
+use Rattle.sizes.specs.Sizes.{fileCount, sourceSetSize}
 use Rattle.file_laws.proofs.Stored.{Long}
 use Rattle.files.specs.Files.{theFile}
 use Rattle.domain_laws.specs.Shape.{DomainShaped}
 use Rattle.block.specs.Block.{Board}
 
 pub record BoardShaped (b : Board) : Type 0 where
-  pub many : length (b .files) ≡ 20
-  pub long : (k : ℕ) → k < 20 → Long (theFile (b .files) k)
-  pub wires : length (b .wired .wires) ≡ 2
+  pub many : length (b .files) ≡ fileCount
+  pub long : (k : ℕ) → k < fileCount → Long (theFile (b .files) k)
+  pub wires : length (b .wired .wires) ≡ sourceSetSize
   pub root : DomainShaped (b .wired .root)
   pub child : DomainShaped (b .wired .child)

@@ -9,12 +9,18 @@ use file_calls::register;
 use file_calls::top;
 use hart_calls::reset;
 use hart_calls::signals;
+use sizes::RECORD_SIZE;
 use transfer::make_access;
 use wired_calls::domain_read;
 use wired_calls::domain_write;
 
 // Only a move reads or writes the record.
-pub fn apply(state: &mut [u32], log: &mut [u32], saved: &mut [u64; 10], call: Call) -> Answer
+pub fn apply(
+    state: &mut [u32],
+    log: &mut [u32],
+    saved: &mut [u64; RECORD_SIZE],
+    call: Call,
+) -> Answer
     ensures { λ r. ⌜ Gives (outcome call (now (state .entry)) (now (log .entry)) (now (saved .entry))) r
         (now (state .exit)) (now (log .exit)) (now (saved .exit)) ⌝ }
 {

@@ -13,8 +13,10 @@ use Prim.Native.Nat.{ℕ, zero, suc}
 use mathlib.Core.Bool.{Bool, cond, _&&_, _||_}
 use mathlib.Core.List.{List, []}
 use lib.Dec.{eqb, ltb}
+use Rattle.sizes.specs.Sizes.{hartFiles, firstGuest}
+use Rattle.select.specs.Deliveries.{fromWired}
 use Rattle.words.specs.Bits.{putBit}
-use Rattle.select.specs.Size.{identities}
+use Rattle.sizes.specs.Sizes.{identities}
 use Rattle.file.specs.declared.File.{File}
 use Rattle.file.specs.declared.register.Access.{Access}
 use Rattle.file.specs.declared.register.Access.the-variants.{Read, Write, Set, Clear}
@@ -47,7 +49,7 @@ unfoldable pub signalAt : Board → ℕ → ℕ → Bool
 signalAt b h f =
     let x = theFile (b .files) (fileNumber h f) in
     signals identities x
-    || (ltb f 2 && eqb (x .delivery) 0x40000000 && signalOf (domainIn (b .wired) (eqb f 1)) h)
+    || (ltb f firstGuest && eqb (x .delivery) fromWired && signalOf (domainIn (b .wired) (eqb f 1)) h)
 
 unfoldable pub signalsTo : Board → ℕ → ℕ → ℕ
 signalsTo b h zero = 0
@@ -91,5 +93,5 @@ change (call.Top h f) b s = answering b (topOf identities (theFile (b .files) (f
 change (call.Claim h f) b s =
     let k = fileNumber h f in
     let x = theFile (b .files) k in onFile b k (claimed identities x) (topOf identities x) s
-change (call.Signals h) b s = answering b (signalsTo b h 5) s
+change (call.Signals h) b s = answering b (signalsTo b h hartFiles) s
 change (call.Move oh of nh nf n) b s = moving (acted (actOf n) oh of nh nf b s)

@@ -26,6 +26,7 @@ use mathlib.Core.Bool.{Bool, true, false, cond, not, _&&_, _||_}
 use mathlib.Core.List.{List, [], _∷_, _++_}
 use lib.Dec.{eqb, leb, ltb}
 use lib.ListN.{length}
+use Rattle.sizes.specs.Sizes.{hartCount, hartFiles, firstGuest, domainCount, sourceCount, blockSize, logSize}
 use Rattle.select.specs.Select.{selectLegal}
 use Rattle.region.specs.Region.{addressLegal}
 use Rattle.domain.specs.Domain.{byMessages}
@@ -36,13 +37,13 @@ use Rattle.call.specs.declared.Call.the-variants.{Reset, Wire, DomainRea
 use Rattle.call.specs.declared.Call.the-variants.{PageWrite, Register, Top, Claim, Signals, Move}
 
 unfoldable pub isWire : ℕ → ℕ → Bool
-isWire w level = leb 1 w && leb w 63 && leb level 1
+isWire w level = leb 1 w && leb w sourceCount && leb level 1
 
 unfoldable pub isFile : ℕ → ℕ → Bool
-isFile h f = ltb h 4 && ltb f 5
+isFile h f = ltb h hartCount && ltb f hartFiles
 
 unfoldable pub isGuestFile : ℕ → ℕ → Bool
-isGuestFile h f = ltb h 4 && leb 2 f && ltb f 5
+isGuestFile h f = ltb h hartCount && leb firstGuest f && ltb f hartFiles
 
 unfoldable pub isMove : ℕ → ℕ → ℕ → ℕ → ℕ → Bool
 isMove oh of nh nf n =
@@ -67,14 +68,14 @@ testsRules (Move oh of nh nf n) = true
 unfoldable pub present : Call → Board → Bool
 present Reset b = true
 present (Wire w level) b = isWire w level
-present (DomainRead d a) b = ltb d 2
-present (DomainWrite d a v) b = ltb d 2
+present (DomainRead d a) b = ltb d domainCount
+present (DomainWrite d a v) b = ltb d domainCount
 present (PageRead h f a) b = isFile h f
 present (PageWrite h f a v) b = isFile h f
 present (Register h f k s v) b = isFile h f && ltb k 4
 present (Top h f) b = isFile h f
 present (Claim h f) b = isFile h f
-present (Signals h) b = ltb h 4
+present (Signals h) b = ltb h hartCount
 present (Move oh of nh nf n) b = isMove oh of nh nf n && byMessages (b .wired .child)
 
 unfoldable pub addressed : Call → Bool
@@ -113,8 +114,8 @@ firstFailed (t ∷ ts) = cond (t .passed) (firstFailed ts) (t .number)
 
 unfoldable pub blockTests : Bool → List ℕ → List ℕ → List Test
 blockTests t l g =
-    record { number = 1; passed = eqb (length l) 650 }
-    ∷ record { number = 2; passed = eqb (length g) 63 }
+    record { number = 1; passed = eqb (length l) blockSize }
+    ∷ record { number = 2; passed = eqb (length g) logSize }
     ∷ record { number = 3; passed = not t || boardSound (boardOf l) }
     ∷ []
 

@@ -4,15 +4,17 @@ ghost use mathlib.Core.Bool.{true, false};
 ghost use Rattle.call.specs.Answer.{Refuses};
 ghost use Rattle.call.specs.Refusal.{blockRefusal};
 use super::Answer;
+use sizes::BLOCK_SIZE;
+use sizes::LOG_SIZE;
 
 // Refusal 1 or 2.
 pub fn lengths(state: &[u32], log: &[u32]) -> Answer
     ensures { λ r. ⌜ Refuses r (blockRefusal false (now (state .entry)) (now (log .entry))) ⌝ }
 {
-    if state.len() != 650 {
+    if state.len() != BLOCK_SIZE {
         return Answer::StateLength;
     }
-    if log.len() != 63 {
+    if log.len() != LOG_SIZE {
         return Answer::LogLength;
     }
     Answer::Done(0, 0)

@@ -3,24 +3,29 @@ ghost use mathlib.Core.Path.{_≡_};
 ghost use Rattle.call.specs.Refusal.{isWire, isFile, isGuestFile, isMove, isPageAddress};
 ghost use Rattle.call.specs.Change.{kindOf};
 use file::Access;
+use sizes::FIRST_GUEST;
+use sizes::HART_COUNT;
+use sizes::HART_FILES;
+use sizes::SOURCE_COUNT;
+use transfer_steps::ACCESSES;
 
 pub fn is_wire(wire: u64, level: u64) -> bool
     ensures { λ r. ⌜ r ≡ isWire wire level ⌝ }
 {
-    (1 <= wire) & (wire <= 63) & (level <= 1)
+    (1 <= wire) & (wire <= SOURCE_COUNT as u64) & (level <= 1)
 }
 
 pub fn is_file(hart: u64, file: u64) -> bool
     ensures { λ r. ⌜ r ≡ isFile hart file ⌝ }
 {
-    (hart < 4) & (file < 5)
+    (hart < HART_COUNT as u64) & (file < HART_FILES as u64)
 }
 
 // Files 2 to 4 are the guests'.
 fn is_guest_file(hart: u64, file: u64) -> bool
     ensures { λ r. ⌜ r ≡ isGuestFile hart file ⌝ }
 {
-    (hart < 4) & (2 <= file) & (file < 5)
+    (hart < HART_COUNT as u64) & (FIRST_GUEST as u64 <= file) & (file < HART_FILES as u64)
 }
 
 // Two different guest files, and one of the 89 accesses.
@@ -31,7 +36,7 @@ pub fn is_move(oldhart: u64, oldfile: u64, newhart: u64, newfile: u64, access: u
         & is_guest_file(newhart, newfile)
         & !((oldhart == newhart) & (oldfile == newfile))
         & (1 <= access)
-        & (access <= 89)
+        & (access <= ACCESSES)
 }
 
 // A file's page has 4,096 bytes.

@@ -10,7 +10,7 @@ use mathlib.Core.List.{List, []}
 use lib.ListN.{length, getD, replicate, take, getD-replicate, List·getD-eq-default}
 use Rattle.words.specs.Sets.{WordsFit}
 use Rattle.words.proofs.TestsLaws.{tested, and-both}
-use Rattle.select.specs.Size.{identities}
+use Rattle.sizes.specs.Sizes.{identities}
 use Rattle.file.specs.declared.File.{File}
 use Rattle.file.specs.Shape.{Shaped}
 use Rattle.file_laws.proofs.Keeps.{Rules, rules-of, sound-of}

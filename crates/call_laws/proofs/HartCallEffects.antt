@@ -14,7 +14,7 @@ use borrow.Author.Tests.{lt-ltb, le-ltb, eq-eqb, ne-eqb}
 use Rattle.words.specs.Bits.{hasBit, putBit}
 use Rattle.words.proofs.BitsLaws.{hasBit-putBit-same, hasBit-putBit-other}
 use Rattle.words.proofs.TestsLaws.{tested}
-use Rattle.select.specs.Size.{identities}
+use Rattle.sizes.specs.Sizes.{identities}
 use Rattle.file.specs.declared.File.{File}
 use Rattle.file.specs.Top.{signals}
 use Rattle.files.specs.Files.{fileNumber, theFile}

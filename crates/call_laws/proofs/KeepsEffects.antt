@@ -8,7 +8,7 @@ use native.Mathlib.Omega.{arith}
 use lib.Dec.{eqb, ltb}
 use lib.ListN.{length}
 use Rattle.words.proofs.TestsLaws.{and-first}
-use Rattle.select.specs.Size.{identities}
+use Rattle.sizes.specs.Sizes.{identities}
 use Rattle.file.specs.declared.File.{File}
 use Rattle.file.specs.Page.{pageWritten}
 use Rattle.file.specs.Register.{accessed}

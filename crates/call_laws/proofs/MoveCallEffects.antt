@@ -9,7 +9,7 @@ use lib.Dec.{leb, ltb}
 use lib.ListN.{length, getD, set}
 use borrow.Author.Tests.{ltb-true, leb-true, lt-ltb, le-leb}
 use Rattle.words.proofs.TestsLaws.{and-first, and-second, and-both}
-use Rattle.select.specs.Size.{identities}
+use Rattle.sizes.specs.Sizes.{identities}
 use Rattle.file.specs.declared.File.{File}
 use Rattle.file.specs.declared.register.Access.{Access}
 use Rattle.file.specs.declared.register.Access.the-variants.{Read, Write}
@@ -27,7 +27,8 @@ use Rattle.rules_laws.proofs.WiredEffects.{steady-domainIn}
 use Rattle.rules_laws.specs.Steady.{WiredSteady}
 use Rattle.sending.proofs.SendingLaws.{logged-none}
 use Rattle.transfer_steps.specs.Names.{namesFile, renamed}
-use Rattle.transfer_steps.specs.Steps.{saved, actOf, actWithin}
+use Rattle.sizes.specs.Sizes.{recordSize}
+use Rattle.transfer_steps.specs.Steps.{actOf, actWithin}
 use Rattle.transfer_steps.specs.declared.Act.{Act}
 use Rattle.transfer_steps.specs.declared.Act.the-variants.{Save, Zero, Target, Put}
 use Rattle.block.specs.Block.{Board, boardOf, boardSound}
@@ -88,11 +89,11 @@ module _ (oh of nh nf : ℕ) (w : Wired) (i : ℕ) where
 module _ (a : Act) (within : actWithin a ≡ true) where
   pub save-within : (x p : ℕ) → a ≡ Save x p → p < 10
   unfolding actWithin
-  save-within x p e = ltb-true p saved (rw e at within)
+  save-within x p e = ltb-true p recordSize (rw e at within)
 
   pub put-within : (k : Access) (x p : ℕ) → a ≡ Put k x p → p < 10
   unfolding actWithin
-  put-within k x p e = ltb-true p saved (rw e at within)
+  put-within k x p e = ltb-true p recordSize (rw e at within)
 
   pub target-low : (i : ℕ) → a ≡ Target i → 1 ≤ i
   unfolding actWithin

@@ -9,6 +9,7 @@ use mathlib.Core.Path.{_≡_}
 use mathlib.Core.Bool.{true}
 use mathlib.Core.List.{List}
 use lib.ListN.{length, getD}
+use Rattle.sizes.specs.Sizes.{fileCount, logSize}
 use Rattle.file.specs.Shape.{Shaped}
 use Rattle.files.specs.Files.{theFile}
 use Rattle.block.specs.Block.{Board, boardSound}
@@ -17,7 +18,7 @@ use Rattle.call.specs.Outcome.{Stepped}
 
 pub record Fit (b : Board) : Type 0 where
   pub shaped : BoardShaped b
-  pub files : (k : ℕ) → k < 20 → Shaped (theFile (b .files) k)
+  pub files : (k : ℕ) → k < fileCount → Shaped (theFile (b .files) k)
   pub sound : boardSound b ≡ true
 
 abbrev pub SavedFit : List ℕ → Type 0
@@ -25,5 +26,5 @@ SavedFit s = (k : ℕ) → getD s k 0 < 2 ^ 64
 
 pub record Kept (x : Stepped) : Type 0 where
   pub fit : Fit (x .board)
-  pub few : length (x .messages) ≤ 63
+  pub few : length (x .messages) ≤ logSize
   pub saved : SavedFit (x .saved)

@@ -13,7 +13,7 @@ use Rattle.words.specs.Bits.{union}
 use Rattle.words.specs.Sets.{member}
 use Rattle.words.proofs.TestsLaws.{tested, and-first, and-second, and-both, not-same}
 use Rattle.select.specs.declared.Register.the-variants.{Delivery, Pending, Enable}
-use Rattle.select.specs.Size.{identities}
+use Rattle.sizes.specs.Sizes.{identities}
 use Rattle.select.specs.Halves.{doubleword}
 use Rattle.select.proofs.DeliveriesLaws.{legal-switch, legal-other}
 use Rattle.select.proofs.SelectLaws.{legal-named, register-delivery}

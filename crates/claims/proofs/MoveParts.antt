@@ -17,7 +17,7 @@ use Rattle.words.proofs.BitsLaws.{hasBit-nothing, hasBit-union}
 use Rattle.words.proofs.PartsLaws.{joined-lt}
 use Rattle.words.proofs.TestsLaws.{tested}
 use Rattle.select.specs.declared.Register.the-variants.{Pending, Enable}
-use Rattle.select.specs.Size.{identities}
+use Rattle.sizes.specs.Sizes.{identities}
 use Rattle.select.specs.Halves.{doubleword}
 use Rattle.file.specs.declared.File.{File}
 use Rattle.file.specs.Register.{written}

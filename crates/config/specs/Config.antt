@@ -8,6 +8,8 @@
 use Prim.Native.Nat.{ℕ, zero, suc}
 use mathlib.Core.Bool.{Bool·beq, cond}
 use mathlib.Core.List.{List}
+use Rattle.sizes.specs.Sizes.{sourceCount}
+use Rattle.domain.specs.Domain.{ieBit, dmBit}
 use Rattle.words.specs.Parts.{fieldOf, packed}
 use Rattle.words.specs.Sets.{member}
 use Rattle.source.specs.Pending.{redelivered}
@@ -15,7 +17,7 @@ use Rattle.domain.specs.Domain.{Domain, byMessages, withConfig, withGenerated}
 use Rattle.domain.specs.Slot.{sourceAt, withSource}
 
 unfoldable pub keptConfig : ℕ → ℕ
-keptConfig v = packed (fieldOf v 8 1) 8 (packed (fieldOf v 2 1) 2 0)
+keptConfig v = packed (fieldOf v ieBit 1) ieBit (packed (fieldOf v dmBit 1) dmBit 0)
 
 unfoldable pub redeliveredAt : Domain → List ℕ → ℕ → Domain
 redeliveredAt d ws i = withSource d i (redelivered (sourceAt d i) (byMessages d) (member ws i))
@@ -27,7 +29,7 @@ redeliveredFrom d ws i (suc n) = redeliveredFrom (redeliveredAt d ws i) ws (suc 
 -- e is d with the new domaincfg word
 unfoldable pub modeSettled : Domain → Domain → List ℕ → Domain
 modeSettled d e ws =
-    cond (Bool·beq (byMessages d) (byMessages e)) e (redeliveredFrom (withGenerated e 0) ws 1 63)
+    cond (Bool·beq (byMessages d) (byMessages e)) e (redeliveredFrom (withGenerated e 0) ws 1 sourceCount)
 
 unfoldable pub configWritten : Domain → List ℕ → ℕ → Domain
 configWritten d ws v = modeSettled d (withConfig d (keptConfig v)) ws

@@ -3,6 +3,7 @@ ghost use mathlib.Core.Path.{_≡_};
 ghost use mathlib.Core.Bool.{true};
 ghost use Prim.Native.Nat.{_≤_, _<_};
 ghost use lib.ListN.{length};
+ghost use Rattle.sizes.specs.Sizes.{slotCount, wiredSize, logSize};
 ghost use Rattle.region.specs.Region.{Within};
 ghost use Rattle.wires.specs.Wires.{wiredOf, domainIn};
 ghost use Rattle.wired.specs.Wired.{readIn};
@@ -15,10 +16,13 @@ use genmsi::send_generated;
 use region::Role;
 use region::Word;
 use region::role_of;
+use sizes::CHILD_PLACE;
+use sizes::ROOT_PLACE;
+use sizes::WIRED_SIZE;
 
 // Answers the number of messages.
 pub fn set_wire(w: &mut [u32], log: &mut [u32], i: usize, level: bool) -> usize
-    requires { ⌜ (length (now w) ≡ 290) × (length (now log) ≡ 63) × (1 ≤ i) × (i < 64)
+    requires { ⌜ (length (now w) ≡ wiredSize) × (length (now log) ≡ logSize) × (1 ≤ i) × (i < slotCount)
         × (wiredSound (wiredOf (now w)) ≡ true) ⌝ }
     ensures { λ r. ⌜ Leaves (wireCall (wiredOf (now (w .entry))) i level) (wiredOf (now (w .exit)))
         (now (log .entry)) (now (log .exit)) r ⌝ }
@@ -29,7 +33,7 @@ pub fn set_wire(w: &mut [u32], log: &mut [u32], i: usize, level: bool) -> usize
 
 // Nothing is sent: a claim can only clear a pending bit.
 pub fn read(w: &mut [u32], child: bool, word: Word) -> u32
-    requires { ⌜ (length (now w) ≡ 290) × Within word × (wiredSound (wiredOf (now w)) ≡ true) ⌝ }
+    requires { ⌜ (length (now w) ≡ wiredSize) × Within word × (wiredSound (wiredOf (now w)) ≡ true) ⌝ }
     ensures { λ r. ⌜ (r ≡ readIn (wiredOf (now (w .entry))) child word)
         × (wiredOf (now (w .exit)) ≡ readCall (wiredOf (now (w .entry))) child word .wired) ⌝ }
 {
@@ -38,7 +42,7 @@ pub fn read(w: &mut [u32], child: bool, word: Word) -> u32
 
 // The message of a write to genmsi, which is sent at once.
 fn generate(w: &[u32], log: &mut [u32], child: bool, word: Word, value: u32) -> usize
-    requires { ⌜ (length (now w) ≡ 290) × (length (now log) ≡ 63) ⌝ }
+    requires { ⌜ (length (now w) ≡ wiredSize) × (length (now log) ≡ logSize) ⌝ }
     ensures { λ r.
         ⌜ (now (log .exit) ≡ logged (now (log .entry))
         (generatedBy child (domainIn (wiredOf (now (w .entry))) child) word value))
@@ -48,14 +52,14 @@ fn generate(w: &[u32], log: &mut [u32], child: bool, word: Word, value: u32) -> 
         return 0;
     };
     if child {
-        return send_generated(&w[146..290], true, value, log);
+        return send_generated(&w[CHILD_PLACE..WIRED_SIZE], true, value, log);
     }
-    send_generated(&w[2..146], false, value, log)
+    send_generated(&w[ROOT_PLACE..CHILD_PLACE], false, value, log)
 }
 
 // Answers the number of messages. That of a genmsi is the only one of its call.
 pub fn write(w: &mut [u32], log: &mut [u32], child: bool, word: Word, value: u32) -> usize
-    requires { ⌜ (length (now w) ≡ 290) × (length (now log) ≡ 63) × Within word
+    requires { ⌜ (length (now w) ≡ wiredSize) × (length (now log) ≡ logSize) × Within word
         × (wiredSound (wiredOf (now w)) ≡ true) ⌝ }
     ensures { λ r. ⌜ Leaves (writeCall (wiredOf (now (w .entry))) child word value) (wiredOf (now (w .exit)))
         (now (log .entry)) (now (log .exit)) r ⌝ }

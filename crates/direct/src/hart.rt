@@ -2,6 +2,7 @@
 ghost use mathlib.Core.Path.{_≡_};
 ghost use Prim.Native.Nat.{_<_};
 ghost use lib.ListN.{length};
+ghost use Rattle.sizes.specs.Sizes.{hartCount, slotCount, domainSize};
 ghost use Rattle.domain.specs.Domain.{domainOf};
 ghost use Rattle.direct.specs.Direct.{topiOf, unforced, released, hartClaimed, signalOf};
 use domain::by_messages;
@@ -16,7 +17,7 @@ use top::topi_word;
 
 // A claim with no top clears iforce.
 fn unforce(part: &mut [u32], h: usize)
-    requires { ⌜ (length (now part) ≡ 144) × (h < 4) ⌝ }
+    requires { ⌜ (length (now part) ≡ domainSize) × (h < hartCount) ⌝ }
     ensures { λ r. ⌜ domainOf (now (part .exit)) ≡ unforced (domainOf (now (part .entry))) h ⌝ }
 {
     let x = load_structure(part, h);
@@ -25,7 +26,7 @@ fn unforce(part: &mut [u32], h: usize)
 
 // A claim of source `i` clears its pending bit, unless a level source keeps it.
 fn release(part: &mut [u32], i: usize)
-    requires { ⌜ (length (now part) ≡ 144) × (i < 64) ⌝ }
+    requires { ⌜ (length (now part) ≡ domainSize) × (i < slotCount) ⌝ }
     ensures { λ r. ⌜ domainOf (now (part .exit)) ≡ released (domainOf (now (part .entry))) i ⌝ }
 {
     let s = load(part, i);
@@ -33,7 +34,7 @@ fn release(part: &mut [u32], i: usize)
 }
 
 pub fn claim(part: &mut [u32], h: usize) -> u32
-    requires { ⌜ (length (now part) ≡ 144) × (h < 4) ⌝ }
+    requires { ⌜ (length (now part) ≡ domainSize) × (h < hartCount) ⌝ }
     ensures { λ r. ⌜ (r ≡ topiOf (domainOf (now (part .entry))) h)
         × (domainOf (now (part .exit)) ≡ hartClaimed (domainOf (now (part .entry))) h) ⌝ }
 {
@@ -52,7 +53,7 @@ pub fn claim(part: &mut [u32], h: usize) -> u32
 
 // The search for the top is made only where a top would raise the signal.
 pub fn signal(part: &[u32], h: usize) -> bool
-    requires { ⌜ (length (now part) ≡ 144) × (h < 4) ⌝ }
+    requires { ⌜ (length (now part) ≡ domainSize) × (h < hartCount) ⌝ }
     ensures { λ r. ⌜ r ≡ signalOf (domainOf (now (part .entry))) h ⌝ }
 {
     if by_messages(part) {

@@ -2,6 +2,7 @@
 ghost use mathlib.Core.Path.{_≡_};
 ghost use Prim.Native.Nat.{_<_};
 ghost use lib.ListN.{length};
+ghost use Rattle.sizes.specs.Sizes.{hartCount, domainSize};
 ghost use Rattle.domain.specs.Domain.{domainOf};
 ghost use Rattle.direct.specs.Direct.{numberAt, writtenAt, settingOf, settingWritten};
 use super::Setting;
@@ -31,7 +32,7 @@ fn written_at(x: Delivery, which: Setting, value: u32) -> Delivery
 }
 
 pub fn setting_of(part: &[u32], h: usize, which: Setting) -> u32
-    requires { ⌜ (length (now part) ≡ 144) × (h < 4) ⌝ }
+    requires { ⌜ (length (now part) ≡ domainSize) × (h < hartCount) ⌝ }
     ensures { λ r. ⌜ r ≡ settingOf (domainOf (now (part .entry))) h which ⌝ }
 {
     if by_messages(part) {
@@ -41,7 +42,7 @@ pub fn setting_of(part: &[u32], h: usize, which: Setting) -> u32
 }
 
 pub fn put_setting(part: &mut [u32], h: usize, which: Setting, value: u32)
-    requires { ⌜ (length (now part) ≡ 144) × (h < 4) ⌝ }
+    requires { ⌜ (length (now part) ≡ domainSize) × (h < hartCount) ⌝ }
     ensures { λ r. ⌜ domainOf (now (part .exit))
         ≡ settingWritten (domainOf (now (part .entry))) h which value ⌝ }
 {

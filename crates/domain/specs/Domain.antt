@@ -2,6 +2,7 @@
 --   Domain                 source: domaincfg, then sourcecfg[1] to [63]; target: genmsi, then target[1] to
 --                          [63]; pending, enable: sets of sources; delivery: three numbers of each hart
 --   domainOf l             the domain whose 144 words are l
+--   ieBit, dmBit           where domaincfg has IE and DM
 --   configOf d             the stored domaincfg: IE at bit 8, DM at bit 2
 --   isEnabled d            IE
 --   byMessages d           DM: true by messages, false direct
@@ -11,6 +12,8 @@ use Prim.Native.Nat.{ℕ}
 use mathlib.Core.Bool.{Bool}
 use mathlib.Core.List.{List}
 use lib.ListN.{getD, take, drop, set}
+use Rattle.sizes.specs.Sizes.{slotCount, sourceSetSize, structuresSize, targetsPlace, pendingsPlace}
+use Rattle.sizes.specs.Sizes.{enablesPlace, structuresPlace}
 use Rattle.words.specs.Bits.{hasBit}
 
 pub record Domain : Type 0 where
@@ -23,21 +26,27 @@ pub record Domain : Type 0 where
 unfoldable pub domainOf : List ℕ → Domain
 domainOf l =
     record {
-      source = take 64 l;
-      target = take 64 (drop 64 l);
-      pending = take 2 (drop 128 l);
-      enable = take 2 (drop 130 l);
-      delivery = take 12 (drop 132 l);
+      source = take slotCount l;
+      target = take slotCount (drop targetsPlace l);
+      pending = take sourceSetSize (drop pendingsPlace l);
+      enable = take sourceSetSize (drop enablesPlace l);
+      delivery = take structuresSize (drop structuresPlace l);
     }
+
+abbrev pub ieBit : ℕ
+ieBit = 8
+
+abbrev pub dmBit : ℕ
+dmBit = 2
 
 unfoldable pub configOf : Domain → ℕ
 configOf d = getD (d .source) 0 0
 
 unfoldable pub isEnabled : Domain → Bool
-isEnabled d = hasBit (configOf d) 8
+isEnabled d = hasBit (configOf d) ieBit
 
 unfoldable pub byMessages : Domain → Bool
-byMessages d = hasBit (configOf d) 2
+byMessages d = hasBit (configOf d) dmBit
 
 unfoldable pub generatedAt : Domain → ℕ
 generatedAt d = getD (d .target) 0 0

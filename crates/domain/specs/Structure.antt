@@ -4,18 +4,20 @@
 --   withStructure d h x    d with hart h's numbers as x
 use Prim.Native.Nat.{ℕ, _+_, _*_}
 use lib.ListN.{getD, set}
+use Rattle.sizes.specs.Sizes.{structureSize}
 use Rattle.delivery.specs.declared.Delivery.{Delivery}
 use Rattle.domain.specs.Domain.{Domain, withDeliveries}
 
 unfoldable pub structureAt : Domain → ℕ → Delivery
 structureAt d h =
     record {
-      idelivery = getD (d .delivery) (3 * h) 0;
-      iforce = getD (d .delivery) (3 * h + 1) 0;
-      ithreshold = getD (d .delivery) (3 * h + 2) 0;
+      idelivery = getD (d .delivery) (structureSize * h) 0;
+      iforce = getD (d .delivery) (structureSize * h + 1) 0;
+      ithreshold = getD (d .delivery) (structureSize * h + 2) 0;
     }
 
 unfoldable pub withStructure : Domain → ℕ → Delivery → Domain
 withStructure d h x =
     withDeliveries d
-    (set (set (set (d .delivery) (3 * h) (x .idelivery)) (3 * h + 1) (x .iforce)) (3 * h + 2) (x .ithreshold))
+    (set (set (set (d .delivery) (structureSize * h) (x .idelivery)) (structureSize * h + 1) (x .iforce))
+    (structureSize * h + 2) (x .ithreshold))

@@ -15,3 +15,8 @@ pub use slot::load;
 pub use slot::store;
 pub use structure::load_structure;
 pub use structure::store_structure;
+
+// IE and DM of domaincfg.
+pub const IE_BIT: u32 = 8;
+
+pub const DM_BIT: u32 = 2;

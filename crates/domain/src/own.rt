@@ -2,11 +2,17 @@
 ghost use mathlib.Core.Path.{_≡_};
 ghost use Prim.Native.Nat.{_<_};
 ghost use lib.ListN.{length, getD};
+ghost use Rattle.sizes.specs.Sizes.{sourceSetSize, domainSize};
 ghost use Rattle.domain.specs.Domain.{domainOf, configOf, generatedAt, isEnabled, byMessages};
 ghost use Rattle.domain.specs.Domain.{withConfig, withGenerated};
+use super::DM_BIT;
+use super::IE_BIT;
+use sizes::ENABLES_PLACE;
+use sizes::PENDINGS_PLACE;
+use sizes::TARGETS_PLACE;
 
 pub fn config(part: &[u32]) -> u32
-    requires { ⌜ length (now part) ≡ 144 ⌝ }
+    requires { ⌜ length (now part) ≡ domainSize ⌝ }
     ensures { λ r. ⌜ r ≡ configOf (domainOf (now (part .entry))) ⌝ }
 {
     part[0]
@@ -14,51 +20,51 @@ pub fn config(part: &[u32]) -> u32
 
 // IE: the domain signals and sends.
 pub fn enabled(part: &[u32]) -> bool
-    requires { ⌜ length (now part) ≡ 144 ⌝ }
+    requires { ⌜ length (now part) ≡ domainSize ⌝ }
     ensures { λ r. ⌜ r ≡ isEnabled (domainOf (now (part .entry))) ⌝ }
 {
-    words::has_bit(part[0], 8)
+    words::has_bit(part[0], IE_BIT)
 }
 
 // DM: false is direct delivery, true by messages.
 pub fn by_messages(part: &[u32]) -> bool
-    requires { ⌜ length (now part) ≡ 144 ⌝ }
+    requires { ⌜ length (now part) ≡ domainSize ⌝ }
     ensures { λ r. ⌜ r ≡ byMessages (domainOf (now (part .entry))) ⌝ }
 {
-    words::has_bit(part[0], 2)
+    words::has_bit(part[0], DM_BIT)
 }
 
 pub fn generated(part: &[u32]) -> u32
-    requires { ⌜ length (now part) ≡ 144 ⌝ }
+    requires { ⌜ length (now part) ≡ domainSize ⌝ }
     ensures { λ r. ⌜ r ≡ generatedAt (domainOf (now (part .entry))) ⌝ }
 {
-    part[64]
+    part[TARGETS_PLACE]
 }
 
 pub fn put_config(part: &mut [u32], value: u32)
-    requires { ⌜ length (now part) ≡ 144 ⌝ }
+    requires { ⌜ length (now part) ≡ domainSize ⌝ }
     ensures { λ r. ⌜ domainOf (now (part .exit)) ≡ withConfig (domainOf (now (part .entry))) value ⌝ }
 {
     part[0] = value;
 }
 
 pub fn put_generated(part: &mut [u32], value: u32)
-    requires { ⌜ length (now part) ≡ 144 ⌝ }
+    requires { ⌜ length (now part) ≡ domainSize ⌝ }
     ensures { λ r. ⌜ domainOf (now (part .exit)) ≡ withGenerated (domainOf (now (part .entry))) value ⌝ }
 {
-    part[64] = value;
+    part[TARGETS_PLACE] = value;
 }
 
 pub fn pending_word(part: &[u32], k: usize) -> u32
-    requires { ⌜ (length (now part) ≡ 144) × (k < 2) ⌝ }
+    requires { ⌜ (length (now part) ≡ domainSize) × (k < sourceSetSize) ⌝ }
     ensures { λ r. ⌜ r ≡ getD (domainOf (now (part .entry)) .pending) k 0 ⌝ }
 {
-    part[128 + k]
+    part[PENDINGS_PLACE + k]
 }
 
 pub fn enable_word(part: &[u32], k: usize) -> u32
-    requires { ⌜ (length (now part) ≡ 144) × (k < 2) ⌝ }
+    requires { ⌜ (length (now part) ≡ domainSize) × (k < sourceSetSize) ⌝ }
     ensures { λ r. ⌜ r ≡ getD (domainOf (now (part .entry)) .enable) k 0 ⌝ }
 {
-    part[130 + k]
+    part[ENABLES_PLACE + k]
 }

@@ -5,6 +5,7 @@
 --   Touched d d′ f       the same where domaincfg and genmsi stay
 use Prim.Native.Nat.{ℕ, _≤_, _<_}
 use mathlib.Core.Path.{_≡_}
+use Rattle.sizes.specs.Sizes.{slotCount}
 use Rattle.words.specs.Sets.{member}
 use Rattle.source.specs.declared.Source.{Source}
 use Rattle.domain.specs.Domain.{Domain, configOf, generatedAt}
@@ -16,7 +17,7 @@ pub record Became (d d′ : Domain) (w g : ℕ) (f : ℕ → Source → Source) 
   pub shaped : DomainShaped d′
   pub config : configOf d′ ≡ w
   pub generated : generatedAt d′ ≡ g
-  pub source : (j : ℕ) → 1 ≤ j → j < 64 → sourceAt d′ j ≡ f j (sourceAt d j)
+  pub source : (j : ℕ) → 1 ≤ j → j < slotCount → sourceAt d′ j ≡ f j (sourceAt d j)
   pub structure : (h : ℕ) → structureAt d′ h ≡ structureAt d h
   pub pending-zero : member (d′ .pending) 0 ≡ member (d .pending) 0
   pub enable-zero : member (d′ .enable) 0 ≡ member (d .enable) 0

@@ -4,11 +4,12 @@
 --               each of four harts
 use mathlib.Core.Path.{_≡_}
 use lib.ListN.{length}
+use Rattle.sizes.specs.Sizes.{slotCount, sourceSetSize, structuresSize}
 use Rattle.domain.specs.Domain.{Domain}
 
 pub record DomainShaped (d : Domain) : Type 0 where
-  pub sources : length (d .source) ≡ 64
-  pub targets : length (d .target) ≡ 64
-  pub pendings : length (d .pending) ≡ 2
-  pub enables : length (d .enable) ≡ 2
-  pub deliveries : length (d .delivery) ≡ 12
+  pub sources : length (d .source) ≡ slotCount
+  pub targets : length (d .target) ≡ slotCount
+  pub pendings : length (d .pending) ≡ sourceSetSize
+  pub enables : length (d .enable) ≡ sourceSetSize
+  pub deliveries : length (d .delivery) ≡ structuresSize

@@ -3,13 +3,14 @@
 use Prim.Native.Nat.{_^_, _<_}
 use mathlib.Core.Path.{_≡_}
 use lib.ListN.{length}
+use Rattle.sizes.specs.Sizes.{fileSetSize}
 use Rattle.words.specs.Sets.{WordsFit}
 use Rattle.file.specs.declared.File.{File}
 
 pub record Shaped (f : File) : Type 0 where
   pub deliveryFit : f .delivery < 2 ^ 32
   pub thresholdFit : f .threshold < 2 ^ 32
-  pub pendingLong : length (f .pending) ≡ 8
+  pub pendingLong : length (f .pending) ≡ fileSetSize
   pub pendingFit : WordsFit (f .pending)
-  pub enableLong : length (f .enable) ≡ 8
+  pub enableLong : length (f .enable) ≡ fileSetSize
   pub enableFit : WordsFit (f .enable)

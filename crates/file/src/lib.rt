@@ -7,11 +7,12 @@ mod top;
 pub use register::Access;
 pub use register::Accessed;
 pub use register::Reply;
+use sizes::FILE_SET_SIZE;
 pub use top::Claimed;
 
 pub struct File {
     pub delivery: u32,
     pub threshold: u32,
-    pub pending: [u32; 8],
-    pub enable: [u32; 8],
+    pub pending: [u32; FILE_SET_SIZE],
+    pub enable: [u32; FILE_SET_SIZE],
 }

@@ -1,8 +1,9 @@
 // A file's page: what a message write does to the file, and what a read gives.
 ghost use mathlib.Core.Path.{_≡_};
 ghost use Rattle.file.specs.Page.{arrived, pageWritten, pageRead};
-ghost use Rattle.select.specs.Size.{identities};
+ghost use Rattle.sizes.specs.Sizes.{identities};
 use super::File;
+use sizes::IDENTITIES;
 
 impl File {
     // A message arrives: its identity becomes pending, whatever delivery is.
@@ -12,7 +13,7 @@ impl File {
         if identity < 1 {
             return self;
         }
-        if 255 < identity {
+        if IDENTITIES < identity {
             return self;
         }
         let at = (identity / 32) as usize;

@@ -1,7 +1,7 @@
 // Access to a file's registers by select number: read, write, set bits, clear bits.
 ghost use mathlib.Core.Path.{_≡_};
 ghost use Rattle.file.specs.Register.{held, written, accessed};
-ghost use Rattle.select.specs.Size.{identities};
+ghost use Rattle.sizes.specs.Sizes.{identities};
 use super::File;
 use select::Register;
 use select::delivery_legal;

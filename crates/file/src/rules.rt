@@ -1,9 +1,10 @@
 // A file's own state rules.
 ghost use mathlib.Core.Path.{_≡_};
 ghost use Rattle.file.specs.Rules.{fileSound};
-ghost use Rattle.select.specs.Size.{identities};
+ghost use Rattle.sizes.specs.Sizes.{identities};
 use super::File;
 use select::delivery_legal;
+use sizes::IDENTITIES;
 
 impl File {
     pub fn sound(self, guest: bool) -> bool
@@ -12,7 +13,7 @@ impl File {
         if !delivery_legal(guest, self.delivery as u64) {
             return false;
         }
-        if 255 < self.threshold {
+        if IDENTITIES < self.threshold {
             return false;
         }
         if words::has_bit(self.pending[0], 0) {

@@ -1,9 +1,13 @@
 // A file's top interrupt, its claim, and its signal to the hart.
 ghost use mathlib.Core.Path.{_≡_};
 ghost use Prim.Native.Nat.{_<_};
-ghost use Rattle.select.specs.Size.{identities};
+ghost use Rattle.sizes.specs.Sizes.{identities};
 ghost use Rattle.file.specs.Top.{qualifies, topIdentity, topOf, claimed, signals};
 use super::File;
+use sizes::IDENTITIES;
+
+// One past the last identity.
+const END: u32 = IDENTITIES + 1;
 
 pub struct Claimed {
     pub top: u32,
@@ -34,7 +38,7 @@ impl File {
         ensures { λ r. ⌜ r ≡ topIdentity identities self ⌝ }
     {
         let mut i: u32 = 1;
-        while i < 256 {
+        while i < END {
             if self.qualifies(i) {
                 return i;
             }

@@ -7,6 +7,7 @@ use super::one::store_file;
 use super::one::value_of;
 use call::Answer;
 use call::check;
+use sizes::FIRST_GUEST;
 
 // The kind is 0 for read, 1 for write, 2 for set bits, 3 for clear bits.
 pub fn register(
@@ -32,7 +33,12 @@ pub fn register(
         return Answer::IllegalSelect;
     }
     let f = load_file(state, hart, file);
-    let done = f.access(2 <= file, call::kind_of(kind), select, value);
+    let done = f.access(
+        FIRST_GUEST as u64 <= file,
+        call::kind_of(kind),
+        select,
+        value,
+    );
     let answer = done.answer;
     store_file(state, hart, file, done.file);
     Answer::Done(value_of(answer), 0)

@@ -3,6 +3,7 @@ ghost use mathlib.Core.Path.{_≡_};
 ghost use mathlib.Core.Bool.{true, _&&_};
 ghost use lib.Dec.{ltb};
 ghost use lib.ListN.{length};
+ghost use Rattle.sizes.specs.Sizes.{blockSize};
 ghost use Rattle.file.specs.Reply.{replyValue};
 ghost use Rattle.files.specs.Files.{fileNumber, theFile, withFile};
 ghost use Rattle.block.specs.Block.{boardOf};
@@ -10,6 +11,8 @@ ghost use Rattle.call.specs.Refusal.{isFile};
 use call::is_file;
 use file::File;
 use file::Reply;
+use sizes::FILES_SIZE;
+use sizes::HART_FILES;
 
 // There is such a file, and such a kind of access.
 pub fn is_access(hart: u64, file: u64, kind: u64) -> bool
@@ -19,21 +22,28 @@ pub fn is_access(hart: u64, file: u64, kind: u64) -> bool
 }
 
 pub fn load_file(state: &[u32], hart: u64, file: u64) -> File
-    requires { ⌜ (length (now state) ≡ 650) × (isFile hart file ≡ true) ⌝ }
+    requires { ⌜ (length (now state) ≡ blockSize) × (isFile hart file ≡ true) ⌝ }
     ensures { λ r. ⌜ r ≡ theFile (boardOf (now (state .entry)) .files) (fileNumber hart file) ⌝ }
 {
-    files::load(&state[0..360], (5 * hart + file) as usize)
+    files::load(
+        &state[0..FILES_SIZE],
+        (HART_FILES as u64 * hart + file) as usize,
+    )
 }
 
 pub fn store_file(state: &mut [u32], hart: u64, file: u64, f: File)
-    requires { ⌜ (length (now state) ≡ 650) × (isFile hart file ≡ true) ⌝ }
+    requires { ⌜ (length (now state) ≡ blockSize) × (isFile hart file ≡ true) ⌝ }
     ensures { λ r. ⌜ boardOf (now (state .exit))
         ≡ record {
           files = withFile (boardOf (now (state .entry)) .files) (fileNumber hart file) f;
           wired = boardOf (now (state .entry)) .wired;
         } ⌝ }
 {
-    files::store(&mut state[0..360], (5 * hart + file) as usize, f);
+    files::store(
+        &mut state[0..FILES_SIZE],
+        (HART_FILES as u64 * hart + file) as usize,
+        f,
+    );
 }
 
 // The value that a register access answers, 0 for an illegal one.

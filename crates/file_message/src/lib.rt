@@ -1,10 +1,11 @@
 // A message as a word of the log: made of hart, file and identity, and taken apart again.
 ghost use mathlib.Core.Path.{_≡_};
 ghost use Prim.Native.Nat.{_<_};
+ghost use Rattle.sizes.specs.Sizes.{hartCount};
 ghost use Rattle.file_message.specs.Message.{logWord, hartIn, fileIn, identityIn};
 
 pub fn log_word(hart: u32, file: u32, identity: u32) -> u32
-    requires { ⌜ (hart < 4) × (file < 8) × (identity < 256) ⌝ }
+    requires { ⌜ (hart < hartCount) × (file < 8) × (identity < 256) ⌝ }
     ensures { λ r. ⌜ r ≡ logWord hart file identity ⌝ }
 {
     words::packed32(hart, 11, words::packed32(file, 8, identity))

@@ -18,8 +18,9 @@ use mathlib.Core.Bool.{Bool}
 use mathlib.Core.List.{List, [], _∷_, _++_}
 use lib.Dec.{leb}
 use lib.ListN.{getD, set, replicate}
+use Rattle.sizes.specs.Sizes.{hartFiles, firstGuest, fileCount, fileSetSize, fileSize}
 use Rattle.words.specs.Every.{every}
-use Rattle.select.specs.Size.{identities}
+use Rattle.sizes.specs.Sizes.{identities}
 use Rattle.file_message.specs.Message.{hartIn, fileIn, identityIn}
 use Rattle.file.specs.declared.File.{File}
 use Rattle.file.specs.Page.{arrived}
@@ -27,20 +28,26 @@ use Rattle.file.specs.Rules.{fileSound}
 use Rattle.stored.specs.Stored.{fileWords, fileAt}
 
 unfoldable pub fileNumber : ℕ → ℕ → ℕ
-fileNumber h f = 5 * h + f
+fileNumber h f = hartFiles * h + f
 
 unfoldable pub isGuest : ℕ → Bool
-isGuest k = leb 2 (k % 5)
+isGuest k = leb firstGuest (k % hartFiles)
 
 unfoldable pub zeroFile : File
-zeroFile = record { delivery = 0; threshold = 0; pending = replicate 8 0; enable = replicate 8 0 }
+zeroFile = record {
+  delivery = 0;
+  threshold = 0;
+  pending = replicate fileSetSize 0;
+  enable = replicate
+      fileSetSize 0;
+}
 
 unfoldable pub filesFrom : List ℕ → ℕ → ℕ → List File
 filesFrom l k zero = []
-filesFrom l k (suc n) = fileAt l (18 * k) ∷ filesFrom l (suc k) n
+filesFrom l k (suc n) = fileAt l (fileSize * k) ∷ filesFrom l (suc k) n
 
 unfoldable pub filesOf : List ℕ → List File
-filesOf l = filesFrom l 0 20
+filesOf l = filesFrom l 0 fileCount
 
 unfoldable pub wordsOf : List File → List ℕ
 wordsOf [] = []
@@ -63,10 +70,10 @@ allReached fs [] = fs
 allReached fs (m ∷ ms) = allReached (reached fs m) ms
 
 unfoldable pub Named : List ℕ → ℕ → Type 0
-Named l n = (k : ℕ) → k < n → fileIn (getD l k 0) < 5
+Named l n = (k : ℕ) → k < n → fileIn (getD l k 0) < hartFiles
 
 unfoldable pub soundAt : List File → ℕ → Bool
 soundAt fs k = fileSound identities (isGuest k) (theFile fs k)
 
 unfoldable pub filesSound : List File → Bool
-filesSound fs = every (soundAt fs) 0 20
+filesSound fs = every (soundAt fs) 0 fileCount

@@ -2,42 +2,47 @@
 ghost use mathlib.Core.Path.{_≡_};
 ghost use Prim.Native.Nat.{_<_};
 ghost use lib.ListN.{length};
+ghost use Rattle.sizes.specs.Sizes.{fileCount, filesSize};
 ghost use Rattle.files.specs.Files.{filesOf, theFile, withFile, soundAt, filesSound};
 use file::File;
+use sizes::FILE_COUNT;
+use sizes::FILE_SIZE;
+use sizes::FIRST_GUEST;
+use sizes::HART_FILES;
 
 mod messages;
 
 pub use messages::deliver;
 
 pub fn load(files: &[u32], k: usize) -> File
-    requires { ⌜ (length (now files) ≡ 360) × (k < 20) ⌝ }
+    requires { ⌜ (length (now files) ≡ filesSize) × (k < fileCount) ⌝ }
     ensures { λ r. ⌜ r ≡ theFile (filesOf (now (files .entry))) k ⌝ }
 {
-    stored::load(files, 18 * k)
+    stored::load(files, FILE_SIZE * k)
 }
 
 pub fn store(files: &mut [u32], k: usize, f: File)
-    requires { ⌜ (length (now files) ≡ 360) × (k < 20) ⌝ }
+    requires { ⌜ (length (now files) ≡ filesSize) × (k < fileCount) ⌝ }
     ensures { λ r. ⌜ filesOf (now (files .exit)) ≡ withFile (filesOf (now (files .entry))) k f ⌝ }
 {
-    stored::store(files, 18 * k, f);
+    stored::store(files, FILE_SIZE * k, f);
 }
 
 fn file_sound(files: &[u32], k: usize) -> bool
-    requires { ⌜ (length (now files) ≡ 360) × (k < 20) ⌝ }
+    requires { ⌜ (length (now files) ≡ filesSize) × (k < fileCount) ⌝ }
     ensures { λ r. ⌜ r ≡ soundAt (filesOf (now (files .entry))) k ⌝ }
 {
     let f = load(files, k);
-    f.sound(2 <= k % 5)
+    f.sound(FIRST_GUEST <= k % HART_FILES)
 }
 
 pub fn sound(files: &[u32]) -> bool
-    requires { ⌜ length (now files) ≡ 360 ⌝ }
+    requires { ⌜ length (now files) ≡ filesSize ⌝ }
     ensures { λ r. ⌜ r ≡ filesSound (filesOf (now (files .entry))) ⌝ }
 {
     let mut sound = true;
     let mut k: usize = 0;
-    while k < 20 {
+    while k < FILE_COUNT {
         sound = sound & file_sound(files, k);
         k += 1;
     }

@@ -2,6 +2,7 @@
 ghost use mathlib.Core.Path.{_≡_};
 ghost use Prim.Native.Nat.{_≤_, _<_};
 ghost use lib.ListN.{length, take};
+ghost use Rattle.sizes.specs.Sizes.{hartFiles, filesSize, logSize};
 ghost use Rattle.file_message.specs.Message.{fileIn};
 ghost use Rattle.files.specs.Files.{filesOf, reached, allReached, Named};
 use super::load;
@@ -9,21 +10,22 @@ use super::store;
 use file_message::file_in;
 use file_message::hart_in;
 use file_message::identity_in;
+use sizes::HART_FILES;
 
 fn deliver_one(files: &mut [u32], word: u32)
-    requires { ⌜ (length (now files) ≡ 360) × (fileIn word < 5) ⌝ }
+    requires { ⌜ (length (now files) ≡ filesSize) × (fileIn word < hartFiles) ⌝ }
     ensures { λ r. ⌜ filesOf (now (files .exit)) ≡ reached (filesOf (now (files .entry))) word ⌝ }
 {
     let hart = hart_in(word) as usize;
     let file = file_in(word) as usize;
-    let k = 5 * hart + file;
+    let k = HART_FILES * hart + file;
     let f = load(files, k);
     store(files, k, f.arrive(identity_in(word)));
 }
 
 // The first `count` messages of `log` reach their files, in order.
 pub fn deliver(files: &mut [u32], log: &[u32], count: usize)
-    requires { ⌜ (length (now files) ≡ 360) × (length (now log) ≡ 63) × (count ≤ 63)
+    requires { ⌜ (length (now files) ≡ filesSize) × (length (now log) ≡ logSize) × (count ≤ logSize)
         × Named (now log) count ⌝ }
     ensures { λ r. ⌜ filesOf (now (files .exit))
         ≡ allReached (filesOf (now (files .entry))) (take count (now (log .entry))) ⌝ }

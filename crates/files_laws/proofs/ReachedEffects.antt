@@ -14,7 +14,7 @@ use borrow.Author.Tests.{eq-eqb, ne-eqb, eqb-false, le-leb}
 use Rattle.words.specs.Sets.{member}
 use Rattle.words.proofs.SetsLaws.{member-insert-other}
 use Rattle.words.proofs.TestsLaws.{tested}
-use Rattle.select.specs.Size.{identities}
+use Rattle.sizes.specs.Sizes.{identities}
 use Rattle.file_message.specs.Message.{identityIn}
 use Rattle.file_message.proofs.MessageLaws.{identityIn-lt}
 use Rattle.file.specs.declared.File.{File}

@@ -9,13 +9,14 @@
 use Prim.Native.Nat.{ℕ}
 use mathlib.Core.Bool.{Bool, cond}
 use mathlib.Core.List.{List, [], _∷_}
+use Rattle.target.specs.Target.{hartAt}
 use Rattle.words.specs.Parts.{packed}
 use Rattle.file_message.specs.Message.{logWord}
 use Rattle.target.specs.Target.{hartOf, numberOf}
 use Rattle.domain.specs.Domain.{Domain, generatedAt, byMessages, withGenerated}
 
 unfoldable pub keptGenerated : ℕ → ℕ
-keptGenerated v = packed (hartOf v) 18 (numberOf v)
+keptGenerated v = packed (hartOf v) hartAt (numberOf v)
 
 unfoldable pub generatedOf : Bool → ℕ → ℕ
 generatedOf child v = logWord (hartOf v) (cond child 1 0) (numberOf v)

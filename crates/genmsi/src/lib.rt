@@ -1,6 +1,7 @@
 // genmsi: what a write stores, what a read gives, and the message that a write sends at once.
 ghost use mathlib.Core.Path.{_≡_};
 ghost use lib.ListN.{length};
+ghost use Rattle.sizes.specs.Sizes.{domainSize, logSize};
 ghost use Rattle.domain.specs.Domain.{domainOf};
 ghost use Rattle.sending.specs.Sending.{logged};
 ghost use Rattle.genmsi.specs.Genmsi.{keptGenerated, generatedOf, generatedWritten, generatedRead};
@@ -28,7 +29,7 @@ pub fn generated(child: bool, value: u32) -> u32
 
 // Ignored in direct mode. What it sends is not sent here.
 pub fn write_generated(part: &mut [u32], value: u32)
-    requires { ⌜ length (now part) ≡ 144 ⌝ }
+    requires { ⌜ length (now part) ≡ domainSize ⌝ }
     ensures { λ r. ⌜ domainOf (now (part .exit)) ≡ generatedWritten (domainOf (now (part .entry))) value ⌝ }
 {
     if domain::by_messages(part) {
@@ -38,7 +39,7 @@ pub fn write_generated(part: &mut [u32], value: u32)
 
 // 0 in direct mode.
 pub fn read_generated(part: &[u32]) -> u32
-    requires { ⌜ length (now part) ≡ 144 ⌝ }
+    requires { ⌜ length (now part) ≡ domainSize ⌝ }
     ensures { λ r. ⌜ r ≡ generatedRead (domainOf (now (part .entry))) ⌝ }
 {
     if domain::by_messages(part) {
@@ -49,7 +50,7 @@ pub fn read_generated(part: &[u32]) -> u32
 
 // Sent whatever IE is, and in message mode only. It comes first in `log`; answers the number of messages.
 pub fn send_generated(part: &[u32], child: bool, value: u32, log: &mut [u32]) -> usize
-    requires { ⌜ (length (now part) ≡ 144) × (length (now log) ≡ 63) ⌝ }
+    requires { ⌜ (length (now part) ≡ domainSize) × (length (now log) ≡ logSize) ⌝ }
     ensures { λ r.
         ⌜ (now (log .exit)
         ≡ logged (now (log .entry)) (generatedSent child (domainOf (now (part .entry))) value))

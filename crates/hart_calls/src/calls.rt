@@ -5,6 +5,7 @@ use super::signal::all_signals;
 use call::Answer;
 use call::check;
 use call::lengths;
+use sizes::HART_COUNT;
 
 pub fn reset(state: &mut [u32], log: &mut [u32]) -> Answer
     ensures { λ r. ⌜ Does the.Reset (now (state .entry)) (now (log .entry)) r
@@ -18,6 +19,8 @@ pub fn reset(state: &mut [u32], log: &mut [u32]) -> Answer
     Answer::Done(0, 0)
 }
 
+const HARTS: u64 = HART_COUNT as u64;
+
 pub fn signals(state: &mut [u32], log: &mut [u32], hart: u64) -> Answer
     ensures { λ r. ⌜ Does (the.Signals hart) (now (state .entry)) (now (log .entry)) r
         (now (state .exit)) (now (log .exit)) ⌝ }
@@ -26,7 +29,7 @@ pub fn signals(state: &mut [u32], log: &mut [u32], hart: u64) -> Answer
     let Answer::Done(_, _) = answer else {
         return answer;
     };
-    if 4 <= hart {
+    if HARTS <= hart {
         return Answer::NoSuch;
     }
     Answer::Done(all_signals(state, hart as usize) as u64, 0)

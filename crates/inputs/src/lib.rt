@@ -2,11 +2,13 @@
 ghost use mathlib.Core.Path.{_≡_};
 ghost use Prim.Native.Nat.{_<_};
 ghost use lib.ListN.{length};
+ghost use Rattle.sizes.specs.Sizes.{slotCount, sourceSetSize, domainSize};
 ghost use Rattle.domain.specs.Domain.{domainOf};
 ghost use Rattle.inputs.specs.Inputs.{inputBit, inputWord};
+use sizes::SOURCE_SET_SIZE;
 
-fn input(part: &[u32], wires: [u32; 2], i: usize) -> bool
-    requires { ⌜ (length (now part) ≡ 144) × (i < 64) ⌝ }
+fn input(part: &[u32], wires: [u32; SOURCE_SET_SIZE], i: usize) -> bool
+    requires { ⌜ (length (now part) ≡ domainSize) × (i < slotCount) ⌝ }
     ensures { λ r. ⌜ r ≡ inputBit (domainOf (now (part .entry))) wires i ⌝ }
 {
     if i < 1 {
@@ -19,8 +21,8 @@ fn input(part: &[u32], wires: [u32; 2], i: usize) -> bool
     false
 }
 
-pub fn input_word(part: &[u32], wires: [u32; 2], k: usize) -> u32
-    requires { ⌜ (length (now part) ≡ 144) × (k < 2) ⌝ }
+pub fn input_word(part: &[u32], wires: [u32; SOURCE_SET_SIZE], k: usize) -> u32
+    requires { ⌜ (length (now part) ≡ domainSize) × (k < sourceSetSize) ⌝ }
     ensures { λ r. ⌜ r ≡ inputWord (domainOf (now (part .entry))) wires k ⌝ }
 {
     let mut word: u32 = 0;

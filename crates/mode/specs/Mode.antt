@@ -12,8 +12,12 @@ use lib.Dec.{eqb, ltb}
 use Rattle.words.specs.Bits.{hasBit}
 use Rattle.words.specs.Parts.{fieldOf}
 
+-- what is stored for a delegated source: bit 10
+abbrev pub delegatedWord : ℕ
+delegatedWord = 1024
+
 unfoldable pub isActive : ℕ → Bool
-isActive m = not (eqb m 0) && ltb m 1024
+isActive m = not (eqb m 0) && ltb m delegatedWord
 
 unfoldable pub isLevel : ℕ → Bool
 isLevel m = eqb m 6 || eqb m 7
@@ -26,4 +30,4 @@ keptMode v = cond (eqb (fieldOf v 0 3) 2 || eqb (fieldOf v 0 3) 3) 0 (fieldOf v 
 
 unfoldable pub sourceWord : Bool → Bool → ℕ → ℕ
 sourceWord c has v =
-    cond c (cond (has && not (hasBit v 10)) (keptMode v) 0) (cond (hasBit v 10) 1024 (keptMode v))
+    cond c (cond (has && not (hasBit v 10)) (keptMode v) 0) (cond (hasBit v 10) delegatedWord (keptMode v))

@@ -2,13 +2,15 @@
 ghost use mathlib.Core.Path.{_≡_};
 ghost use Rattle.mode.specs.Mode.{isActive, isLevel, isRectified, keptMode, sourceWord};
 
+pub const DELEGATED_WORD: u32 = 1024;
+
 pub fn active(mode: u32) -> bool
     ensures { λ r. ⌜ r ≡ isActive mode ⌝ }
 {
     if mode == 0 {
         return false;
     }
-    mode < 1024
+    mode < DELEGATED_WORD
 }
 
 pub fn level(mode: u32) -> bool
@@ -60,7 +62,7 @@ pub fn source_word(child: bool, has: bool, value: u32) -> u32
         if child {
             return 0;
         }
-        return 1024;
+        return DELEGATED_WORD;
     }
     if child {
         if has {

@@ -6,6 +6,7 @@ ghost use Rattle.call.specs.Outcome.{outcome};
 ghost use Rattle.answer.specs.Told.{Told, Tells};
 use answer::VskAnswer;
 use answer::numbers;
+use sizes::RECORD_SIZE;
 use transfer::make_access;
 
 #[no_mangle]
@@ -130,7 +131,7 @@ pub extern "C" fn vsk_move(
     newhart: u64,
     newfile: u64,
     access: u64,
-    saved: &mut [u64; 10],
+    saved: &mut [u64; RECORD_SIZE],
 ) -> VskAnswer
     ensures { λ r. ⌜ Told (outcome (the.Move oldhart oldfile newhart newfile access) (now (state .entry))
         (now (log .entry)) (now (saved .entry))) r

@@ -14,6 +14,7 @@ use Prim.Native.Nat.{ℕ, _+_, _-_, _*_, _/_, _%_, _≤_, _<_}
 use mathlib.Core.Bool.{Bool, cond, _&&_}
 use mathlib.Core.List.{List, [], _∷_}
 use lib.Dec.{eqb, leb, ltb}
+use Rattle.sizes.specs.Sizes.{hartCount, sourceCount, sourceSetSize}
 use Rattle.region.specs.declared.Word.{Word}
 use Rattle.region.specs.declared.Word.the-variants.{Domaincfg, Sourcecfg, Setip, Setipnum, InClrip}
 use Rattle.region.specs.declared.Word.the-variants.{Clripnum, Setie, Setienum, Clrie, Clrienum}
@@ -37,12 +38,12 @@ abbrev pub wordsFrom : ℕ → ℕ → ℕ → (ℕ → Word) → Row
 wordsFrom b m n r = record { base = b; step = 4; first = m; last = n; name = r }
 
 abbrev pub structures : ℕ → (ℕ → Word) → Row
-structures o r = record { base = 0x4000 + o; step = 32; first = 0; last = 3; name = r }
+structures o r = record { base = 0x4000 + o; step = 32; first = 0; last = hartCount - 1; name = r }
 
 unfoldable pub registers : List Row
 registers =
     one 0x0000 Domaincfg
-    ∷ wordsFrom 0x0000 1 63 Sourcecfg
+    ∷ wordsFrom 0x0000 1 sourceCount Sourcecfg
     ∷ wordsFrom 0x1C00 0 1 Setip
     ∷ one 0x1CDC Setipnum
     ∷ wordsFrom 0x1D00 0 1 InClrip
@@ -54,7 +55,7 @@ registers =
     ∷ one 0x2000 SetipnumLe
     ∷ one 0x2004 SetipnumBe
     ∷ one 0x3000 Genmsi
-    ∷ wordsFrom 0x3000 1 63 Target
+    ∷ wordsFrom 0x3000 1 sourceCount Target
     ∷ structures 0x00 Idelivery
     ∷ structures 0x04 Iforce
     ∷ structures 0x08 Ithreshold
@@ -76,22 +77,22 @@ wordAt a = wordIn registers a
 
 abbrev pub Within : Word → Type 0
 Within Domaincfg = Unit {0}
-Within (Sourcecfg s) = (1 ≤ s) × (s ≤ 63)
-Within (Setip k) = k < 2
+Within (Sourcecfg s) = (1 ≤ s) × (s ≤ sourceCount)
+Within (Setip k) = k < sourceSetSize
 Within Setipnum = Unit {0}
-Within (InClrip k) = k < 2
+Within (InClrip k) = k < sourceSetSize
 Within Clripnum = Unit {0}
-Within (Setie k) = k < 2
+Within (Setie k) = k < sourceSetSize
 Within Setienum = Unit {0}
-Within (Clrie k) = k < 2
+Within (Clrie k) = k < sourceSetSize
 Within Clrienum = Unit {0}
 Within SetipnumLe = Unit {0}
 Within SetipnumBe = Unit {0}
 Within Genmsi = Unit {0}
-Within (Target s) = (1 ≤ s) × (s ≤ 63)
-Within (Idelivery h) = h < 4
-Within (Iforce h) = h < 4
-Within (Ithreshold h) = h < 4
-Within (Topi h) = h < 4
-Within (Claimi h) = h < 4
+Within (Target s) = (1 ≤ s) × (s ≤ sourceCount)
+Within (Idelivery h) = h < hartCount
+Within (Iforce h) = h < hartCount
+Within (Ithreshold h) = h < hartCount
+Within (Topi h) = h < hartCount
+Within (Claimi h) = h < hartCount
 Within Unused = Unit {0}

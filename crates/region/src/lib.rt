@@ -1,6 +1,7 @@
 // An address of a domain's region, taken apart into the register that it names. 01, "The wired controller".
 ghost use mathlib.Core.Path.{_≡_};
 ghost use Prim.Native.Nat.{_+_, _*_, _%_, _≤_, _<_};
+ghost use Rattle.sizes.specs.Sizes.{sourceSetSize};
 ghost use Rattle.region.specs.Region.{addressLegal, wordAt};
 
 mod role;
@@ -100,7 +101,7 @@ fn bits_word(address: u64) -> Word
 }
 
 fn bits_of(block: u64, k: u64) -> Word
-    requires { ⌜ (block < 4) × (k < 2) ⌝ }
+    requires { ⌜ (block < 4) × (k < sourceSetSize) ⌝ }
     ensures { λ r. ⌜ r ≡ wordAt (0x1C00 + 0x100 * block + 4 * k) ⌝ }
 {
     match block {

@@ -2,6 +2,8 @@
 ghost use mathlib.Core.Path.{_≡_};
 ghost use Prim.Native.Nat.{_<_};
 ghost use lib.ListN.{length};
+ghost use Rattle.sizes.specs.Sizes.{domainSize};
+ghost use Rattle.values.specs.Values.{configMark};
 ghost use Rattle.region.specs.Region.{Within};
 ghost use Rattle.domain.specs.Domain.{domainOf, configOf};
 ghost use Rattle.registers.specs.Read.{registerValue, claimedBy};
@@ -10,12 +12,14 @@ use direct::Setting;
 use region::Role;
 use region::Word;
 use region::role_of;
+use sizes::SOURCE_SET_SIZE;
 use source::Change;
 use values::value_of;
 
 // A read, with what it does.
-pub fn read(part: &mut [u32], wires: [u32; 2], word: Word) -> u32
-    requires { ⌜ (length (now part) ≡ 144) × (configOf (domainOf (now part)) < 0x80000000) × Within word ⌝ }
+pub fn read(part: &mut [u32], wires: [u32; SOURCE_SET_SIZE], word: Word) -> u32
+    requires { ⌜ (length (now part) ≡ domainSize) × (configOf (domainOf (now part)) < configMark)
+        × Within word ⌝ }
     ensures { λ r. ⌜ (r ≡ registerValue (domainOf (now (part .entry))) wires word)
         × (domainOf (now (part .exit)) ≡ claimedBy (domainOf (now (part .entry))) word) ⌝ }
 {
@@ -25,8 +29,8 @@ pub fn read(part: &mut [u32], wires: [u32; 2], word: Word) -> u32
     }
 }
 
-pub fn write(part: &mut [u32], child: bool, wires: [u32; 2], word: Word, value: u32)
-    requires { ⌜ (length (now part) ≡ 144) × Within word ⌝ }
+pub fn write(part: &mut [u32], child: bool, wires: [u32; SOURCE_SET_SIZE], word: Word, value: u32)
+    requires { ⌜ (length (now part) ≡ domainSize) × Within word ⌝ }
     ensures { λ r. ⌜ domainOf (now (part .exit))
         ≡ registerWritten child (domainOf (now (part .entry))) wires word value ⌝ }
 {

@@ -14,6 +14,7 @@ use Prim.Native.Nat.{ℕ}
 use mathlib.Core.Bool.{Bool, true, false, not, _&&_, _||_}
 use mathlib.Core.List.{List}
 use lib.Dec.{eqb}
+use Rattle.sizes.specs.Sizes.{hartCount, sourceCount}
 use Rattle.words.specs.Sets.{member}
 use Rattle.genmsi.specs.Genmsi.{keptGenerated}
 use Rattle.delivery.specs.Delivery.{deliverySound}
@@ -48,7 +49,7 @@ unfoldable pub domainSound : Bool → List ℕ → Domain → Bool
 domainSound c ws d =
     configRange d && generatedRange d && generatedRule d && sourceZeroRule (d .pending)
     && sourceZeroRule (d .enable)
-    && every (structureRange d) 0 4 && every (sourceRule c ws d) 1 63
+    && every (structureRange d) 0 hartCount && every (sourceRule c ws d) 1 sourceCount
 
 unfoldable pub delegatedRule : Wired → ℕ → Bool
 delegatedRule w i = isDelegated w i || eqb (sourceAt (w .child) i .mode) 0
@@ -57,4 +58,4 @@ unfoldable pub wiredSound : Wired → Bool
 wiredSound w =
     sourceZeroRule (w .wires) && domainSound false (w .wires) (w .root)
     && domainSound true (w .wires) (w .child)
-    && every (delegatedRule w) 1 63
+    && every (delegatedRule w) 1 sourceCount

@@ -3,6 +3,7 @@ ghost use mathlib.Core.Path.{_≡_};
 ghost use mathlib.Core.Bool.{_&&_};
 ghost use Prim.Native.Nat.{_<_};
 ghost use lib.ListN.{length};
+ghost use Rattle.sizes.specs.Sizes.{sourceCount, slotCount, domainSize, wiredSize};
 ghost use Rattle.domain.specs.Domain.{domainOf};
 ghost use Rattle.wires.specs.Wires.{wiredOf};
 ghost use Rattle.words.specs.Every.{every};
@@ -11,9 +12,15 @@ ghost use Rattle.rules.specs.Rules.{domainSound};
 ghost use Rattle.rules.specs.Rules.{delegatedRule, wiredSound};
 use super::sources::source_pass;
 use super::sources::structure_pass;
+use mode::DELEGATED_WORD;
+use sizes::CHILD_PLACE;
+use sizes::ROOT_PLACE;
+use sizes::SLOT_COUNT;
+use sizes::SOURCE_SET_SIZE;
+use sizes::WIRED_SIZE;
 
 fn config_rule(part: &[u32]) -> bool
-    requires { ⌜ length (now part) ≡ 144 ⌝ }
+    requires { ⌜ length (now part) ≡ domainSize ⌝ }
     ensures { λ r. ⌜ r ≡ configRange (domainOf (now (part .entry))) ⌝ }
 {
     let word = domain::config(part);
@@ -21,7 +28,7 @@ fn config_rule(part: &[u32]) -> bool
 }
 
 fn generated_rules(part: &[u32]) -> bool
-    requires { ⌜ length (now part) ≡ 144 ⌝ }
+    requires { ⌜ length (now part) ≡ domainSize ⌝ }
     ensures { λ r. ⌜ r ≡ (generatedRange (domainOf (now (part .entry)))
         && generatedRule (domainOf (now (part .entry)))) ⌝ }
 {
@@ -30,7 +37,7 @@ fn generated_rules(part: &[u32]) -> bool
 }
 
 fn no_zero(part: &[u32]) -> bool
-    requires { ⌜ length (now part) ≡ 144 ⌝ }
+    requires { ⌜ length (now part) ≡ domainSize ⌝ }
     ensures { λ r. ⌜ r ≡ (sourceZeroRule (domainOf (now (part .entry)) .pending)
         && sourceZeroRule (domainOf (now (part .entry)) .enable)) ⌝ }
 {
@@ -38,8 +45,8 @@ fn no_zero(part: &[u32]) -> bool
     !s.pending & !s.enabled
 }
 
-fn domain_rules(part: &[u32], child: bool, wires: [u32; 2]) -> bool
-    requires { ⌜ length (now part) ≡ 144 ⌝ }
+fn domain_rules(part: &[u32], child: bool, wires: [u32; SOURCE_SET_SIZE]) -> bool
+    requires { ⌜ length (now part) ≡ domainSize ⌝ }
     ensures { λ r. ⌜ r ≡ domainSound child wires (domainOf (now (part .entry))) ⌝ }
 {
     config_rule(part)
@@ -50,21 +57,21 @@ fn domain_rules(part: &[u32], child: bool, wires: [u32; 2]) -> bool
 }
 
 fn delegated_rule(w: &[u32], i: usize) -> bool
-    requires { ⌜ (length (now w) ≡ 290) × (i < 64) ⌝ }
+    requires { ⌜ (length (now w) ≡ wiredSize) × (i < slotCount) ⌝ }
     ensures { λ r. ⌜ r ≡ delegatedRule (wiredOf (now (w .entry))) i ⌝ }
 {
-    let root = domain::load(&w[2..146], i);
-    let child = domain::load(&w[146..290], i);
-    (1024 <= root.mode) | (child.mode == 0)
+    let root = domain::load(&w[ROOT_PLACE..CHILD_PLACE], i);
+    let child = domain::load(&w[CHILD_PLACE..WIRED_SIZE], i);
+    (DELEGATED_WORD <= root.mode) | (child.mode == 0)
 }
 
 fn delegated_pass(w: &[u32]) -> bool
-    requires { ⌜ length (now w) ≡ 290 ⌝ }
-    ensures { λ r. ⌜ r ≡ every (delegatedRule (wiredOf (now (w .entry)))) 1 63 ⌝ }
+    requires { ⌜ length (now w) ≡ wiredSize ⌝ }
+    ensures { λ r. ⌜ r ≡ every (delegatedRule (wiredOf (now (w .entry)))) 1 sourceCount ⌝ }
 {
     let mut sound = true;
     let mut i: usize = 1;
-    while i < 64 {
+    while i < SLOT_COUNT {
         sound = sound & delegated_rule(w, i);
         i += 1;
     }
@@ -73,12 +80,12 @@ fn delegated_pass(w: &[u32]) -> bool
 
 // Whether the 290 words of the wired controller keep every rule.
 pub fn sound(w: &[u32]) -> bool
-    requires { ⌜ length (now w) ≡ 290 ⌝ }
+    requires { ⌜ length (now w) ≡ wiredSize ⌝ }
     ensures { λ r. ⌜ r ≡ wiredSound (wiredOf (now (w .entry))) ⌝ }
 {
     let wires = wires::wires(w);
     !words::has_bit(wires[0], 0)
-        & domain_rules(&w[2..146], false, wires)
-        & domain_rules(&w[146..290], true, wires)
+        & domain_rules(&w[ROOT_PLACE..CHILD_PLACE], false, wires)
+        & domain_rules(&w[CHILD_PLACE..WIRED_SIZE], true, wires)
         & delegated_pass(w)
 }

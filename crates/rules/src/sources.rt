@@ -3,12 +3,16 @@ ghost use mathlib.Core.Path.{_≡_};
 ghost use mathlib.Core.Bool.{_&&_};
 ghost use Prim.Native.Nat.{_<_};
 ghost use lib.ListN.{length};
+ghost use Rattle.sizes.specs.Sizes.{hartCount, sourceCount, slotCount, domainSize};
 ghost use Rattle.domain.specs.Domain.{domainOf};
 ghost use Rattle.words.specs.Every.{every};
 ghost use Rattle.rules.specs.Rules.{structureRange, sourceRule};
+use sizes::HART_COUNT;
+use sizes::SLOT_COUNT;
+use sizes::SOURCE_SET_SIZE;
 
-fn source_rule(part: &[u32], child: bool, wires: [u32; 2], i: usize) -> bool
-    requires { ⌜ (length (now part) ≡ 144) × (i < 64) ⌝ }
+fn source_rule(part: &[u32], child: bool, wires: [u32; SOURCE_SET_SIZE], i: usize) -> bool
+    requires { ⌜ (length (now part) ≡ domainSize) × (i < slotCount) ⌝ }
     ensures { λ r. ⌜ r ≡ sourceRule child wires (domainOf (now (part .entry))) i ⌝ }
 {
     let messages = domain::by_messages(part);
@@ -17,13 +21,13 @@ fn source_rule(part: &[u32], child: bool, wires: [u32; 2], i: usize) -> bool
     source_rules::source_sound(child, messages, sends, source_wire::wire_at(wires, i), s)
 }
 
-pub fn source_pass(part: &[u32], child: bool, wires: [u32; 2]) -> bool
-    requires { ⌜ length (now part) ≡ 144 ⌝ }
-    ensures { λ r. ⌜ r ≡ every (sourceRule child wires (domainOf (now (part .entry)))) 1 63 ⌝ }
+pub fn source_pass(part: &[u32], child: bool, wires: [u32; SOURCE_SET_SIZE]) -> bool
+    requires { ⌜ length (now part) ≡ domainSize ⌝ }
+    ensures { λ r. ⌜ r ≡ every (sourceRule child wires (domainOf (now (part .entry)))) 1 sourceCount ⌝ }
 {
     let mut sound = true;
     let mut i: usize = 1;
-    while i < 64 {
+    while i < SLOT_COUNT {
         sound = sound & source_rule(part, child, wires, i);
         i += 1;
     }
@@ -31,7 +35,7 @@ pub fn source_pass(part: &[u32], child: bool, wires: [u32; 2]) -> bool
 }
 
 fn structure_rule(part: &[u32], h: usize) -> bool
-    requires { ⌜ (length (now part) ≡ 144) × (h < 4) ⌝ }
+    requires { ⌜ (length (now part) ≡ domainSize) × (h < hartCount) ⌝ }
     ensures { λ r. ⌜ r ≡ structureRange (domainOf (now (part .entry))) h ⌝ }
 {
     let x = domain::load_structure(part, h);
@@ -39,12 +43,12 @@ fn structure_rule(part: &[u32], h: usize) -> bool
 }
 
 pub fn structure_pass(part: &[u32]) -> bool
-    requires { ⌜ length (now part) ≡ 144 ⌝ }
-    ensures { λ r. ⌜ r ≡ every (structureRange (domainOf (now (part .entry)))) 0 4 ⌝ }
+    requires { ⌜ length (now part) ≡ domainSize ⌝ }
+    ensures { λ r. ⌜ r ≡ every (structureRange (domainOf (now (part .entry)))) 0 hartCount ⌝ }
 {
     let mut sound = true;
     let mut h: usize = 0;
-    while h < 4 {
+    while h < HART_COUNT {
         sound = sound & structure_rule(part, h);
         h += 1;
     }

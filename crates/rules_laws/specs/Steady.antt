@@ -12,6 +12,7 @@ use mathlib.Core.Path.{_≡_}
 use mathlib.Core.Bool.{Bool, true, false, _&&_}
 use mathlib.Core.List.{List}
 use lib.ListN.{length}
+use Rattle.sizes.specs.Sizes.{hartCount, slotCount, sourceSetSize}
 use Rattle.words.specs.Sets.{member}
 use Rattle.domain.specs.Domain.{Domain, isEnabled, byMessages}
 use Rattle.domain.specs.Slot.{sourceAt}
@@ -27,28 +28,29 @@ pub record Steady (c : Bool) (ws : List ℕ) (d : Domain) : Type 0 where
   pub config : configRange d ≡ true
   pub generated-range : generatedRange d ≡ true
   pub generated : generatedRule d ≡ true
-  pub structures : (h : ℕ) → h < 4 → structureRange d h ≡ true
+  pub structures : (h : ℕ) → h < hartCount → structureRange d h ≡ true
   pub pending-zero : sourceZeroRule (d .pending) ≡ true
   pub enable-zero : sourceZeroRule (d .enable) ≡ true
-  pub source : (i : ℕ) → 1 ≤ i → i < 64 → sourceSteady c (byMessages d) (member ws i) (sourceAt d i) ≡ true
+  pub source : (i : ℕ) → 1 ≤ i → i < slotCount → sourceSteady c (byMessages d) (member ws i) (sourceAt d i)
+      ≡ true
 
 pub record DomainKept (c : Bool) (ws : List ℕ) (d d′ : Domain) : Type 0 where
   pub steady : Steady c ws d′
-  pub modes : (i : ℕ) → 1 ≤ i → i < 64 → sourceAt d′ i .mode ≡ sourceAt d i .mode
+  pub modes : (i : ℕ) → 1 ≤ i → i < slotCount → sourceAt d′ i .mode ≡ sourceAt d i .mode
 
 -- the domain sends: IE and DM
 abbrev pub sends : Domain → Bool
 sends d = isEnabled d && byMessages d
 
 abbrev pub Quiet : Domain → Type 0
-Quiet d = (i : ℕ) → 1 ≤ i → i < 64 → sentRule (sends d) (sourceAt d i) ≡ true
+Quiet d = (i : ℕ) → 1 ≤ i → i < slotCount → sentRule (sends d) (sourceAt d i) ≡ true
 
 pub record WiredSteady (w : Wired) : Type 0 where
-  pub long : length (w .wires) ≡ 2
+  pub long : length (w .wires) ≡ sourceSetSize
   pub zero : sourceZeroRule (w .wires) ≡ true
   pub root : Steady false (w .wires) (w .root)
   pub child : Steady true (w .wires) (w .child)
-  pub delegated : (i : ℕ) → 1 ≤ i → i < 64 → delegatedRule w i ≡ true
+  pub delegated : (i : ℕ) → 1 ≤ i → i < slotCount → delegatedRule w i ≡ true
 
 pub record WiredQuiet (w : Wired) : Type 0 where
   pub root : Quiet (w .root)

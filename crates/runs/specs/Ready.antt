@@ -6,6 +6,7 @@
 use mathlib.Core.Path.{_≡_}
 use mathlib.Core.List.{List, [], _∷_}
 use lib.ListN.{length}
+use Rattle.sizes.specs.Sizes.{blockSize, logSize}
 use Rattle.block.specs.Block.{Board, boardOf}
 use Rattle.call.specs.declared.Call.{Call}
 use Rattle.call_laws.specs.Fit.{Fit, SavedFit}
@@ -16,8 +17,8 @@ abbrev pub boardIn : Lent → Board
 boardIn x = boardOf (x .block)
 
 pub record Ready (x : Lent) : Type 0 where
-  pub long : length (x .block) ≡ 650
-  pub full : length (x .log) ≡ 63
+  pub long : length (x .block) ≡ blockSize
+  pub full : length (x .log) ≡ logSize
   pub fit : Fit (boardIn x)
   pub saved : SavedFit (x .saved)
 

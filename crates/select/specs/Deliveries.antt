@@ -1,9 +1,12 @@
 -- The deliveries that a file may store. 01, "One message file". Assumes nothing.
 --   deliveryLegal g d     d is a delivery: 0 off, 1 on, and 0x40000000 unless the file is a guest's (g)
--- With delivery 0x40000000 the file takes the wired controller's signal.
+--   fromWired             0x40000000: the file takes the wired controller's signal
 use Prim.Native.Nat.{ℕ}
 use mathlib.Core.Bool.{Bool, not, _&&_, _||_}
 use lib.Dec.{eqb}
 
+abbrev pub fromWired : ℕ
+fromWired = 0x40000000
+
 unfoldable pub deliveryLegal : Bool → ℕ → Bool
-deliveryLegal g d = eqb d 0 || eqb d 1 || (not g && eqb d 0x40000000)
+deliveryLegal g d = eqb d 0 || eqb d 1 || (not g && eqb d fromWired)

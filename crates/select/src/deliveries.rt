@@ -1,6 +1,9 @@
 // The deliveries that a file may store.
 ghost use mathlib.Core.Path.{_≡_};
 ghost use Rattle.select.specs.Deliveries.{deliveryLegal};
+use super::FROM_WIRED;
+
+const SIGNAL_OF_WIRED: u64 = FROM_WIRED as u64;
 
 // A guest file never takes its signal from the wired controller.
 pub fn delivery_legal(guest: bool, value: u64) -> bool
@@ -12,5 +15,5 @@ pub fn delivery_legal(guest: bool, value: u64) -> bool
     if guest {
         return false;
     }
-    value == 0x40000000
+    value == SIGNAL_OF_WIRED
 }

@@ -11,6 +11,17 @@ pub use halves::put_halves;
 pub use names::register_of;
 pub use names::select_legal;
 
+// The standard's numbers for the first registers of each kind, and the delivery that follows the wires.
+pub const EIDELIVERY: u64 = 0x70;
+
+pub const EITHRESHOLD: u64 = 0x72;
+
+pub const EIP0: u64 = 0x80;
+
+pub const EIE0: u64 = 0xC0;
+
+pub const FROM_WIRED: u32 = 0x40000000;
+
 pub enum Register {
     Delivery,
     Threshold,

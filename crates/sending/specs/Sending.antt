@@ -12,6 +12,7 @@ use Prim.Native.Nat.{ℕ, zero, suc}
 use mathlib.Core.Bool.{Bool, false, cond, _&&_}
 use mathlib.Core.List.{List, [], _∷_, _++_}
 use lib.ListN.{length, drop}
+use Rattle.sizes.specs.Sizes.{sourceCount}
 use Rattle.mode.specs.Mode.{isActive}
 use Rattle.target.specs.Target.{messageOf}
 use Rattle.source.specs.declared.Source.{Source}
@@ -42,7 +43,7 @@ sentFrom c d i (suc n) =
     record { domain = later .domain; messages = messagesAt c d i ++ later .messages }
 
 unfoldable pub sent : Bool → Domain → Sent
-sent c d = cond (isEnabled d && byMessages d) (sentFrom c d 1 63) (sentNothing d)
+sent c d = cond (isEnabled d && byMessages d) (sentFrom c d 1 sourceCount) (sentNothing d)
 
 unfoldable pub logged : List ℕ → List ℕ → List ℕ
 logged l ms = ms ++ drop (length ms) l

@@ -3,6 +3,7 @@ ghost use mathlib.Core.Path.{_≡_};
 ghost use Prim.Native.Nat.{_+_, _<_};
 ghost use lib.ListN.{length};
 ghost use lib.Seq.{sets};
+ghost use Rattle.sizes.specs.Sizes.{sourceCount, slotCount, domainSize, logSize};
 ghost use Rattle.domain.specs.Domain.{domainOf};
 ghost use Rattle.sending.specs.Sending.{candidate, servedAt, messagesAt, sentFrom, sent, logged};
 use super::waiting::idle;
@@ -10,6 +11,7 @@ use super::waiting::sends;
 use domain::load;
 use domain::store;
 use mode::active;
+use sizes::SLOT_COUNT;
 use source::Source;
 use target::message;
 
@@ -21,7 +23,8 @@ fn candidate(s: Source) -> bool
 
 // The turn of source `i`, with `n` messages in the log. Answers how many there are then.
 fn serve(part: &mut [u32], child: bool, log: &mut [u32], i: usize, n: usize) -> usize
-    requires { ⌜ (length (now part) ≡ 144) × (length (now log) ≡ 63) × (i < 64) × (n < 63) ⌝ }
+    requires { ⌜ (length (now part) ≡ domainSize) × (length (now log) ≡ logSize) × (i < slotCount)
+        × (n < logSize) ⌝ }
     ensures { λ r.
         ⌜ (domainOf (now (part .exit)) ≡ servedAt (domainOf (now (part .entry))) i)
         × (now (log .exit) ≡ sets (now (log .entry)) n (messagesAt child (domainOf (now (part .entry))) i))
@@ -38,16 +41,16 @@ fn serve(part: &mut [u32], child: bool, log: &mut [u32], i: usize, n: usize) -> 
 }
 
 fn pass(part: &mut [u32], child: bool, log: &mut [u32]) -> usize
-    requires { ⌜ (length (now part) ≡ 144) × (length (now log) ≡ 63) ⌝ }
+    requires { ⌜ (length (now part) ≡ domainSize) × (length (now log) ≡ logSize) ⌝ }
     ensures { λ r.
-        ⌜ (domainOf (now (part .exit)) ≡ sentFrom child (domainOf (now (part .entry))) 1 63 .domain)
+        ⌜ (domainOf (now (part .exit)) ≡ sentFrom child (domainOf (now (part .entry))) 1 sourceCount .domain)
         × (now (log .exit)
-        ≡ logged (now (log .entry)) (sentFrom child (domainOf (now (part .entry))) 1 63 .messages))
-        × (r ≡ length (sentFrom child (domainOf (now (part .entry))) 1 63 .messages)) ⌝ }
+        ≡ logged (now (log .entry)) (sentFrom child (domainOf (now (part .entry))) 1 sourceCount .messages))
+        × (r ≡ length (sentFrom child (domainOf (now (part .entry))) 1 sourceCount .messages)) ⌝ }
 {
     let mut n: usize = 0;
     let mut i: usize = 1;
-    while i < 64 {
+    while i < SLOT_COUNT {
         n = serve(part, child, log, i, n);
         i += 1;
     }
@@ -56,7 +59,7 @@ fn pass(part: &mut [u32], child: bool, log: &mut [u32]) -> usize
 
 // Sends what is to be sent. The messages come first in `log`; answers their number.
 pub fn send(part: &mut [u32], child: bool, log: &mut [u32]) -> usize
-    requires { ⌜ (length (now part) ≡ 144) × (length (now log) ≡ 63) ⌝ }
+    requires { ⌜ (length (now part) ≡ domainSize) × (length (now log) ≡ logSize) ⌝ }
     ensures { λ r.
         ⌜ (domainOf (now (part .exit)) ≡ sent child (domainOf (now (part .entry))) .domain)
         × (now (log .exit) ≡ logged (now (log .entry)) (sent child (domainOf (now (part .entry))) .messages))

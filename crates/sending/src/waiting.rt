@@ -3,6 +3,7 @@ ghost use mathlib.Core.Path.{_≡_};
 ghost use mathlib.Core.Bool.{_&&_};
 ghost use Prim.Native.Nat.{_<_};
 ghost use lib.ListN.{length};
+ghost use Rattle.sizes.specs.Sizes.{sourceSetSize, domainSize};
 ghost use Rattle.domain.specs.Domain.{domainOf, isEnabled, byMessages};
 ghost use Rattle.sending.specs.Idle.{idleWord, idle};
 use domain::by_messages;
@@ -11,7 +12,7 @@ use domain::enabled;
 use domain::pending_word;
 
 pub fn sends(part: &[u32]) -> bool
-    requires { ⌜ length (now part) ≡ 144 ⌝ }
+    requires { ⌜ length (now part) ≡ domainSize ⌝ }
     ensures { λ r.
         ⌜ r ≡ (isEnabled (domainOf (now (part .entry))) && byMessages (domainOf (now (part .entry)))) ⌝ }
 {
@@ -19,7 +20,7 @@ pub fn sends(part: &[u32]) -> bool
 }
 
 fn idle_word(part: &[u32], k: usize) -> bool
-    requires { ⌜ (length (now part) ≡ 144) × (k < 2) ⌝ }
+    requires { ⌜ (length (now part) ≡ domainSize) × (k < sourceSetSize) ⌝ }
     ensures { λ r. ⌜ r ≡ idleWord (domainOf (now (part .entry))) k ⌝ }
 {
     pending_word(part, k) & enable_word(part, k) == 0
@@ -27,7 +28,7 @@ fn idle_word(part: &[u32], k: usize) -> bool
 
 // No source is both pending and enabled: the usual case.
 pub fn idle(part: &[u32]) -> bool
-    requires { ⌜ length (now part) ≡ 144 ⌝ }
+    requires { ⌜ length (now part) ≡ domainSize ⌝ }
     ensures { λ r. ⌜ r ≡ idle (domainOf (now (part .entry))) ⌝ }
 {
     idle_word(part, 0) & idle_word(part, 1)

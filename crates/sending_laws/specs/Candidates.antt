@@ -12,6 +12,7 @@ use Prim.Native.Nat.{ℕ, zero, suc, _≤_, _<_}
 use mathlib.Core.Path.{_≡_}
 use mathlib.Core.Bool.{Bool, true, false, cond}
 use mathlib.Core.List.{List, [], _∷_}
+use Rattle.sizes.specs.Sizes.{hartFiles, sourceCount}
 use Rattle.file_message.specs.Message.{fileIn}
 use Rattle.target.specs.Target.{messageOf}
 use Rattle.source.specs.declared.Source.{Source}
@@ -29,7 +30,7 @@ thoseWith p [] = []
 thoseWith p (i ∷ is) = let rest = thoseWith p is in cond (p i) (i ∷ rest) rest
 
 unfoldable pub candidates : Domain → List ℕ
-candidates d = thoseWith (λ i. candidate (sourceAt d i)) (numbersFrom 1 63)
+candidates d = thoseWith (λ i. candidate (sourceAt d i)) (numbersFrom 1 sourceCount)
 
 abbrev pub messageAt : Bool → Domain → ℕ → ℕ
 messageAt c d i = messageOf c (sourceAt d i .target)
@@ -44,6 +45,6 @@ pub record DomainPendingOnly (d d′ : Domain) : Type 0 where
   pub delivery : d′ .delivery ≡ d .delivery
 
 pub record Names (c : Bool) (m : ℕ) : Type 0 where
-  pub exists : fileIn m < 5
+  pub exists : fileIn m < hartFiles
   pub machine : c ≡ false → fileIn m ≡ 0
   pub child : c ≡ true → 1 ≤ fileIn m

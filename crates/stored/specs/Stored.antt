@@ -7,6 +7,7 @@ use Prim.Native.Nat.{ℕ, _+_}
 use mathlib.Core.List.{List, _∷_, _++_}
 use lib.ListN.{getD, take, drop}
 use lib.Seq.{sets}
+use Rattle.sizes.specs.Sizes.{fileSetSize, thresholdPlace, pendingPlace, enablePlace}
 use Rattle.file.specs.declared.File.{File}
 
 unfoldable pub fileWords : File → List ℕ
@@ -16,9 +17,9 @@ unfoldable pub fileAt : List ℕ → ℕ → File
 fileAt l at =
     record {
       delivery = getD l at 0;
-      threshold = getD l (at + 1) 0;
-      pending = take 8 (drop (at + 2) l);
-      enable = take 8 (drop (at + 10) l);
+      threshold = getD l (at + thresholdPlace) 0;
+      pending = take fileSetSize (drop (at + pendingPlace) l);
+      enable = take fileSetSize (drop (at + enablePlace) l);
     }
 
 unfoldable pub putFile : List ℕ → ℕ → File → List ℕ

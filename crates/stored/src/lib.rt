@@ -3,12 +3,17 @@ ghost use mathlib.Core.Path.{_≡_};
 ghost use Prim.Native.Nat.{_+_, _≤_};
 ghost use lib.ListN.{length, take, drop};
 ghost use lib.Seq.{sets};
+ghost use Rattle.sizes.specs.Sizes.{fileSetSize, fileSize};
 ghost use Rattle.stored.specs.Stored.{fileAt, putFile};
 use file::File;
+use sizes::ENABLE_PLACE;
+use sizes::FILE_SET_SIZE;
+use sizes::PENDING_PLACE;
+use sizes::THRESHOLD_PLACE;
 
-fn eight(block: &[u32], at: usize) -> [u32; 8]
-    requires { ⌜ at + 8 ≤ length (now block) ⌝ }
-    ensures { λ r. ⌜ r ≡ take 8 (drop at (now (block .entry))) ⌝ }
+fn eight(block: &[u32], at: usize) -> [u32; FILE_SET_SIZE]
+    requires { ⌜ at + fileSetSize ≤ length (now block) ⌝ }
+    ensures { λ r. ⌜ r ≡ take fileSetSize (drop at (now (block .entry))) ⌝ }
 {
     [
         block[at],
@@ -23,21 +28,21 @@ fn eight(block: &[u32], at: usize) -> [u32; 8]
 }
 
 pub fn load(block: &[u32], at: usize) -> File
-    requires { ⌜ at + 18 ≤ length (now block) ⌝ }
+    requires { ⌜ at + fileSize ≤ length (now block) ⌝ }
     ensures { λ r. ⌜ r ≡ fileAt (now (block .entry)) at ⌝ }
 {
-    let pending = eight(block, at + 2);
-    let enable = eight(block, at + 10);
+    let pending = eight(block, at + PENDING_PLACE);
+    let enable = eight(block, at + ENABLE_PLACE);
     File {
         delivery: block[at],
-        threshold: block[at + 1],
+        threshold: block[at + THRESHOLD_PLACE],
         pending,
         enable,
     }
 }
 
-fn put_eight(block: &mut [u32], at: usize, ws: [u32; 8])
-    requires { ⌜ at + 8 ≤ length (now block) ⌝ }
+fn put_eight(block: &mut [u32], at: usize, ws: [u32; FILE_SET_SIZE])
+    requires { ⌜ at + fileSetSize ≤ length (now block) ⌝ }
     ensures { λ r. ⌜ now (block .exit) ≡ sets (now (block .entry)) at ws ⌝ }
 {
     block[at] = ws[0];
@@ -51,13 +56,13 @@ fn put_eight(block: &mut [u32], at: usize, ws: [u32; 8])
 }
 
 pub fn store(block: &mut [u32], at: usize, f: File)
-    requires { ⌜ at + 18 ≤ length (now block) ⌝ }
+    requires { ⌜ at + fileSize ≤ length (now block) ⌝ }
     ensures { λ r. ⌜ now (block .exit) ≡ putFile (now (block .entry)) at f ⌝ }
 {
     let pending = f.pending;
     let enable = f.enable;
     block[at] = f.delivery;
-    block[at + 1] = f.threshold;
-    put_eight(block, at + 2, pending);
-    put_eight(block, at + 10, enable);
+    block[at + THRESHOLD_PLACE] = f.threshold;
+    put_eight(block, at + PENDING_PLACE, pending);
+    put_eight(block, at + ENABLE_PLACE, enable);
 }

@@ -1,5 +1,6 @@
 -- A target, and the message that goes to it. 01, "The wired controller"; the standard 4.5.16, 4.9.1.
 -- Assumes nothing.
+--   hartAt, guestAt                    where a target has its hart, and in the child its guest index
 --   hartOf t, guestOf t, numberOf t    bits 19:18, bits 13:12, and bits 7:0, a priority or an identity
 --   startTarget messages               the target of a source that becomes active
 --   keptTarget child messages v        what a write of v stores
@@ -11,11 +12,17 @@ use lib.Dec.{eqb}
 use Rattle.words.specs.Parts.{fieldOf, packed}
 use Rattle.file_message.specs.Message.{logWord}
 
+abbrev pub hartAt : ℕ
+hartAt = 18
+
+abbrev pub guestAt : ℕ
+guestAt = 12
+
 unfoldable pub hartOf : ℕ → ℕ
-hartOf t = fieldOf t 18 2
+hartOf t = fieldOf t hartAt 2
 
 unfoldable pub guestOf : ℕ → ℕ
-guestOf t = fieldOf t 12 2
+guestOf t = fieldOf t guestAt 2
 
 unfoldable pub numberOf : ℕ → ℕ
 numberOf t = fieldOf t 0 8
@@ -29,10 +36,10 @@ priorityOf v = cond (eqb (numberOf v) 0) 1 (numberOf v)
 
 -- an identity, in the child below a guest index
 unfoldable pub receiverOf : Bool → ℕ → ℕ
-receiverOf child v = cond child (packed (guestOf v) 12 (numberOf v)) (numberOf v)
+receiverOf child v = cond child (packed (guestOf v) guestAt (numberOf v)) (numberOf v)
 
 unfoldable pub keptTarget : Bool → Bool → ℕ → ℕ
-keptTarget child messages v = packed (hartOf v) 18 (cond messages (receiverOf child v) (priorityOf v))
+keptTarget child messages v = packed (hartOf v) hartAt (cond messages (receiverOf child v) (priorityOf v))
 
 unfoldable pub messageOf : Bool → ℕ → ℕ
 messageOf child t = logWord (hartOf t) (cond child (guestOf t + 1) 0) (numberOf t)

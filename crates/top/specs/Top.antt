@@ -12,6 +12,7 @@
 use Prim.Native.Nat.{ℕ, zero, suc, _+_, _*_}
 use mathlib.Core.Bool.{Bool, cond, _&&_, _||_}
 use lib.Dec.{eqb, ltb}
+use Rattle.sizes.specs.Sizes.{sourceCount}
 use Rattle.target.specs.Target.{hartOf, numberOf}
 use Rattle.delivery.specs.Delivery.{lets}
 use Rattle.domain.specs.Domain.{Domain, byMessages}
@@ -34,7 +35,7 @@ topFrom d h i zero b = b
 topFrom d h i (suc n) b = topFrom d h (suc i) n (cond (eligible d h i && precedes d i b) i b)
 
 unfoldable pub topSource : Domain → ℕ → ℕ
-topSource d h = topFrom d h 1 63 0
+topSource d h = topFrom d h 1 sourceCount 0
 
 unfoldable pub topiOf : Domain → ℕ → ℕ
 topiOf d h =

@@ -5,6 +5,7 @@ ghost use mathlib.Core.Bool.{true, cond, _&&_};
 ghost use Prim.Native.Nat.{ℕ, _+_, _*_, _<_};
 ghost use lib.Dec.{eqb};
 ghost use lib.ListN.{length};
+ghost use Rattle.sizes.specs.Sizes.{hartCount, slotCount, domainSize};
 ghost use Rattle.words.specs.Bits.{hasBit};
 ghost use Rattle.target.specs.Target.{numberOf};
 ghost use Rattle.domain.specs.Domain.{domainOf};
@@ -23,8 +24,8 @@ use words::joined64;
 
 // The sources that are pending and enabled, as bits.
 fn standing(part: &[u32]) -> u64
-    requires { ⌜ length (now part) ≡ 144 ⌝ }
-    ensures { λ r. ⌜ ((i : ℕ) → i < 64 → hasBit r i ≡ standing (domainOf (now (part .entry))) i) ⌝ }
+    requires { ⌜ length (now part) ≡ domainSize ⌝ }
+    ensures { λ r. ⌜ ((i : ℕ) → i < slotCount → hasBit r i ≡ standing (domainOf (now (part .entry))) i) ⌝ }
 {
     let pending = joined64(pending_word(part, 0), pending_word(part, 1));
     let enable = joined64(enable_word(part, 0), enable_word(part, 1));
@@ -33,7 +34,8 @@ fn standing(part: &[u32]) -> u64
 
 // Source `i`, which is pending and enabled, counts for hart `h`, whose structure is `x`.
 fn eligible(part: &[u32], h: usize, x: Delivery, i: usize) -> bool
-    requires { ⌜ (length (now part) ≡ 144) × (i < 64) × (x ≡ structureAt (domainOf (now part)) h)
+    requires { ⌜ (length (now part) ≡ domainSize) × (i < slotCount)
+        × (x ≡ structureAt (domainOf (now part)) h)
         × (standing (domainOf (now part)) i ≡ true) ⌝ }
     ensures { λ r. ⌜ r ≡ eligible (domainOf (now (part .entry))) h i ⌝ }
 {
@@ -46,7 +48,7 @@ fn eligible(part: &[u32], h: usize, x: Delivery, i: usize) -> bool
 
 // Source `i` goes before `best`, where 0 is none.
 fn precedes(part: &[u32], i: usize, best: usize) -> bool
-    requires { ⌜ (length (now part) ≡ 144) × (i < 64) × (best < 64) ⌝ }
+    requires { ⌜ (length (now part) ≡ domainSize) × (i < slotCount) × (best < slotCount) ⌝ }
     ensures { λ r. ⌜ r ≡ precedes (domainOf (now (part .entry))) i best ⌝ }
 {
     if best == 0 {
@@ -59,7 +61,7 @@ fn precedes(part: &[u32], i: usize, best: usize) -> bool
 
 // The better of `best` and source `i`, which is pending and enabled.
 fn better(part: &[u32], h: usize, x: Delivery, i: usize, best: usize) -> usize
-    requires { ⌜ (length (now part) ≡ 144) × (i < 64) × (best < 64)
+    requires { ⌜ (length (now part) ≡ domainSize) × (i < slotCount) × (best < slotCount)
         × (x ≡ structureAt (domainOf (now part)) h) × (standing (domainOf (now part)) i ≡ true) ⌝ }
     ensures { λ r. ⌜ r ≡ cond (eligible (domainOf (now (part .entry))) h i
         && precedes (domainOf (now (part .entry))) i best) i best ⌝ }
@@ -74,7 +76,7 @@ fn better(part: &[u32], h: usize, x: Delivery, i: usize, best: usize) -> usize
 
 // From one pending and enabled source to the next: `rest` has those from `i` on.
 pub fn top_source(part: &[u32], h: usize) -> usize
-    requires { ⌜ (length (now part) ≡ 144) × (h < 4) ⌝ }
+    requires { ⌜ (length (now part) ≡ domainSize) × (h < hartCount) ⌝ }
     ensures { λ r. ⌜ r ≡ topSource (domainOf (now (part .entry))) h ⌝ }
 {
     let x = load_structure(part, h);
@@ -94,7 +96,7 @@ pub fn top_source(part: &[u32], h: usize) -> usize
 
 // A source and its priority as topi has them; 0 for no source.
 pub fn topi_word(part: &[u32], i: usize) -> u32
-    requires { ⌜ (length (now part) ≡ 144) × (i < 64) ⌝ }
+    requires { ⌜ (length (now part) ≡ domainSize) × (i < slotCount) ⌝ }
     ensures { λ r. ⌜ r ≡ cond (eqb i 0) 0
         (i * 65536 + numberOf (sourceAt (domainOf (now (part .entry))) i .target)) ⌝ }
 {
@@ -106,7 +108,7 @@ pub fn topi_word(part: &[u32], i: usize) -> u32
 }
 
 pub fn topi(part: &[u32], h: usize) -> u32
-    requires { ⌜ (length (now part) ≡ 144) × (h < 4) ⌝ }
+    requires { ⌜ (length (now part) ≡ domainSize) × (h < hartCount) ⌝ }
     ensures { λ r. ⌜ r ≡ topiOf (domainOf (now (part .entry))) h ⌝ }
 {
     if by_messages(part) {

@@ -2,6 +2,7 @@
 ghost use mathlib.Core.Path.{_≡_};
 ghost use mathlib.Core.Bool.{true};
 ghost use lib.ListN.{length};
+ghost use Rattle.sizes.specs.Sizes.{blockSize};
 ghost use Rattle.transfer_steps.specs.Steps.{actWithin};
 ghost use Rattle.block.specs.Block.{boardOf, boardSound};
 ghost use Rattle.call.specs.Refusal.{isGuestFile};
@@ -10,18 +11,19 @@ use super::registers::put;
 use super::registers::save;
 use super::targets::retarget;
 use file::Access;
+use sizes::RECORD_SIZE;
 use transfer_steps::Act;
 
 pub fn perform(
     state: &mut [u32],
-    saved: &mut [u64; 10],
+    saved: &mut [u64; RECORD_SIZE],
     oldhart: u64,
     oldfile: u64,
     newhart: u64,
     newfile: u64,
     act: Act,
 )
-    requires { ⌜ (length (now state) ≡ 650) × (boardSound (boardOf (now state)) ≡ true)
+    requires { ⌜ (length (now state) ≡ blockSize) × (boardSound (boardOf (now state)) ≡ true)
         × (isGuestFile oldhart oldfile ≡ true) × (isGuestFile newhart newfile ≡ true)
         × (actWithin act ≡ true) ⌝ }
     ensures { λ r. ⌜ (boardOf (now (state .exit)) ≡ acted act oldhart oldfile newhart newfile

@@ -6,13 +6,14 @@ use super::targets::by_messages;
 use call::Answer;
 use call::check;
 use call::is_move;
+use sizes::RECORD_SIZE;
 use transfer_steps::act_of;
 
 // The caller lends the same record to each of the 89 accesses of a move.
 pub fn make_access(
     state: &mut [u32],
     log: &mut [u32],
-    saved: &mut [u64; 10],
+    saved: &mut [u64; RECORD_SIZE],
     oldhart: u64,
     oldfile: u64,
     newhart: u64,

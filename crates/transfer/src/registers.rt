@@ -3,6 +3,7 @@ ghost use mathlib.Core.Path.{_≡_};
 ghost use mathlib.Core.Bool.{true};
 ghost use Prim.Native.Nat.{_<_};
 ghost use lib.ListN.{length, set};
+ghost use Rattle.sizes.specs.Sizes.{blockSize, recordSize};
 ghost use Rattle.file.specs.declared.register.Access.the-variants as access;
 ghost use Rattle.file.specs.Reply.{replyValue};
 ghost use Rattle.block.specs.Block.{boardOf};
@@ -13,10 +14,11 @@ use file::Accessed;
 use file_calls::load_file;
 use file_calls::store_file;
 use file_calls::value_of;
+use sizes::RECORD_SIZE;
 
 // Not yet stored.
 fn accessed(state: &[u32], hart: u64, file: u64, kind: Access, select: u64, value: u64) -> Accessed
-    requires { ⌜ (length (now state) ≡ 650) × (isGuestFile hart file ≡ true) ⌝ }
+    requires { ⌜ (length (now state) ≡ blockSize) × (isGuestFile hart file ≡ true) ⌝ }
     ensures { λ r. ⌜ r ≡ registerOn (boardOf (now (state .entry))) hart file kind select value ⌝ }
 {
     let f = load_file(state, hart, file);
@@ -24,8 +26,15 @@ fn accessed(state: &[u32], hart: u64, file: u64, kind: Access, select: u64, valu
 }
 
 // A register is read into the record.
-pub fn save(state: &[u32], saved: &mut [u64; 10], hart: u64, file: u64, select: u64, place: usize)
-    requires { ⌜ (length (now state) ≡ 650) × (isGuestFile hart file ≡ true) × (place < 10) ⌝ }
+pub fn save(
+    state: &[u32],
+    saved: &mut [u64; RECORD_SIZE],
+    hart: u64,
+    file: u64,
+    select: u64,
+    place: usize,
+)
+    requires { ⌜ (length (now state) ≡ blockSize) × (isGuestFile hart file ≡ true) × (place < recordSize) ⌝ }
     ensures { λ r. ⌜ now (saved .exit) ≡ set (now (saved .entry)) place
         (replyValue (registerOn (boardOf (now (state .entry))) hart file access.Read select 0 .answer)) ⌝ }
 {
@@ -36,7 +45,7 @@ pub fn save(state: &[u32], saved: &mut [u64; 10], hart: u64, file: u64, select: 
 
 // A register is written, or bits of it are set or cleared.
 pub fn put(state: &mut [u32], hart: u64, file: u64, kind: Access, select: u64, value: u64)
-    requires { ⌜ (length (now state) ≡ 650) × (isGuestFile hart file ≡ true) ⌝ }
+    requires { ⌜ (length (now state) ≡ blockSize) × (isGuestFile hart file ≡ true) ⌝ }
     ensures { λ r. ⌜ boardOf (now (state .exit)) ≡ withOne (boardOf (now (state .entry))) hart file
         (registerOn (boardOf (now (state .entry))) hart file kind select value .file) ⌝ }
 {

@@ -3,27 +3,33 @@ ghost use mathlib.Core.Path.{_≡_};
 ghost use mathlib.Core.Bool.{true};
 ghost use Prim.Native.Nat.{_≤_, _<_};
 ghost use lib.ListN.{length};
+ghost use Rattle.sizes.specs.Sizes.{sourceCount, wiredSize, blockSize};
+ghost use Rattle.values.specs.Values.{configMark};
 ghost use Rattle.domain.specs.Domain.{configOf, byMessages};
 ghost use Rattle.wires.specs.Wires.{wiredOf, domainIn};
 ghost use Rattle.block.specs.Block.{boardOf, boardSound};
 ghost use Rattle.call.specs.Refusal.{isGuestFile};
 ghost use Rattle.call.specs.Move.{retargetedIn};
 use region::Word;
+use sizes::BLOCK_SIZE;
+use sizes::CHILD_PLACE;
+use sizes::WIRED_PLACE;
+use sizes::WIRED_SIZE;
 use transfer_steps::names_file;
 use transfer_steps::renamed;
 
 pub fn by_messages(state: &[u32]) -> bool
-    requires { ⌜ length (now state) ≡ 650 ⌝ }
+    requires { ⌜ length (now state) ≡ blockSize ⌝ }
     ensures { λ r. ⌜ r ≡ byMessages (boardOf (now (state .entry)) .wired .child) ⌝ }
 {
-    let w = &state[360..650];
-    domain::by_messages(&w[146..290])
+    let w = &state[WIRED_PLACE..BLOCK_SIZE];
+    domain::by_messages(&w[CHILD_PLACE..WIRED_SIZE])
 }
 
 // In the words of the wired controller. The target is read, and written anew if it names the old file.
 fn rewrite(w: &mut [u32], oldhart: u64, oldfile: u64, newhart: u64, newfile: u64, source: u64)
-    requires { ⌜ (length (now w) ≡ 290) × (configOf (domainIn (wiredOf (now w)) true) < 0x80000000)
-        × (isGuestFile newhart newfile ≡ true) × (1 ≤ source) × (source ≤ 63) ⌝ }
+    requires { ⌜ (length (now w) ≡ wiredSize) × (configOf (domainIn (wiredOf (now w)) true) < configMark)
+        × (isGuestFile newhart newfile ≡ true) × (1 ≤ source) × (source ≤ sourceCount) ⌝ }
     ensures { λ r. ⌜ wiredOf (now (w .exit))
         ≡ retargetedIn oldhart oldfile newhart newfile (wiredOf (now (w .entry))) source ⌝ }
 {
@@ -46,8 +52,8 @@ pub fn retarget(
     newfile: u64,
     source: u64,
 )
-    requires { ⌜ (length (now state) ≡ 650) × (boardSound (boardOf (now state)) ≡ true)
-        × (isGuestFile newhart newfile ≡ true) × (1 ≤ source) × (source ≤ 63) ⌝ }
+    requires { ⌜ (length (now state) ≡ blockSize) × (boardSound (boardOf (now state)) ≡ true)
+        × (isGuestFile newhart newfile ≡ true) × (1 ≤ source) × (source ≤ sourceCount) ⌝ }
     ensures { λ r. ⌜ boardOf (now (state .exit))
         ≡ record {
           files = boardOf (now (state .entry)) .files;
@@ -55,7 +61,7 @@ pub fn retarget(
         } ⌝ }
 {
     rewrite(
-        &mut state[360..650],
+        &mut state[WIRED_PLACE..BLOCK_SIZE],
         oldhart,
         oldfile,
         newhart,

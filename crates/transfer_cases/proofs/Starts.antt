@@ -40,7 +40,7 @@ use Rattle.source_rules.specs.SourceRules.{sentRule, sourceSound}
 use Rattle.rules.specs.Rules.{configRange, generatedRange, structureRange, sourceZeroRule, generatedRule}
 use Rattle.rules.specs.Rules.{sourceRule, domainSound, delegatedRule, wiredSound}
 use Rattle.transfer_steps.specs.Names.{namesFile, renamed}
-use Rattle.transfer_steps.specs.Steps.{saved}
+use Rattle.sizes.specs.Sizes.{recordSize}
 use Rattle.block.specs.Block.{Board, boardOf, domainWords, wiredWords, blockOf, boardSound}
 use Rattle.block.specs.Start.{startFile, startFilesFrom, startDomain, startBoard}
 use Rattle.call.specs.declared.Call.{Call}
@@ -91,7 +91,7 @@ barred false q e h = absurd (false≢true h)
 -- ---- what is lent, where the board of its block is the board that it was made of
 
 abbrev pub startOf : Board → call.Acted
-startOf b = record { board = b; saved = replicate saved 0 }
+startOf b = record { board = b; saved = replicate recordSize 0 }
 
 pub ready-started : (x : Lent) → Started x → Ready x
 ready-started x s =
@@ -131,7 +131,7 @@ module _ (b : Board) (good : Good b) (n : ℕ) where
         words = below-each (2 ^ 32) (blockOf b) (omega arith) (and-second long fit both);
         rules = ap boardSound (good .back) ∙ and-second (long && fit) (boardSound b) (good .tests);
         record-long = refl;
-        record-fit = below-each (2 ^ 64) (replicate saved 0) (omega arith) refl;
+        record-fit = below-each (2 ^ 64) (replicate recordSize 0) (omega arith) refl;
       }
 
 module _ (b : Board) (good : Good b) where

@@ -14,7 +14,7 @@ use Rattle.files.specs.Files.{withFile}
 use Rattle.domain.specs.Domain.{Domain}
 use Rattle.wires.specs.Wires.{Wired}
 use Rattle.transfer_steps.specs.Names.{renamed}
-use Rattle.transfer_steps.specs.Steps.{saved}
+use Rattle.sizes.specs.Sizes.{recordSize}
 use Rattle.block.specs.Block.{Board, blockOf}
 use Rattle.block.specs.Start.{startBoard}
 use Rattle.runs.specs.Runs.{Lent}
@@ -56,4 +56,4 @@ unfoldable pub boardWith : Wired → Board
 boardWith w = record { files = withFile (startBoard .files) (oldNumber stations) held; wired = w }
 
 unfoldable pub lent : Board → ℕ → Lent
-lent b n = record { block = blockOf b; log = replicate n 0; saved = replicate saved 0 }
+lent b n = record { block = blockOf b; log = replicate n 0; saved = replicate recordSize 0 }

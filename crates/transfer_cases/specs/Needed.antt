@@ -15,7 +15,7 @@ use mathlib.Core.Bool.{true, false}
 use mathlib.Core.List.{List, [], _∷_}
 use lib.ListN.{length}
 use Rattle.words.specs.Sets.{WordsFit}
-use Rattle.transfer_steps.specs.Steps.{saved}
+use Rattle.sizes.specs.Sizes.{recordSize}
 use Rattle.block.specs.Block.{boardSound}
 use Rattle.call.specs.Refusal.{isFile, isGuestFile}
 use Rattle.call_laws.specs.Fit.{SavedFit}
@@ -44,7 +44,7 @@ pub record StartedNoLog (x : Lent) : Type 0 where
   pub block : length (x .block) ≡ 650
   pub words : WordsFit (x .block)
   pub rules : boardSound (boardIn x) ≡ true
-  pub record-long : length (x .saved) ≡ saved
+  pub record-long : length (x .saved) ≡ recordSize
   pub record-fit : SavedFit (x .saved)
 
 pub record AnyOld (m : Stations) : Type 0 where

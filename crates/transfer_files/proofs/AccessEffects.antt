@@ -9,7 +9,7 @@ use native.Mathlib.Omega.{arith}
 use lib.ListN.{getD, set}
 use Rattle.words.specs.Bits.{union}
 use Rattle.select.specs.declared.Register.the-variants.{Pending, Enable}
-use Rattle.select.specs.Size.{identities}
+use Rattle.sizes.specs.Sizes.{identities}
 use Rattle.select.specs.Halves.{doubleword}
 use Rattle.file.specs.declared.File.{File}
 use Rattle.file.specs.Shape.{Shaped}

@@ -11,7 +11,7 @@ use borrow.Author.Tests.{ne-eqb}
 use Rattle.words.specs.Bits.{union}
 use Rattle.select.specs.declared.Register.{Register}
 use Rattle.select.specs.declared.Register.the-variants.{Delivery, Threshold, Pending, Enable}
-use Rattle.select.specs.Size.{identities}
+use Rattle.sizes.specs.Sizes.{identities}
 use Rattle.select.specs.Select.{selectLegal, registerOf}
 use Rattle.select.specs.Halves.{doubleword}
 use Rattle.select.specs.Deliveries.{deliveryLegal}

@@ -10,7 +10,8 @@ use lib.ListN.{getD, set, length-set}
 use lib.Seq.{getD-set-same, getD-set-other}
 use Rattle.select.specs.Halves.{doubleword}
 use Rattle.file.specs.declared.File.{File}
-use Rattle.transfer_steps.specs.Steps.{saved, deliveryAt, thresholdAt, pendingAt, enableAt}
+use Rattle.sizes.specs.Sizes.{recordSize}
+use Rattle.transfer_steps.specs.Steps.{deliveryAt, thresholdAt, pendingAt, enableAt}
 use Rattle.transfer_files.specs.Related.{Noted}
 
 module _ (n : ℕ) (s p : List ℕ) (c : File) (r : Noted n s p c) where
@@ -30,7 +31,7 @@ module _ (n : ℕ) (s p : List ℕ) (c : File) (r : Noted n s p c) where
     apart : (place j : ℕ) → j ≢ place → getD (set s place v) j 0 ≡ getD s j 0
     apart place j d = getD-set-other s place j v 0 d
 
-    placed : (place j w : ℕ) → place < saved → (j ≡ place → v ≡ w) → (j ≢ place → getD s j 0 ≡ w)
+    placed : (place j w : ℕ) → place < recordSize → (j ≡ place → v ≡ w) → (j ≢ place → getD s j 0 ≡ w)
         → getD (set s place v) j 0 ≡ w
     placed place j w fits same other = at (ℕ-discrete j place)
       where

@@ -11,7 +11,7 @@ use lib.Dec.{eqb, leb}
 use lib.ListN.{length}
 use Rattle.words.specs.Sets.{member}
 use Rattle.words.proofs.SetsLaws.{member-ext}
-use Rattle.select.specs.Size.{identities}
+use Rattle.sizes.specs.Sizes.{identities}
 use Rattle.select.specs.Halves.{doubleword}
 use Rattle.file.specs.declared.File.{File}
 use Rattle.file.specs.Shape.{Shaped}
@@ -20,7 +20,8 @@ use Rattle.file.specs.Page.{arrived}
 use Rattle.file_laws.proofs.Keeps.{Rules}
 use Rattle.file_laws.proofs.PageEffects.{arrived-pending, arrived-rest}
 use Rattle.file_laws.proofs.Stored.{file-path}
-use Rattle.transfer_steps.specs.Steps.{accesses, saved, actOf}
+use Rattle.sizes.specs.Sizes.{recordSize}
+use Rattle.transfer_steps.specs.Steps.{accesses, actOf}
 use Rattle.transfer_files.specs.Related.{Three, actedOn, Shared, Related}
 use Rattle.transfer_files.proofs.SharedEffects.{shared-both, shared-new}
 use Rattle.transfer_files.proofs.RestoredEffects.{restored-early}
@@ -31,7 +32,7 @@ use Rattle.transfer_files.proofs.AccessEffects.{enable-written, thresho
 
 -- ---- before the first access
 
-pub related-start : (o f : File) (s : List ℕ) → length s ≡ saved
+pub related-start : (o f : File) (s : List ℕ) → length s ≡ recordSize
     → Related 0 (record { old = o; new = f; numbers = s }) o
 related-start o f s e =
     record {

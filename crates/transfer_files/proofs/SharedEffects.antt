@@ -11,7 +11,7 @@ use Rattle.words.specs.Bits.{hasBit, union}
 use Rattle.words.specs.Sets.{member, WordsFit}
 use Rattle.words.proofs.BitsLaws.{hasBit-nothing, hasBit-union}
 use Rattle.select.specs.declared.Register.the-variants.{Pending}
-use Rattle.select.specs.Size.{identities}
+use Rattle.sizes.specs.Sizes.{identities}
 use Rattle.select.specs.Halves.{doubleword}
 use Rattle.file.specs.declared.File.{File}
 use Rattle.file.specs.Shape.{Shaped}

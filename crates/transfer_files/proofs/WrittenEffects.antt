@@ -17,7 +17,7 @@ use Rattle.words.specs.Sets.{member, WordsFit}
 use Rattle.words.proofs.BitsLaws.{hasBit-withoutBit-same}
 use Rattle.words.proofs.PartsLaws.{hasBit-joined-low, hasBit-joined-high}
 use Rattle.select.specs.declared.Register.the-variants.{Pending, Enable}
-use Rattle.select.specs.Size.{identities}
+use Rattle.sizes.specs.Sizes.{identities}
 use Rattle.select.specs.Halves.{doubleword, putDoubleword}
 use Rattle.file.specs.declared.File.{File}
 use Rattle.file.specs.Shape.{Shaped}

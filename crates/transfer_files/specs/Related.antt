@@ -13,7 +13,7 @@ use mathlib.Core.Bool.{true, false, cond, _||_}
 use mathlib.Core.List.{List}
 use lib.ListN.{length, getD, set}
 use Rattle.words.specs.Sets.{member}
-use Rattle.select.specs.Size.{identities}
+use Rattle.sizes.specs.Sizes.{identities}
 use Rattle.select.specs.Halves.{doubleword}
 use Rattle.file.specs.declared.File.{File}
 use Rattle.file.specs.declared.register.Access.{Access}
@@ -23,7 +23,8 @@ use Rattle.file.specs.Reply.{replyValue}
 use Rattle.file.specs.Register.{accessed}
 use Rattle.transfer_steps.specs.declared.Act.{Act}
 use Rattle.transfer_steps.specs.declared.Act.the-variants.{Save, Zero, Target, Put}
-use Rattle.transfer_steps.specs.Steps.{saved, deliveryAt, thresholdAt, pendingAt, enableAt}
+use Rattle.sizes.specs.Sizes.{recordSize}
+use Rattle.transfer_steps.specs.Steps.{accesses, deliveryAt, thresholdAt, pendingAt, enableAt}
 
 pub record Three : Type 0 where
   pub old : File
@@ -70,7 +71,7 @@ pub record Shared (n : ℕ) (o f c : List ℕ) : Type 0 where
 
 -- the numbers s that are saved; p is the pending set of the old file
 pub record Noted (n : ℕ) (s p : List ℕ) (c : File) : Type 0 where
-  pub ten : length s ≡ saved
+  pub ten : length s ≡ recordSize
   pub delivery : 1 ≤ n → getD s deliveryAt 0 ≡ c .delivery
   pub threshold : 2 ≤ n → getD s thresholdAt 0 ≡ c .threshold
   pub pending : (k : ℕ) → k < 4 → k + 72 ≤ n → getD s (pendingAt k) 0 ≡ doubleword p k
@@ -80,7 +81,7 @@ pub record Noted (n : ℕ) (s p : List ℕ) (c : File) : Type 0 where
 pub record Restored (n : ℕ) (f c : File) : Type 0 where
   pub enable : (i : ℕ) → i < 256 → i / 64 + 84 ≤ n → member (f .enable) i ≡ member (c .enable) i
   pub threshold : 88 ≤ n → f .threshold ≡ c .threshold
-  pub delivery : 89 ≤ n → f .delivery ≡ c .delivery
+  pub delivery : accesses ≤ n → f .delivery ≡ c .delivery
 
 pub record Related (n : ℕ) (x : Three) (c : File) : Type 0 where
   pub untouched : Untouched n (x .old) c

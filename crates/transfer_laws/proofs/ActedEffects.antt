@@ -8,7 +8,7 @@ use mathlib.Core.Logic.{_≢_}
 use native.Mathlib.Omega.{arith}
 use lib.ListN.{length, getD, set}
 use borrow.Author.Tests.{le-leb}
-use Rattle.select.specs.Size.{identities}
+use Rattle.sizes.specs.Sizes.{identities}
 use Rattle.file.specs.declared.File.{File}
 use Rattle.file.specs.declared.register.Access.{Access}
 use Rattle.file.specs.declared.register.Access.the-variants.{Read, Write}

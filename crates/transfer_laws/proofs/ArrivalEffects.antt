@@ -14,7 +14,7 @@ use lib.Dec.{eqb}
 use lib.ListN.{length}
 use Rattle.words.specs.Parts.{reversed}
 use mathlib.Core.Bool.{cond}
-use Rattle.select.specs.Size.{identities}
+use Rattle.sizes.specs.Sizes.{identities}
 use Rattle.file.specs.declared.File.{File}
 use Rattle.file.specs.Page.{arrived, pageWritten}
 use Rattle.file.specs.Shape.{Shaped}

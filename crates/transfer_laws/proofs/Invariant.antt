@@ -15,7 +15,7 @@ use lib.ListN.{getD}
 use Rattle.words.specs.Bits.{hasBit}
 use borrow.Author.Tests.{eq-eqb, eqb-true, le-leb}
 use Rattle.words.proofs.TestsLaws.{tested, and-first, and-second, and-both, not-same}
-use Rattle.select.specs.Size.{identities}
+use Rattle.sizes.specs.Sizes.{identities}
 use Rattle.file.specs.declared.File.{File}
 use Rattle.file.specs.Page.{pageWritten}
 use Rattle.file_laws.proofs.Keeps.{Rules}

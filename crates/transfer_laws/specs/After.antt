@@ -11,6 +11,7 @@
 use Prim.Native.Nat.{ℕ}
 use mathlib.Core.Path.{_≡_}
 use mathlib.Core.List.{List, map}
+use Rattle.sizes.specs.Sizes.{hartFiles}
 use Rattle.words.specs.Bits.{hasBit}
 use Rattle.block.specs.Block.{Board}
 use Rattle.call.specs.declared.Call.{Call}
@@ -58,4 +59,5 @@ SmallCalls cs = AllSmall (map (callOn 0 0) cs)
 
 unfoldable pub SameSignal : Stations → Board → Board → Type 0
 SameSignal m b b′ =
-    hasBit (signalsTo b (m .newHart) 5) (m .newFile) ≡ hasBit (signalsTo b′ (m .oldHart) 5) (m .oldFile)
+    hasBit (signalsTo b (m .newHart) hartFiles) (m .newFile)
+    ≡ hasBit (signalsTo b′ (m .oldHart) hartFiles) (m .oldFile)

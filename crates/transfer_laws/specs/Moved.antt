@@ -15,6 +15,7 @@ use mathlib.Core.Path.{_≡_}
 use mathlib.Core.Bool.{Bool}
 use mathlib.Core.List.{List, [], _∷_}
 use mathlib.Core.Logic.{_≢_}
+use Rattle.sizes.specs.Sizes.{fileCount}
 use Rattle.file.specs.declared.File.{File}
 use Rattle.files.specs.Files.{fileNumber, theFile}
 use Rattle.wires.specs.Wires.{domainIn}
@@ -39,7 +40,7 @@ newIn m b = theFile (b .files) (newNumber m)
 
 pub record Moved (m : Stations) (b b′ : Board) : Type 0 where
   pub station : newIn m b ≡ oldIn m b′
-  pub others : (k : ℕ) → k < 20 → k ≢ oldNumber m → k ≢ newNumber m
+  pub others : (k : ℕ) → k < fileCount → k ≢ oldNumber m → k ≢ newNumber m
       → theFile (b .files) k ≡ theFile (b′ .files) k
   pub wires : b .wired .wires ≡ b′ .wired .wires
   pub pending : (c : Bool) → domainIn (b .wired) c .pending ≡ domainIn (b′ .wired) c .pending

@@ -16,12 +16,14 @@ use mathlib.Core.Path.{_≡_}
 use mathlib.Core.Bool.{true, false}
 use mathlib.Core.List.{List, [], _∷_}
 use lib.ListN.{length}
+use Rattle.sizes.specs.Sizes.{sourceCount, blockSize, logSize}
 use Rattle.words.specs.Sets.{WordsFit}
 use Rattle.mode.specs.Mode.{isActive}
 use Rattle.domain.specs.Domain.{byMessages}
 use Rattle.domain.specs.Slot.{sourceAt}
 use Rattle.transfer_steps.specs.Names.{namesFile}
-use Rattle.transfer_steps.specs.Steps.{accesses, saved}
+use Rattle.sizes.specs.Sizes.{recordSize}
+use Rattle.transfer_steps.specs.Steps.{accesses}
 use Rattle.block.specs.Block.{boardSound}
 use Rattle.call.specs.Refusal.{isGuestFile}
 use Rattle.call_laws.specs.Fit.{SavedFit}
@@ -30,11 +32,11 @@ use Rattle.runs.specs.Ready.{boardIn}
 use Rattle.transfer_laws.specs.Shift.{Stations, Event, isOld, isNew}
 
 pub record Started (x : Lent) : Type 0 where
-  pub block : length (x .block) ≡ 650
+  pub block : length (x .block) ≡ blockSize
   pub words : WordsFit (x .block)
   pub rules : boardSound (boardIn x) ≡ true
-  pub log : length (x .log) ≡ 63
-  pub record-long : length (x .saved) ≡ saved
+  pub log : length (x .log) ≡ logSize
+  pub record-long : length (x .saved) ≡ recordSize
   pub record-fit : SavedFit (x .saved)
 
 pub record TwoGuests (m : Stations) : Type 0 where
@@ -47,7 +49,7 @@ ByMessages x = byMessages (boardIn x .wired .child) ≡ true
 
 unfoldable pub NoneNamesNew : Stations → Lent → Type 0
 NoneNamesNew m x =
-    (i : ℕ) → 1 ≤ i → i ≤ 63
+    (i : ℕ) → 1 ≤ i → i ≤ sourceCount
     → let s = sourceAt (boardIn x .wired .child) i in
     isActive (s .mode) ≡ true → namesFile (s .target) (m .newHart) (m .newFile) ≡ false
 

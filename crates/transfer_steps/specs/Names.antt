@@ -6,6 +6,7 @@
 use Prim.Native.Nat.{ℕ, _+_, _-_}
 use mathlib.Core.Bool.{Bool, _&&_}
 use lib.Dec.{eqb}
+use Rattle.target.specs.Target.{hartAt, guestAt}
 use Rattle.words.specs.Parts.{packed}
 use Rattle.target.specs.Target.{hartOf, guestOf, numberOf}
 
@@ -13,4 +14,4 @@ unfoldable pub namesFile : ℕ → ℕ → ℕ → Bool
 namesFile t h f = eqb (hartOf t) h && eqb (guestOf t + 1) f
 
 unfoldable pub renamed : ℕ → ℕ → ℕ → ℕ
-renamed t h f = packed h 18 (packed (f - 1) 12 (numberOf t))
+renamed t h f = packed h hartAt (packed (f - 1) guestAt (numberOf t))

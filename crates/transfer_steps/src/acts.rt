@@ -4,6 +4,10 @@ ghost use Prim.Native.Nat.{_≤_};
 ghost use Rattle.transfer_steps.specs.Steps.{actOf};
 use super::Act;
 use file::Access;
+use select::EIDELIVERY;
+use select::EIE0;
+use select::EIP0;
+use select::EITHRESHOLD;
 
 // Accesses 1 to 89, of the six steps: 3, 5, 63, 8, 8 and 2.
 pub fn act_of(access: u64) -> Act
@@ -11,19 +15,19 @@ pub fn act_of(access: u64) -> Act
     ensures { λ r. ⌜ r ≡ actOf access ⌝ }
 {
     if access == 1 {
-        return Act::Save(0x70, 0);
+        return Act::Save(EIDELIVERY, 0);
     }
     if access == 2 {
-        return Act::Save(0x72, 1);
+        return Act::Save(EITHRESHOLD, 1);
     }
     if access == 3 {
-        return Act::Zero(false, 0x70);
+        return Act::Zero(false, EIDELIVERY);
     }
     if access == 4 {
-        return Act::Zero(true, 0x70);
+        return Act::Zero(true, EIDELIVERY);
     }
     if access <= 8 {
-        return Act::Zero(true, 0x80 + 2 * (access - 5));
+        return Act::Zero(true, EIP0 + 2 * (access - 5));
     }
     if access <= 71 {
         return Act::Target(access - 8);
@@ -37,27 +41,27 @@ fn later_of(access: u64) -> Act
     ensures { λ r. ⌜ r ≡ actOf access ⌝ }
 {
     if access <= 75 {
-        return Act::Save(0x80 + 2 * (access - 72), 2 + (access - 72) as usize);
+        return Act::Save(EIP0 + 2 * (access - 72), 2 + (access - 72) as usize);
     }
     if access <= 79 {
-        return Act::Save(0xC0 + 2 * (access - 76), 6 + (access - 76) as usize);
+        return Act::Save(EIE0 + 2 * (access - 76), 6 + (access - 76) as usize);
     }
     if access <= 83 {
         return Act::Put(
             Access::Set,
-            0x80 + 2 * (access - 80),
+            EIP0 + 2 * (access - 80),
             2 + (access - 80) as usize,
         );
     }
     if access <= 87 {
         return Act::Put(
             Access::Write,
-            0xC0 + 2 * (access - 84),
+            EIE0 + 2 * (access - 84),
             6 + (access - 84) as usize,
         );
     }
     if access == 88 {
-        return Act::Put(Access::Write, 0x72, 1);
+        return Act::Put(Access::Write, EITHRESHOLD, 1);
     }
-    Act::Put(Access::Write, 0x70, 0)
+    Act::Put(Access::Write, EIDELIVERY, 0)
 }

@@ -8,6 +8,9 @@ use file::Access;
 pub use names::names_file;
 pub use names::renamed;
 
+// How many accesses a move has.
+pub const ACCESSES: u64 = 89;
+
 // What one access does.
 pub enum Act {
     // select, place: a register of the old file is read into the record

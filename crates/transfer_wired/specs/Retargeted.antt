@@ -11,6 +11,7 @@ use Prim.Native.Nat.{ℕ, _+_, _≤_, _<_}
 use mathlib.Core.Path.{_≡_}
 use mathlib.Core.Bool.{true, false}
 use mathlib.Core.Logic.{_⊎_}
+use Rattle.sizes.specs.Sizes.{slotCount}
 use Rattle.domain.specs.Slot.{sourceAt}
 use Rattle.wires.specs.Wires.{Wired}
 use Rattle.transfer_steps.specs.Names.{namesFile, renamed}
@@ -36,6 +37,6 @@ module _ (oh of nh nf : ℕ) where
 
   abbrev pub TargetsMoved : ℕ → Wired → Wired → Type 0
   TargetsMoved n w u =
-      (i : ℕ) → 1 ≤ i → i < 64
+      (i : ℕ) → 1 ≤ i → i < slotCount
       → let t = sourceAt (w .child) i .target in
       let t′ = sourceAt (u .child) i .target in Same n i t t′ ⊎ Rewritten n i t t′

@@ -17,8 +17,12 @@ use Rattle.inputs.specs.Inputs.{inputWord}
 use Rattle.direct.specs.declared.Setting.the-variants as setting
 use Rattle.direct.specs.Direct.{topiOf, settingOf}
 
+-- what domaincfg reads above the stored word
+abbrev pub configMark : ℕ
+configMark = 0x80000000
+
 unfoldable pub registerValue : Domain → List ℕ → Word → ℕ
-registerValue d ws Domaincfg = 0x80000000 + configOf d
+registerValue d ws Domaincfg = configMark + configOf d
 registerValue d ws (Sourcecfg i) = sourceAt d i .mode
 registerValue d ws (Setip k) = getD (d .pending) k 0
 registerValue d ws Setipnum = 0

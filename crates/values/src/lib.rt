@@ -2,15 +2,20 @@
 ghost use mathlib.Core.Path.{_≡_};
 ghost use Prim.Native.Nat.{_+_, _<_};
 ghost use lib.ListN.{length};
+ghost use Rattle.sizes.specs.Sizes.{slotCount, domainSize};
 ghost use Rattle.region.specs.Region.{Within};
 ghost use Rattle.domain.specs.Domain.{domainOf, configOf};
 ghost use Rattle.domain.specs.Slot.{sourceAt};
 ghost use Rattle.values.specs.Values.{registerValue};
+ghost use Rattle.values.specs.Values.{configMark};
 use direct::Setting;
 use region::Word;
+use sizes::SOURCE_SET_SIZE;
+
+const CONFIG_MARK: u32 = 0x80000000;
 
 fn source_word(part: &[u32], i: usize) -> u32
-    requires { ⌜ (length (now part) ≡ 144) × (i < 64) ⌝ }
+    requires { ⌜ (length (now part) ≡ domainSize) × (i < slotCount) ⌝ }
     ensures { λ r. ⌜ r ≡ sourceAt (domainOf (now (part .entry))) i .mode ⌝ }
 {
     let s = domain::load(part, i);
@@ -18,7 +23,7 @@ fn source_word(part: &[u32], i: usize) -> u32
 }
 
 fn target_word(part: &[u32], i: usize) -> u32
-    requires { ⌜ (length (now part) ≡ 144) × (i < 64) ⌝ }
+    requires { ⌜ (length (now part) ≡ domainSize) × (i < slotCount) ⌝ }
     ensures { λ r. ⌜ r ≡ sourceAt (domainOf (now (part .entry))) i .target ⌝ }
 {
     let s = domain::load(part, i);
@@ -26,14 +31,15 @@ fn target_word(part: &[u32], i: usize) -> u32
 }
 
 fn config_word(part: &[u32]) -> u32
-    requires { ⌜ (length (now part) ≡ 144) × (configOf (domainOf (now part)) < 0x80000000) ⌝ }
-    ensures { λ r. ⌜ r ≡ 0x80000000 + configOf (domainOf (now (part .entry))) ⌝ }
+    requires { ⌜ (length (now part) ≡ domainSize) × (configOf (domainOf (now part)) < configMark) ⌝ }
+    ensures { λ r. ⌜ r ≡ configMark + configOf (domainOf (now (part .entry))) ⌝ }
 {
-    0x80000000 + domain::config(part)
+    CONFIG_MARK + domain::config(part)
 }
 
-pub fn value_of(part: &[u32], wires: [u32; 2], word: Word) -> u32
-    requires { ⌜ (length (now part) ≡ 144) × (configOf (domainOf (now part)) < 0x80000000) × Within word ⌝ }
+pub fn value_of(part: &[u32], wires: [u32; SOURCE_SET_SIZE], word: Word) -> u32
+    requires { ⌜ (length (now part) ≡ domainSize) × (configOf (domainOf (now part)) < configMark)
+        × Within word ⌝ }
     ensures { λ r. ⌜ r ≡ registerValue (domainOf (now (part .entry))) wires word ⌝ }
 {
     match word {

@@ -2,46 +2,51 @@
 ghost use mathlib.Core.Path.{_≡_};
 ghost use Prim.Native.Nat.{_<_};
 ghost use lib.ListN.{length};
+ghost use Rattle.sizes.specs.Sizes.{hartCount, wiredSize};
+ghost use Rattle.values.specs.Values.{configMark};
 ghost use Rattle.region.specs.Region.{Within};
 ghost use Rattle.domain.specs.Domain.{configOf};
 ghost use Rattle.direct.specs.Direct.{signalOf};
 ghost use Rattle.wires.specs.Wires.{wiredOf, domainIn};
 ghost use Rattle.wired.specs.Wired.{readIn, claimedIn, partWritten};
 use region::Word;
+use sizes::CHILD_PLACE;
+use sizes::ROOT_PLACE;
+use sizes::WIRED_SIZE;
 use wires::wires;
 
 pub fn read(w: &mut [u32], child: bool, word: Word) -> u32
-    requires { ⌜ (length (now w) ≡ 290) × (configOf (domainIn (wiredOf (now w)) child) < 0x80000000)
+    requires { ⌜ (length (now w) ≡ wiredSize) × (configOf (domainIn (wiredOf (now w)) child) < configMark)
         × Within word ⌝ }
     ensures { λ r. ⌜ (r ≡ readIn (wiredOf (now (w .entry))) child word)
         × (wiredOf (now (w .exit)) ≡ claimedIn (wiredOf (now (w .entry))) child word) ⌝ }
 {
     let levels = wires(w);
     if child {
-        return registers::read(&mut w[146..290], levels, word);
+        return registers::read(&mut w[CHILD_PLACE..WIRED_SIZE], levels, word);
     }
-    registers::read(&mut w[2..146], levels, word)
+    registers::read(&mut w[ROOT_PLACE..CHILD_PLACE], levels, word)
 }
 
 // A write that concerns the domain written alone.
 pub fn write_part(w: &mut [u32], child: bool, word: Word, value: u32)
-    requires { ⌜ (length (now w) ≡ 290) × Within word ⌝ }
+    requires { ⌜ (length (now w) ≡ wiredSize) × Within word ⌝ }
     ensures { λ r. ⌜ wiredOf (now (w .exit)) ≡ partWritten (wiredOf (now (w .entry))) child word value ⌝ }
 {
     let levels = wires(w);
     if child {
-        registers::write(&mut w[146..290], true, levels, word, value);
+        registers::write(&mut w[CHILD_PLACE..WIRED_SIZE], true, levels, word, value);
         return;
     }
-    registers::write(&mut w[2..146], false, levels, word, value);
+    registers::write(&mut w[ROOT_PLACE..CHILD_PLACE], false, levels, word, value);
 }
 
 pub fn signal(w: &[u32], child: bool, h: usize) -> bool
-    requires { ⌜ (length (now w) ≡ 290) × (h < 4) ⌝ }
+    requires { ⌜ (length (now w) ≡ wiredSize) × (h < hartCount) ⌝ }
     ensures { λ r. ⌜ r ≡ signalOf (domainIn (wiredOf (now (w .entry))) child) h ⌝ }
 {
     if child {
-        return direct::signal(&w[146..290], h);
+        return direct::signal(&w[CHILD_PLACE..WIRED_SIZE], h);
     }
-    direct::signal(&w[2..146], h)
+    direct::signal(&w[ROOT_PLACE..CHILD_PLACE], h)
 }

@@ -1,6 +1,7 @@
 // A write to any register: a sourcecfg concerns both domains, every other register the domain written.
 ghost use mathlib.Core.Path.{_≡_};
 ghost use lib.ListN.{length};
+ghost use Rattle.sizes.specs.Sizes.{wiredSize};
 ghost use Rattle.region.specs.Region.{Within};
 ghost use Rattle.wires.specs.Wires.{wiredOf};
 ghost use Rattle.wired.specs.Wired.{writtenIn};
@@ -11,7 +12,7 @@ use region::role_of;
 use wired_sourcecfg::write_source;
 
 pub fn write(w: &mut [u32], child: bool, word: Word, value: u32)
-    requires { ⌜ (length (now w) ≡ 290) × Within word ⌝ }
+    requires { ⌜ (length (now w) ≡ wiredSize) × Within word ⌝ }
     ensures { λ r. ⌜ wiredOf (now (w .exit)) ≡ writtenIn (wiredOf (now (w .entry))) child word value ⌝ }
 {
     match role_of(word) {

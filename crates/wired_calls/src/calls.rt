@@ -8,6 +8,9 @@ use call::Answer;
 use call::check;
 use region::address_legal;
 use region::word_at;
+use sizes::DOMAIN_COUNT;
+
+const DOMAINS: u64 = DOMAIN_COUNT as u64;
 
 pub fn wire(state: &mut [u32], log: &mut [u32], wire: u64, level: u64) -> Answer
     ensures { λ r. ⌜ Does (the.Wire wire level) (now (state .entry)) (now (log .entry)) r
@@ -33,7 +36,7 @@ pub fn domain_read(state: &mut [u32], log: &mut [u32], domain: u64, address: u64
     let Answer::Done(_, _) = answer else {
         return answer;
     };
-    if 2 <= domain {
+    if DOMAINS <= domain {
         return Answer::NoSuch;
     }
     if !address_legal(address) {
@@ -57,7 +60,7 @@ pub fn domain_write(
     let Answer::Done(_, _) = answer else {
         return answer;
     };
-    if 2 <= domain {
+    if DOMAINS <= domain {
         return Answer::NoSuch;
     }
     if !address_legal(address) {

@@ -2,14 +2,18 @@
 ghost use mathlib.Core.Path.{_≡_};
 ghost use mathlib.Core.Bool.{true};
 ghost use lib.ListN.{length};
+ghost use Rattle.sizes.specs.Sizes.{blockSize};
 ghost use Rattle.region.specs.Region.{Within};
 ghost use Rattle.wired.specs.Wired.{readIn};
 ghost use Rattle.controller.specs.Controller.{readCall};
 ghost use Rattle.block.specs.Block.{boardOf, boardSound};
 use region::Word;
+use sizes::BLOCK_SIZE;
+use sizes::WIRED_PLACE;
 
 pub fn read_done(state: &mut [u32], child: bool, word: Word) -> u32
-    requires { ⌜ (length (now state) ≡ 650) × Within word × (boardSound (boardOf (now state)) ≡ true) ⌝ }
+    requires { ⌜ (length (now state) ≡ blockSize) × Within word
+        × (boardSound (boardOf (now state)) ≡ true) ⌝ }
     ensures { λ r. ⌜ (r ≡ readIn (boardOf (now (state .entry)) .wired) child word)
         × (boardOf (now (state .exit))
         ≡ record {
@@ -17,5 +21,5 @@ pub fn read_done(state: &mut [u32], child: bool, word: Word) -> u32
           wired = readCall (boardOf (now (state .entry)) .wired) child word .wired;
         }) ⌝ }
 {
-    controller::read(&mut state[360..650], child, word)
+    controller::read(&mut state[WIRED_PLACE..BLOCK_SIZE], child, word)
 }

@@ -3,20 +3,24 @@ ghost use mathlib.Core.Path.{_≡_};
 ghost use mathlib.Core.Bool.{true};
 ghost use Prim.Native.Nat.{_≤_};
 ghost use lib.ListN.{length};
+ghost use Rattle.sizes.specs.Sizes.{blockSize, logSize};
 ghost use Rattle.region.specs.Region.{Within};
 ghost use Rattle.controller.specs.Controller.{writeCall};
 ghost use Rattle.block.specs.Block.{boardOf, boardSound};
 ghost use Rattle.call_laws.specs.Left.{Left};
 use region::Word;
+use sizes::BLOCK_SIZE;
+use sizes::FILES_SIZE;
+use sizes::WIRED_PLACE;
 
 // Answers the number of messages.
 pub fn write_done(state: &mut [u32], log: &mut [u32], child: bool, word: Word, value: u32) -> usize
-    requires { ⌜ (length (now state) ≡ 650) × (length (now log) ≡ 63) × Within word
+    requires { ⌜ (length (now state) ≡ blockSize) × (length (now log) ≡ logSize) × Within word
         × (boardSound (boardOf (now state)) ≡ true) ⌝ }
-    ensures { λ r. ⌜ (r ≤ 63) × Left (writeCall (boardOf (now (state .entry)) .wired) child word value)
+    ensures { λ r. ⌜ (r ≤ logSize) × Left (writeCall (boardOf (now (state .entry)) .wired) child word value)
         (now (state .entry)) (now (state .exit)) (now (log .entry)) (now (log .exit)) r ⌝ }
 {
-    let n = controller::write(&mut state[360..650], log, child, word, value);
-    files::deliver(&mut state[0..360], log, n);
+    let n = controller::write(&mut state[WIRED_PLACE..BLOCK_SIZE], log, child, word, value);
+    files::deliver(&mut state[0..FILES_SIZE], log, n);
     n
 }

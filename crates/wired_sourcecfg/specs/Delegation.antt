@@ -8,6 +8,7 @@
 use Prim.Native.Nat.{ℕ}
 use mathlib.Core.Bool.{Bool, true, false, Bool·beq, cond}
 use lib.Dec.{leb}
+use Rattle.mode.specs.Mode.{delegatedWord}
 use Rattle.words.specs.Sets.{member}
 use Rattle.mode.specs.Mode.{sourceWord}
 use Rattle.source.specs.Pending.{inactive, moded}
@@ -33,7 +34,7 @@ rootWritten w i v =
       wires = w .wires;
       root = sourceModed (w .root) i (sourceWord false false v) (member (w .wires) i);
       child =
-          cond (Bool·beq (isDelegated w i) (leb 1024 (sourceWord false false v))) (w .child)
+          cond (Bool·beq (isDelegated w i) (leb delegatedWord (sourceWord false false v))) (w .child)
           (withSource (w .child) i (inactive 0));
     }
 

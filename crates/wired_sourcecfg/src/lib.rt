@@ -4,6 +4,7 @@ ghost use mathlib.Core.Path.{_≡_};
 ghost use Prim.Native.Nat.{_≤_, _<_};
 ghost use mathlib.Core.Bool.{true, false};
 ghost use lib.ListN.{length};
+ghost use Rattle.sizes.specs.Sizes.{slotCount, domainSize, wiredSize};
 ghost use Rattle.source.specs.Pending.{inactive};
 ghost use Rattle.domain.specs.Domain.{domainOf};
 ghost use Rattle.domain.specs.Slot.{withSource};
@@ -11,12 +12,16 @@ ghost use Rattle.wires.specs.Wires.{wiredOf};
 ghost use Rattle.wires.specs.Wires.{isDelegated};
 ghost use Rattle.wired_sourcecfg.specs.Delegation.{sourceModed, childWritten, rootWritten};
 ghost use Rattle.wired_sourcecfg.specs.Delegation.{sourceWritten};
+use mode::DELEGATED_WORD;
+use sizes::CHILD_PLACE;
+use sizes::ROOT_PLACE;
+use sizes::WIRED_SIZE;
 use source::Source;
 use wires::delegated;
 use wires::wires;
 
 fn mode_source(part: &mut [u32], i: usize, mode: u32, wire: bool)
-    requires { ⌜ (length (now part) ≡ 144) × (i < 64) ⌝ }
+    requires { ⌜ (length (now part) ≡ domainSize) × (i < slotCount) ⌝ }
     ensures { λ r. ⌜ domainOf (now (part .exit)) ≡ sourceModed (domainOf (now (part .entry))) i mode wire ⌝ }
 {
     let messages = domain::by_messages(part);
@@ -25,7 +30,7 @@ fn mode_source(part: &mut [u32], i: usize, mode: u32, wire: bool)
 }
 
 fn clear_source(part: &mut [u32], i: usize)
-    requires { ⌜ (length (now part) ≡ 144) × (i < 64) ⌝ }
+    requires { ⌜ (length (now part) ≡ domainSize) × (i < slotCount) ⌝ }
     ensures { λ r. ⌜ domainOf (now (part .exit))
         ≡ withSource (domainOf (now (part .entry))) i (inactive 0) ⌝ }
 {
@@ -39,13 +44,13 @@ fn clear_source(part: &mut [u32], i: usize)
 }
 
 fn write_child(w: &mut [u32], i: usize, value: u32)
-    requires { ⌜ (length (now w) ≡ 290) × (i < 64) ⌝ }
+    requires { ⌜ (length (now w) ≡ wiredSize) × (i < slotCount) ⌝ }
     ensures { λ r. ⌜ wiredOf (now (w .exit)) ≡ childWritten (wiredOf (now (w .entry))) i value ⌝ }
 {
     let wire = source_wire::wire_at(wires(w), i);
     let has = delegated(w, i);
     mode_source(
-        &mut w[146..290],
+        &mut w[CHILD_PLACE..WIRED_SIZE],
         i,
         mode::source_word(true, has, value),
         wire,
@@ -53,22 +58,22 @@ fn write_child(w: &mut [u32], i: usize, value: u32)
 }
 
 fn write_root(w: &mut [u32], i: usize, value: u32)
-    requires { ⌜ (length (now w) ≡ 290) × (i < 64) ⌝ }
+    requires { ⌜ (length (now w) ≡ wiredSize) × (i < slotCount) ⌝ }
     ensures { λ r. ⌜ wiredOf (now (w .exit)) ≡ rootWritten (wiredOf (now (w .entry))) i value ⌝ }
 {
     let wire = source_wire::wire_at(wires(w), i);
     let had = delegated(w, i);
     let mode = mode::source_word(false, false, value);
-    mode_source(&mut w[2..146], i, mode, wire);
-    let has = 1024 <= mode;
+    mode_source(&mut w[ROOT_PLACE..CHILD_PLACE], i, mode, wire);
+    let has = DELEGATED_WORD <= mode;
     if had == has {
         return;
     }
-    clear_source(&mut w[146..290], i);
+    clear_source(&mut w[CHILD_PLACE..WIRED_SIZE], i);
 }
 
 pub fn write_source(w: &mut [u32], child: bool, i: usize, value: u32)
-    requires { ⌜ (length (now w) ≡ 290) × (1 ≤ i) × (i < 64) ⌝ }
+    requires { ⌜ (length (now w) ≡ wiredSize) × (1 ≤ i) × (i < slotCount) ⌝ }
     ensures { λ r. ⌜ wiredOf (now (w .exit)) ≡ sourceWritten (wiredOf (now (w .entry))) child i value ⌝ }
 {
     if child {

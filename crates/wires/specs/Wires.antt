@@ -14,6 +14,8 @@ use mathlib.Core.Bool.{Bool, cond}
 use mathlib.Core.List.{List}
 use lib.Dec.{leb}
 use lib.ListN.{take, drop}
+use Rattle.sizes.specs.Sizes.{sourceSetSize, domainSize, rootPlace, childPlace}
+use Rattle.mode.specs.Mode.{delegatedWord}
 use Rattle.words.specs.Sets.{member, put}
 use Rattle.source.specs.Pending.{wireChanged}
 use Rattle.domain.specs.Domain.{Domain, domainOf, byMessages}
@@ -27,10 +29,10 @@ pub record Wired : Type 0 where
 unfoldable pub wiredOf : List ℕ → Wired
 wiredOf l =
     record {
-      wires = take 2 l;
-      root = domainOf (take 144 (drop 2 l));
+      wires = take sourceSetSize l;
+      root = domainOf (take domainSize (drop rootPlace l));
       child =
-          domainOf (take 144 (drop 146 l));
+          domainOf (take domainSize (drop childPlace l));
     }
 
 -- ---- one of the two domains
@@ -46,7 +48,7 @@ withDomain w c d =
 -- ---- one source
 
 unfoldable pub isDelegated : Wired → ℕ → Bool
-isDelegated w i = leb 1024 (sourceAt (w .root) i .mode)
+isDelegated w i = leb delegatedWord (sourceAt (w .root) i .mode)
 
 -- ---- one wire
 

@@ -2,10 +2,15 @@
 ghost use mathlib.Core.Path.{_≡_};
 ghost use Prim.Native.Nat.{_<_};
 ghost use lib.ListN.{length};
+ghost use Rattle.sizes.specs.Sizes.{slotCount, wiredSize};
 ghost use Rattle.wires.specs.Wires.{wiredOf, isDelegated};
+use mode::DELEGATED_WORD;
+use sizes::CHILD_PLACE;
+use sizes::ROOT_PLACE;
+use sizes::SOURCE_SET_SIZE;
 
-pub fn wires(w: &[u32]) -> [u32; 2]
-    requires { ⌜ length (now w) ≡ 290 ⌝ }
+pub fn wires(w: &[u32]) -> [u32; SOURCE_SET_SIZE]
+    requires { ⌜ length (now w) ≡ wiredSize ⌝ }
     ensures { λ r. ⌜ r ≡ wiredOf (now (w .entry)) .wires ⌝ }
 {
     [w[0], w[1]]
@@ -13,9 +18,9 @@ pub fn wires(w: &[u32]) -> [u32; 2]
 
 // The source is the child's.
 pub fn delegated(w: &[u32], i: usize) -> bool
-    requires { ⌜ (length (now w) ≡ 290) × (i < 64) ⌝ }
+    requires { ⌜ (length (now w) ≡ wiredSize) × (i < slotCount) ⌝ }
     ensures { λ r. ⌜ r ≡ isDelegated (wiredOf (now (w .entry))) i ⌝ }
 {
-    let s = domain::load(&w[2..146], i);
-    1024 <= s.mode
+    let s = domain::load(&w[ROOT_PLACE..CHILD_PLACE], i);
+    DELEGATED_WORD <= s.mode
 }

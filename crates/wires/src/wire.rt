@@ -2,13 +2,17 @@
 ghost use mathlib.Core.Path.{_≡_};
 ghost use Prim.Native.Nat.{_≤_, _<_};
 ghost use lib.ListN.{length};
+ghost use Rattle.sizes.specs.Sizes.{slotCount, domainSize, wiredSize};
 ghost use Rattle.words.specs.Sets.{put};
 ghost use Rattle.domain.specs.Domain.{domainOf};
 ghost use Rattle.wires.specs.Wires.{wiredOf, withWires, sourceWired, wireSet};
 use super::state::wires;
+use sizes::CHILD_PLACE;
+use sizes::ROOT_PLACE;
+use sizes::WIRED_SIZE;
 
 fn wire_source(part: &mut [u32], i: usize, was: bool, is: bool)
-    requires { ⌜ (length (now part) ≡ 144) × (i < 64) ⌝ }
+    requires { ⌜ (length (now part) ≡ domainSize) × (i < slotCount) ⌝ }
     ensures { λ r. ⌜ domainOf (now (part .exit)) ≡ sourceWired (domainOf (now (part .entry))) i was is ⌝ }
 {
     let messages = domain::by_messages(part);
@@ -17,7 +21,7 @@ fn wire_source(part: &mut [u32], i: usize, was: bool, is: bool)
 }
 
 fn put_wire(w: &mut [u32], i: usize, level: bool)
-    requires { ⌜ (length (now w) ≡ 290) × (i < 64) ⌝ }
+    requires { ⌜ (length (now w) ≡ wiredSize) × (i < slotCount) ⌝ }
     ensures { λ r. ⌜ wiredOf (now (w .exit))
         ≡ withWires (wiredOf (now (w .entry))) (put (wiredOf (now (w .entry)) .wires) i level) ⌝ }
 {
@@ -25,11 +29,11 @@ fn put_wire(w: &mut [u32], i: usize, level: bool)
 }
 
 pub fn set_wire(w: &mut [u32], i: usize, level: bool)
-    requires { ⌜ (length (now w) ≡ 290) × (1 ≤ i) × (i < 64) ⌝ }
+    requires { ⌜ (length (now w) ≡ wiredSize) × (1 ≤ i) × (i < slotCount) ⌝ }
     ensures { λ r. ⌜ wiredOf (now (w .exit)) ≡ wireSet (wiredOf (now (w .entry))) i level ⌝ }
 {
     let was = source_wire::wire_at(wires(w), i);
     put_wire(w, i, level);
-    wire_source(&mut w[2..146], i, was, level);
-    wire_source(&mut w[146..290], i, was, level);
+    wire_source(&mut w[ROOT_PLACE..CHILD_PLACE], i, was, level);
+    wire_source(&mut w[CHILD_PLACE..WIRED_SIZE], i, was, level);
 }

@@ -10,6 +10,7 @@ use Prim.Native.Nat.{ℕ, zero, suc, _%_}
 use mathlib.Core.Bool.{Bool, cond, _&&_}
 use mathlib.Core.List.{List}
 use lib.Dec.{eqb, leb}
+use Rattle.sizes.specs.Sizes.{sourceCount}
 use Rattle.words.specs.Bits.{hasBit}
 use Rattle.words.specs.Sets.{member}
 use Rattle.source.specs.declared.Change.{Change}
@@ -31,7 +32,7 @@ unfoldable pub wordChanged : Domain → List ℕ → Change → ℕ → ℕ → 
 wordChanged d ws c k v = cond (eqb k 0) (changedFrom d ws c v 1 31) (changedFrom d ws c v 32 32)
 
 unfoldable pub numberChanged : Domain → List ℕ → Change → ℕ → Domain
-numberChanged d ws c v = cond (leb 1 v && leb v 63) (changedAt d ws c v) d
+numberChanged d ws c v = cond (leb 1 v && leb v sourceCount) (changedAt d ws c v) d
 
 unfoldable pub targetWritten : Bool → Domain → ℕ → ℕ → Domain
 targetWritten c d i v = withSource d i (retargeted (sourceAt d i) c (byMessages d) v)

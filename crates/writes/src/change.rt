@@ -2,14 +2,18 @@
 ghost use mathlib.Core.Path.{_≡_};
 ghost use Prim.Native.Nat.{_-_, _≤_, _<_};
 ghost use lib.ListN.{length};
+ghost use Rattle.sizes.specs.Sizes.{slotCount, domainSize};
 ghost use Rattle.domain.specs.Domain.{domainOf};
 ghost use Rattle.writes.specs.Writes.{changedAt, changedBit, changedFrom, wordChanged};
 ghost use Rattle.writes.specs.Writes.{numberChanged, targetWritten};
+use sizes::SLOT_COUNT;
+use sizes::SOURCE_COUNT;
+use sizes::SOURCE_SET_SIZE;
 use source::Change;
 use source_wire::wire_at;
 
-fn change_source(part: &mut [u32], wires: [u32; 2], change: Change, i: usize)
-    requires { ⌜ (length (now part) ≡ 144) × (i < 64) ⌝ }
+fn change_source(part: &mut [u32], wires: [u32; SOURCE_SET_SIZE], change: Change, i: usize)
+    requires { ⌜ (length (now part) ≡ domainSize) × (i < slotCount) ⌝ }
     ensures { λ r. ⌜ domainOf (now (part .exit)) ≡ changedAt (domainOf (now (part .entry))) wires change i ⌝ }
 {
     let messages = domain::by_messages(part);
@@ -18,8 +22,8 @@ fn change_source(part: &mut [u32], wires: [u32; 2], change: Change, i: usize)
 }
 
 // The same if the source's bit is set in `value`.
-fn change_bit(part: &mut [u32], wires: [u32; 2], change: Change, value: u32, i: usize)
-    requires { ⌜ (length (now part) ≡ 144) × (i < 64) ⌝ }
+fn change_bit(part: &mut [u32], wires: [u32; SOURCE_SET_SIZE], change: Change, value: u32, i: usize)
+    requires { ⌜ (length (now part) ≡ domainSize) × (i < slotCount) ⌝ }
     ensures { λ r. ⌜ domainOf (now (part .exit))
         ≡ changedBit (domainOf (now (part .entry))) wires change value i ⌝ }
 {
@@ -31,13 +35,13 @@ fn change_bit(part: &mut [u32], wires: [u32; 2], change: Change, value: u32, i: 
 // The sources from `from` up to `end`.
 fn change_bits(
     part: &mut [u32],
-    wires: [u32; 2],
+    wires: [u32; SOURCE_SET_SIZE],
     change: Change,
     value: u32,
     from: usize,
     end: usize,
 )
-    requires { ⌜ (length (now part) ≡ 144) × (from ≤ end) × (end ≤ 64) ⌝ }
+    requires { ⌜ (length (now part) ≡ domainSize) × (from ≤ end) × (end ≤ slotCount) ⌝ }
     ensures { λ r. ⌜ domainOf (now (part .exit))
         ≡ changedFrom (domainOf (now (part .entry))) wires change value from (end - from) ⌝ }
 {
@@ -48,34 +52,42 @@ fn change_bits(
     }
 }
 
-pub fn change_word(part: &mut [u32], wires: [u32; 2], change: Change, k: usize, value: u32)
-    requires { ⌜ length (now part) ≡ 144 ⌝ }
+pub fn change_word(
+    part: &mut [u32],
+    wires: [u32; SOURCE_SET_SIZE],
+    change: Change,
+    k: usize,
+    value: u32,
+)
+    requires { ⌜ length (now part) ≡ domainSize ⌝ }
     ensures { λ r. ⌜ domainOf (now (part .exit))
         ≡ wordChanged (domainOf (now (part .entry))) wires change k value ⌝ }
 {
     if k == 0 {
         change_bits(part, wires, change, value, 1, 32);
     } else {
-        change_bits(part, wires, change, value, 32, 64);
+        change_bits(part, wires, change, value, 32, SLOT_COUNT);
     }
 }
 
-pub fn change_number(part: &mut [u32], wires: [u32; 2], change: Change, value: u32)
-    requires { ⌜ length (now part) ≡ 144 ⌝ }
+const LAST: u32 = SOURCE_COUNT as u32;
+
+pub fn change_number(part: &mut [u32], wires: [u32; SOURCE_SET_SIZE], change: Change, value: u32)
+    requires { ⌜ length (now part) ≡ domainSize ⌝ }
     ensures { λ r. ⌜ domainOf (now (part .exit))
         ≡ numberChanged (domainOf (now (part .entry))) wires change value ⌝ }
 {
     if value < 1 {
         return;
     }
-    if 63 < value {
+    if LAST < value {
         return;
     }
     change_source(part, wires, change, value as usize);
 }
 
 pub fn write_target(part: &mut [u32], child: bool, i: usize, value: u32)
-    requires { ⌜ (length (now part) ≡ 144) × (i < 64) ⌝ }
+    requires { ⌜ (length (now part) ≡ domainSize) × (i < slotCount) ⌝ }
     ensures { λ r. ⌜ domainOf (now (part .exit))
         ≡ targetWritten child (domainOf (now (part .entry))) i value ⌝ }
 {

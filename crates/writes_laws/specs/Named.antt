@@ -8,6 +8,7 @@ use Prim.Native.Nat.{ℕ, _/_, _%_}
 use mathlib.Core.Bool.{Bool, Bool·beq, cond, _&&_}
 use mathlib.Core.List.{List}
 use lib.Dec.{eqb}
+use Rattle.domain.specs.Domain.{dmBit}
 use Rattle.words.specs.Bits.{hasBit}
 use Rattle.words.specs.Sets.{member}
 use Rattle.source.specs.declared.Source.{Source}
@@ -22,4 +23,4 @@ abbrev pub changing : Domain → List ℕ → Change → (ℕ → Bool) → ℕ 
 changing d ws c p j s = cond (p j) (changed s c (byMessages d) (member ws j)) s
 
 abbrev pub keepsMode : Domain → ℕ → Bool
-keepsMode d v = Bool·beq (byMessages d) (hasBit v 2)
+keepsMode d v = Bool·beq (byMessages d) (hasBit v dmBit)

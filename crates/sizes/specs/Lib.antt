@@ -1,0 +1,2 @@
+-- Sizes, counts and places. Assumes nothing.
+pub mod Sizes
