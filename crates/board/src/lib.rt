@@ -1,18 +1,18 @@
 // Every call of the board, as one function over the enum of calls: what replays a record of calls needs.
-ghost use Rattle.call.specs.Outcome.{outcome, Gives};
-use call::Answer;
-use call::Call;
-use file_calls::claim;
-use file_calls::page_read;
-use file_calls::page_write;
-use file_calls::register;
-use file_calls::top;
-use hart_calls::reset;
-use hart_calls::signals;
+ghost use Rattle.board_call.specs.Outcome.{outcome, Gives};
+use board_call::Answer;
+use board_call::Call;
+use board_file_calls::claim;
+use board_file_calls::page_read;
+use board_file_calls::page_write;
+use board_file_calls::register;
+use board_file_calls::top;
+use board_hart_calls::reset;
+use board_hart_calls::signals;
+use board_move_calls::make_access;
+use board_wired_calls::domain_read;
+use board_wired_calls::domain_write;
 use sizes::RECORD_SIZE;
-use transfer::make_access;
-use wired_calls::domain_read;
-use wired_calls::domain_write;
 
 // Only a move reads or writes the record.
 pub fn apply(
@@ -26,7 +26,7 @@ pub fn apply(
 {
     match call {
         Call::Reset => reset(state, log),
-        Call::Wire(wire, level) => wired_calls::wire(state, log, wire, level),
+        Call::Wire(wire, level) => board_wired_calls::wire(state, log, wire, level),
         Call::DomainRead(domain, address) => domain_read(state, log, domain, address),
         Call::DomainWrite(domain, address, value) => domain_write(
             state,

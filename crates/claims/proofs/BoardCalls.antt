@@ -11,24 +11,24 @@ use borrow.Author.Tests.{eq-eqb, ne-eqb, eqb-true, lt-ltb, ltb-true}
 use Rattle.words.proofs.TestsLaws.{tested, and-first, and-second, and-both, or-cases, or-left, or-right}
 use Rattle.file.specs.Top.{signals}
 use Rattle.files.specs.Files.{fileNumber, theFile}
-use Rattle.direct.specs.Direct.{signalOf}
-use Rattle.direct_laws.proofs.ClaimEffects.{signal-iff}
-use Rattle.wires.specs.Wires.{domainIn}
-use Rattle.block.specs.Block.{Board, boardOf}
-use Rattle.block_laws.proofs.BlockBack.{block-back, board-back, length-blockOf}
-use Rattle.block_laws.proofs.StartEffects.{start-sound}
-use Rattle.call.specs.declared.Call.{Call}
-use Rattle.call.specs.Refusal.{testsRules, present, blockRefusal, nameRefusal, refusalOf}
-use Rattle.call.specs.Change.{signalAt}
-use Rattle.call.specs.Outcome.{outcome}
-use Rattle.call.proofs.RefusalLaws.{refused-state, refused-log, refused-rules, blocks-sound, blocks-untested}
-use Rattle.call.proofs.RefusalLaws.{refused-name, refused-address, refused-select, numbers-name}
-use Rattle.call.proofs.RefusalLaws.{refused-blocks, refused-numbers, passed-state}
-use Rattle.call_laws.proofs.GivesEffects.{gives-one}
-use Rattle.call_laws.proofs.FitEffects.{fit-block}
-use Rattle.call_laws.proofs.HartCallEffects.{signal-bit}
-use Rattle.call_laws.proofs.KeepsEffects.{kept-step}
-use Rattle.call_laws.proofs.StepEffects.{step-reset}
+use Rattle.domain_direct.specs.Direct.{signalOf}
+use Rattle.domain_direct_laws.proofs.ClaimEffects.{signal-iff}
+use Rattle.wired_state.specs.Wires.{domainIn}
+use Rattle.board_block.specs.Block.{Board, boardOf}
+use Rattle.board_block_laws.proofs.BlockBack.{block-back, board-back, length-blockOf}
+use Rattle.board_block_laws.proofs.StartEffects.{start-sound}
+use Rattle.board_call.specs.declared.Call.{Call}
+use Rattle.board_call.specs.Refusal.{testsRules, present, blockRefusal, nameRefusal, refusalOf}
+use Rattle.board_call.specs.Change.{signalAt}
+use Rattle.board_call.specs.Outcome.{outcome}
+use Rattle.board_call.proofs.RefusalLaws.{refused-state, refused-log, refused-rules, blocks-sound, blocks-untested}
+use Rattle.board_call.proofs.RefusalLaws.{refused-name, refused-address, refused-select, numbers-name}
+use Rattle.board_call.proofs.RefusalLaws.{refused-blocks, refused-numbers, passed-state}
+use Rattle.board_call_laws.proofs.GivesEffects.{gives-one}
+use Rattle.board_call_laws.proofs.FitEffects.{fit-block}
+use Rattle.board_call_laws.proofs.HartCallEffects.{signal-bit}
+use Rattle.board_call_laws.proofs.KeepsEffects.{kept-step}
+use Rattle.board_call_laws.proofs.StepEffects.{step-reset}
 use Rattle.claims.specs.FileFacts.{Claim-33}
 use Rattle.claims.proofs.FileFacts.{claim-33}
 use Rattle.claims.specs.BoardCalls.{Claim-80, Claim-81, Claim-82, Claim-83, Passes, Claim-84}

@@ -6,32 +6,32 @@ use mathlib.Core.List.{List, [], _∷_}
 use native.Mathlib.Omega.{arith}
 use lib.ListN.{length, replicate}
 use Rattle.words.specs.Every.{every}
-use Rattle.select.specs.Select.{selectLegal}
-use Rattle.select.specs.Deliveries.{deliveryLegal}
+use Rattle.file_select.specs.Select.{selectLegal}
+use Rattle.file_select.specs.Deliveries.{deliveryLegal}
 use Rattle.file.specs.declared.File.{File}
 use Rattle.file.specs.Rules as rules
-use Rattle.stored.specs.Stored.{fileAt}
+use Rattle.file_words.specs.Stored.{fileAt}
 use Rattle.files.specs.Files.{filesOf, filesFrom, theFile, filesSound, soundAt, isGuest}
 use Rattle.files.proofs.FilesLaws.{theFile-withFile-other}
-use Rattle.region.specs.Region.{addressLegal}
-use Rattle.block.specs.Block.{Board, boardOf, blockOf, boardSound}
-use Rattle.block.specs.Start.{startDomain, startBoard}
+use Rattle.domain_region.specs.Region.{addressLegal}
+use Rattle.board_block.specs.Block.{Board, boardOf, blockOf, boardSound}
+use Rattle.board_block.specs.Start.{startDomain, startBoard}
 use Rattle.domain.specs.Domain.{configOf, byMessages}
 use Rattle.words.specs.Bits.{bitOf, hasBit}
-use Rattle.block_laws.proofs.BlockBack.{board-back, length-blockOf}
-use Rattle.block_laws.proofs.StartEffects.{start-sound, start-shaped}
-use Rattle.call.specs.declared.Call.{Call}
-use Rattle.call.specs.declared.Call.the-variants.{Reset, Wire, DomainRead, DomainWrite, PageRead, PageWrite}
-use Rattle.call.specs.declared.Call.the-variants.{Register, Top, Claim, Signals, Move}
-use Rattle.call.specs.Change.{onFile, answering, change}
-use Rattle.call.specs.Refusal.{testsRules, present, addressed, selected, isWire, isFile, isGuestFile, isMove}
-use Rattle.call.specs.Refusal.{isPageAddress}
-use Rattle.call.proofs.RefusalLaws.{numbers-name}
-use Rattle.call.specs.Refusal.{refusalOf}
-use Rattle.call.specs.Outcome.{Stepped, thenSent, step}
-use Rattle.call_laws.proofs.StepEffects.{step-onFile, step-answering}
-use Rattle.runs.specs.Ready.{boardIn}
-use Rattle.runs.proofs.RunsEffects.{ready-refusal}
+use Rattle.board_block_laws.proofs.BlockBack.{board-back, length-blockOf}
+use Rattle.board_block_laws.proofs.StartEffects.{start-sound, start-shaped}
+use Rattle.board_call.specs.declared.Call.{Call}
+use Rattle.board_call.specs.declared.Call.the-variants.{Reset, Wire, DomainRead, DomainWrite, PageRead, PageWrite}
+use Rattle.board_call.specs.declared.Call.the-variants.{Register, Top, Claim, Signals, Move}
+use Rattle.board_call.specs.Change.{onFile, answering, change}
+use Rattle.board_call.specs.Refusal.{testsRules, present, addressed, selected, isWire, isFile, isGuestFile, isMove}
+use Rattle.board_call.specs.Refusal.{isPageAddress}
+use Rattle.board_call.proofs.RefusalLaws.{numbers-name}
+use Rattle.board_call.specs.Refusal.{refusalOf}
+use Rattle.board_call.specs.Outcome.{Stepped, thenSent, step}
+use Rattle.board_call_laws.proofs.StepEffects.{step-onFile, step-answering}
+use Rattle.board_runs.specs.Ready.{boardIn}
+use Rattle.board_runs.proofs.RunsEffects.{ready-refusal}
 use Rattle.transfer_laws.specs.Premises.{ByMessages}
 use Rattle.transfer_laws.proofs.ShiftEffects.{started-ready}
 use Rattle.transfer_cases.specs.Example.{start as shift-start}

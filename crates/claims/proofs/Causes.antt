@@ -1,7 +1,7 @@
 -- Claims 40 to 42: the table of causes holds, computed row by row; it is whole; and it is about every source.
 -- Assumes nothing.
 use mathlib.Core.Path.{refl}
-use Rattle.mode.specs.Mode.{isActive, isLevel, isRectified}
+use Rattle.source_mode.specs.Mode.{isActive, isLevel, isRectified}
 use Rattle.words.proofs.TestsLaws.{tested}
 use Rattle.source.specs.Pending.{settled, wireChanged, pended, cleared}
 use Rattle.claims.specs.Causes.{happens, bitAfter, table, every, sourceOf, rowHolds, Claim-40}

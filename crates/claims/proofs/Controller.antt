@@ -5,20 +5,20 @@ use mathlib.Core.Bool.{Bool}
 use mathlib.Core.List.{[], append-nil}
 use mathlib.Core.Logic.{_≢_, inl, inr}
 use native.Mathlib.Omega.{arith}
-use Rattle.region.specs.declared.Word.{Word}
-use Rattle.region.specs.declared.Word.the-variants.{Genmsi}
-use Rattle.region.proofs.RoleLaws.{generates-only}
-use Rattle.wires.specs.Wires.{Wired, domainIn, wireSet}
-use Rattle.wired.specs.Wired.{writtenIn}
-use Rattle.sending.specs.Sending.{Sent}
-use Rattle.genmsi.specs.Genmsi.{generatedSent}
-use Rattle.rules_laws.specs.Steady.{WiredSteady, WiredQuiet}
-use Rattle.rules_laws.proofs.SoundParts.{wired-sound-steady, wired-sound-quiet}
-use Rattle.controller.specs.Controller.{flushed, generatedAs, generatedBy, wireCall, writeCall, OneSends}
-use Rattle.controller.proofs.ControllerLaws.{generated-else}
-use Rattle.controller.proofs.CallLaws.{one-wireSet, one-writtenIn, read-silent, genmsi-silent}
-use Rattle.controller_laws.proofs.OutEffects.{wire-count, wire-exists, write-count, write-exists}
-use Rattle.controller_laws.proofs.OutEffects.{wire-sound, read-sound, write-sound}
+use Rattle.domain_region.specs.declared.Word.{Word}
+use Rattle.domain_region.specs.declared.Word.the-variants.{Genmsi}
+use Rattle.domain_region.proofs.RoleLaws.{generates-only}
+use Rattle.wired_state.specs.Wires.{Wired, domainIn, wireSet}
+use Rattle.wired_registers.specs.Wired.{writtenIn}
+use Rattle.domain_sending.specs.Sending.{Sent}
+use Rattle.domain_genmsi.specs.Genmsi.{generatedSent}
+use Rattle.wired_rules_laws.specs.Steady.{WiredSteady, WiredQuiet}
+use Rattle.wired_rules_laws.proofs.SoundParts.{wired-sound-steady, wired-sound-quiet}
+use Rattle.wired.specs.Controller.{flushed, generatedAs, generatedBy, wireCall, writeCall, OneSends}
+use Rattle.wired.proofs.ControllerLaws.{generated-else}
+use Rattle.wired.proofs.CallLaws.{one-wireSet, one-writtenIn, read-silent, genmsi-silent}
+use Rattle.wired_laws.proofs.OutEffects.{wire-count, wire-exists, write-count, write-exists}
+use Rattle.wired_laws.proofs.OutEffects.{wire-sound, read-sound, write-sound}
 use Rattle.claims.specs.Rules.{Sound}
 use Rattle.claims.specs.Controller.{Sends, OneAtMost, Claim-76, Claim-77, Claim-78, Claim-79}
 

@@ -7,17 +7,17 @@ use native.Mathlib.Omega.{arith}
 use lib.Dec.{eqb, ltb}
 use borrow.Author.Tests.{eqb-true, ltb-true, eq-eqb, lt-ltb}
 use Rattle.words.proofs.TestsLaws.{tested, and-first, and-second, or-cases}
-use Rattle.target.specs.Target.{hartOf, numberOf}
+use Rattle.source_target.specs.Target.{hartOf, numberOf}
 use Rattle.source.specs.declared.Source.{Source}
-use Rattle.delivery.specs.declared.Delivery.{Delivery}
-use Rattle.delivery.specs.Delivery.{lets}
+use Rattle.domain_delivery.specs.declared.Delivery.{Delivery}
+use Rattle.domain_delivery.specs.Delivery.{lets}
 use Rattle.domain.specs.Domain.{Domain, configOf, generatedAt}
 use Rattle.domain.specs.Slot.{sourceAt}
 use Rattle.domain.specs.Structure.{structureAt}
-use Rattle.direct.specs.Direct.{standing, eligible, topSource, hartClaimed}
-use Rattle.direct_laws.proofs.TopEffects.{topi-least, topi-is, topi-zero, topi-zero-iff, topi-messages}
-use Rattle.direct_laws.proofs.ClaimEffects.{claim-zero, claim-other, claim-level, claim-other-mode}
-use Rattle.direct_laws.proofs.ClaimEffects.{signal-iff}
+use Rattle.domain_direct.specs.Direct.{standing, eligible, topSource, hartClaimed}
+use Rattle.domain_direct_laws.proofs.TopEffects.{topi-least, topi-is, topi-zero, topi-zero-iff, topi-messages}
+use Rattle.domain_direct_laws.proofs.ClaimEffects.{claim-zero, claim-other, claim-level, claim-other-mode}
+use Rattle.domain_direct_laws.proofs.ClaimEffects.{signal-iff}
 use Rattle.claims.specs.Direct.{Claim-43, Claim-44, Claim-45, Claim-46, Claim-47, Claim-48, Claim-49}
 
 pub claim-43 : Claim-43

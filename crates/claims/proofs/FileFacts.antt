@@ -10,8 +10,8 @@ use lib.ListN.{length}
 use borrow.Author.Tests.{eq-eqb, ne-eqb, eqb-true, eqb-false, ltb-true, lt-ltb, not-true, not-false}
 use Rattle.words.specs.Sets.{member}
 use Rattle.words.proofs.TestsLaws.{tested, not-same, and-first, and-second, and-both, or-cases}
-use Rattle.select.specs.Select.{selectLegal}
-use Rattle.select.proofs.SelectLaws.{legal-below, legal-above, legal-named, legal-words}
+use Rattle.file_select.specs.Select.{selectLegal}
+use Rattle.file_select.proofs.SelectLaws.{legal-below, legal-above, legal-named, legal-words}
 use Rattle.file.specs.declared.File.{File}
 use Rattle.file.specs.Top.{passes, qualifies, topIdentity, topOf, signals}
 use Rattle.file.specs.Register.{written}

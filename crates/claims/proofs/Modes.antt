@@ -9,14 +9,14 @@ use Rattle.words.specs.Bits.{hasBit}
 use Rattle.words.specs.Parts.{fieldOf}
 use Rattle.words.proofs.PartsLaws.{fieldOf-lt}
 use Rattle.words.proofs.TestsLaws.{tested, beq-same, beq-differs}
-use Rattle.mode.specs.Mode.{isActive, keptMode, sourceWord}
-use Rattle.mode.proofs.ModeLaws.{word-delegated, word-machine}
-use Rattle.target.specs.Target.{startTarget}
+use Rattle.source_mode.specs.Mode.{isActive, keptMode, sourceWord}
+use Rattle.source_mode.proofs.ModeLaws.{word-delegated, word-machine}
+use Rattle.source_target.specs.Target.{startTarget}
 use Rattle.source.specs.Pending.{inactive, settled, moded}
 use Rattle.domain.specs.Domain.{Domain}
 use Rattle.domain.specs.Slot.{sourceAt}
 use Rattle.domain_laws.proofs.SlotEffects.{sourceAt-withSource-same, sourceAt-withSource-other}
-use Rattle.wires.specs.Wires.{Wired, isDelegated}
+use Rattle.wired_state.specs.Wires.{Wired, isDelegated}
 use Rattle.wired_sourcecfg.proofs.DelegationLaws.{root-stays, root-moves}
 use Rattle.claims.specs.Modes.{Claim-94, Claim-95}
 

@@ -12,47 +12,47 @@ use borrow.Author.Tests.{eqb-true, eq-eqb, lt-ltb, le-leb, not-true}
 use Rattle.words.specs.Bits.{union}
 use Rattle.words.specs.Sets.{member}
 use Rattle.words.proofs.TestsLaws.{tested, and-first, and-second, and-both, not-same}
-use Rattle.select.specs.declared.Register.the-variants.{Delivery, Pending, Enable}
+use Rattle.file_select.specs.declared.Register.the-variants.{Delivery, Pending, Enable}
 use Rattle.sizes.specs.Sizes.{identities}
-use Rattle.select.specs.Halves.{doubleword}
-use Rattle.select.proofs.DeliveriesLaws.{legal-switch, legal-other}
-use Rattle.select.proofs.SelectLaws.{legal-named, register-delivery}
+use Rattle.file_select.specs.Halves.{doubleword}
+use Rattle.file_select.proofs.DeliveriesLaws.{legal-switch, legal-other}
+use Rattle.file_select.proofs.SelectLaws.{legal-named, register-delivery}
 use Rattle.file.specs.declared.File.{File}
 use Rattle.file.specs.Parts.{withDelivery}
 use Rattle.file.specs.declared.register.Access.the-variants.{Write}
 use Rattle.file.specs.Register.{written, accessedAt}
 use Rattle.file.specs.Shape.{Shaped}
 use Rattle.file.proofs.RegisterLaws.{accessed-kind, written-illegal}
-use Rattle.target.specs.Target.{hartOf, guestOf}
+use Rattle.source_target.specs.Target.{hartOf, guestOf}
 use Rattle.source.specs.declared.Source.{Source}
 use Rattle.domain.specs.Domain.{byMessages, generatedAt}
 use Rattle.domain.specs.Slot.{sourceAt}
-use Rattle.wires.specs.Wires.{Wired}
+use Rattle.wired_state.specs.Wires.{Wired}
 use Rattle.files.specs.Files.{fileNumber, theFile}
-use Rattle.transfer_steps.specs.Names.{namesFile}
-use Rattle.transfer_steps.specs.Steps.{actOf}
-use Rattle.transfer_steps.proofs.StepsLaws.{act-target, act-open}
-use Rattle.transfer_files.proofs.TableLaws.{act-else}
-use Rattle.transfer_files.specs.Related.{Three, actedOn}
-use Rattle.transfer_files.proofs.ActedLaws.{withNew, withNumber, acted-delivery, acted-threshold}
-use Rattle.transfer_files.proofs.ActedLaws.{acted-silence, acted-hold, acted-clear, acted-pending}
-use Rattle.transfer_files.proofs.ActedLaws.{acted-enable, acted-set, acted-write, acted-shut, acted-open}
-use Rattle.transfer_files.proofs.ActedLaws as files
-use Rattle.transfer_files.proofs.WrittenEffects.{stays}
-use Rattle.transfer_files.proofs.WrittenEffects.{member-stays}
-use Rattle.transfer_wired.specs.Retargeted.{TargetsOnly}
-use Rattle.transfer_wired.proofs.TargetNames.{names-number, number-names}
-use Rattle.transfer_wired.proofs.StepThree.{only-start, next-miss, retargeted-only}
-use Rattle.block.specs.Block.{Board}
-use Rattle.call.specs.declared.Call.the-variants.{Move}
-use Rattle.call.specs.Move.{retargetedIn, acted}
-use Rattle.call.specs.Refusal.{isGuestFile, isMove, present}
-use Rattle.call.specs.Outcome.{Stepped, step}
-use Rattle.call_laws.specs.Fit.{Fit}
-use Rattle.call_laws.proofs.CallTests.{quiet}
-use Rattle.call_laws.proofs.FitEffects.{fit-steady, fit-rules}
-use Rattle.call_laws.proofs.MoveEffects.{guest-hart, guest-low, guest-high, guest-number, move-old, move-new}
-use Rattle.call_laws.proofs.MoveEffects.{move-apart, move-low, move-high, step-move}
+use Rattle.board_move_steps.specs.Names.{namesFile}
+use Rattle.board_move_steps.specs.Steps.{actOf}
+use Rattle.board_move_steps.proofs.StepsLaws.{act-target, act-open}
+use Rattle.board_move_files_laws.proofs.TableLaws.{act-else}
+use Rattle.board_move_files_laws.specs.Related.{Three, actedOn}
+use Rattle.board_move_files_laws.proofs.ActedLaws.{withNew, withNumber, acted-delivery, acted-threshold}
+use Rattle.board_move_files_laws.proofs.ActedLaws.{acted-silence, acted-hold, acted-clear, acted-pending}
+use Rattle.board_move_files_laws.proofs.ActedLaws.{acted-enable, acted-set, acted-write, acted-shut, acted-open}
+use Rattle.board_move_files_laws.proofs.ActedLaws as files
+use Rattle.board_move_files_laws.proofs.WrittenEffects.{stays}
+use Rattle.board_move_files_laws.proofs.WrittenEffects.{member-stays}
+use Rattle.board_move_wired_laws.specs.Retargeted.{TargetsOnly}
+use Rattle.board_move_wired_laws.proofs.TargetNames.{names-number, number-names}
+use Rattle.board_move_wired_laws.proofs.StepThree.{only-start, next-miss, retargeted-only}
+use Rattle.board_block.specs.Block.{Board}
+use Rattle.board_call.specs.declared.Call.the-variants.{Move}
+use Rattle.board_call.specs.Move.{retargetedIn, acted}
+use Rattle.board_call.specs.Refusal.{isGuestFile, isMove, present}
+use Rattle.board_call.specs.Outcome.{Stepped, step}
+use Rattle.board_call_laws.specs.Fit.{Fit}
+use Rattle.board_call_laws.proofs.CallTests.{quiet}
+use Rattle.board_call_laws.proofs.FitEffects.{fit-steady, fit-rules}
+use Rattle.board_call_laws.proofs.MoveEffects.{guest-hart, guest-low, guest-high, guest-number, move-old, move-new}
+use Rattle.board_call_laws.proofs.MoveEffects.{move-apart, move-low, move-high, step-move}
 use Rattle.transfer_laws.proofs.ArrivalEffects.{three}
 use Rattle.transfer_laws.proofs.ActedEffects.{acted-three, acted-others, acted-wired}
 use Rattle.transfer_laws.proofs.ActedEffects as board

@@ -16,30 +16,30 @@ use Rattle.words.specs.Sets.{member, WordsFit}
 use Rattle.words.proofs.BitsLaws.{hasBit-nothing, hasBit-union}
 use Rattle.words.proofs.PartsLaws.{joined-lt}
 use Rattle.words.proofs.TestsLaws.{tested}
-use Rattle.select.specs.declared.Register.the-variants.{Pending, Enable}
+use Rattle.file_select.specs.declared.Register.the-variants.{Pending, Enable}
 use Rattle.sizes.specs.Sizes.{identities}
-use Rattle.select.specs.Halves.{doubleword}
+use Rattle.file_select.specs.Halves.{doubleword}
 use Rattle.file.specs.declared.File.{File}
 use Rattle.file.specs.Register.{written}
 use Rattle.file.specs.Shape.{Shaped}
-use Rattle.mode.specs.Mode.{isActive}
-use Rattle.target.specs.Target.{hartOf, guestOf, numberOf, keptTarget}
-use Rattle.target.proofs.TargetLaws.{numberOf-lt, kept-first, kept-priority}
+use Rattle.source_mode.specs.Mode.{isActive}
+use Rattle.source_target.specs.Target.{hartOf, guestOf, numberOf, keptTarget}
+use Rattle.source_target.proofs.TargetLaws.{numberOf-lt, kept-first, kept-priority}
 use Rattle.source.specs.declared.Source.{Source}
 use Rattle.source.proofs.PendingLaws.{retargeted-active}
 use Rattle.source_laws.proofs.SteadyParts.{steady-target}
 use Rattle.domain.specs.Domain.{byMessages, generatedAt}
 use Rattle.domain.specs.Slot.{sourceAt}
-use Rattle.wires.specs.Wires.{Wired, domainIn}
-use Rattle.rules_laws.specs.Steady.{WiredSteady}
-use Rattle.controller_laws.proofs.TargetEffects.{target-own, target-other}
-use Rattle.transfer_steps.specs.Names.{namesFile, renamed}
-use Rattle.transfer_files.proofs.WrittenEffects.{stays, keptOf, kept-same, kept-other, member-written}
-use Rattle.transfer_files.proofs.WrittenEffects.{hasBit-doubleword}
-use Rattle.transfer_wired.proofs.TargetNames.{names-number, hartOf-renamed, guestOf-renamed}
-use Rattle.transfer_wired.proofs.TargetNames.{numberOf-renamed, kept-renamed}
-use Rattle.transfer_wired.proofs.StepThree.{next-hit, next-miss, named-active}
-use Rattle.call.specs.Move.{retargetedIn}
+use Rattle.wired_state.specs.Wires.{Wired, domainIn}
+use Rattle.wired_rules_laws.specs.Steady.{WiredSteady}
+use Rattle.wired_laws.proofs.TargetEffects.{target-own, target-other}
+use Rattle.board_move_steps.specs.Names.{namesFile, renamed}
+use Rattle.board_move_files_laws.proofs.WrittenEffects.{stays, keptOf, kept-same, kept-other, member-written}
+use Rattle.board_move_files_laws.proofs.WrittenEffects.{hasBit-doubleword}
+use Rattle.board_move_wired_laws.proofs.TargetNames.{names-number, hartOf-renamed, guestOf-renamed}
+use Rattle.board_move_wired_laws.proofs.TargetNames.{numberOf-renamed, kept-renamed}
+use Rattle.board_move_wired_laws.proofs.StepThree.{next-hit, next-miss, named-active}
+use Rattle.board_call.specs.Move.{retargetedIn}
 use Rattle.claims.specs.MoveCall.{WordOf, PendingBecame, EnableBecame, Renamed}
 
 -- ---- one file

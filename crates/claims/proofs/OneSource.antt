@@ -9,22 +9,22 @@ use native.Mathlib.Omega.{arith}
 use lib.Dec.{eqb}
 use Rattle.words.specs.Sets.{member}
 use Rattle.domain.specs.Slot.{sourceAt}
-use Rattle.wires.specs.Wires.{Wired, domainIn, wireSet}
-use Rattle.sending.specs.Sending.{candidate}
-use Rattle.sending_laws.specs.Candidates.{messageAt}
-use Rattle.rules_laws.proofs.PassEffects.{quiet-candidate}
-use Rattle.rules_laws.proofs.WiredEffects.{steady-domainIn}
-use Rattle.rules_laws.proofs.WiredQuietEffects.{quiet-domainIn}
-use Rattle.rules_laws.proofs.WiredSameEffects.{wireSet-same}
-use Rattle.controller.specs.Controller.{Out, wireCall}
-use Rattle.controller_laws.proofs.WireEffects.{wireSet-other, wire-other, wire-own, wire-message}
-use Rattle.controller_laws.proofs.WireEffects.{wire-silent, wire-messages}
-use Rattle.controller_laws.proofs.TargetEffects.{target-call, target-wires, target-not, target-own}
-use Rattle.controller_laws.proofs.TargetEffects.{target-other}
-use Rattle.block.specs.Block.{Board}
-use Rattle.call.specs.declared.Call.the-variants.{Wire}
-use Rattle.call.specs.Outcome.{Stepped, step}
-use Rattle.call_laws.proofs.StepEffects.{step-wire, wire-sends, wire-reaches-none, wire-reaches-one}
+use Rattle.wired_state.specs.Wires.{Wired, domainIn, wireSet}
+use Rattle.domain_sending.specs.Sending.{candidate}
+use Rattle.domain_sending_laws.specs.Candidates.{messageAt}
+use Rattle.wired_rules_laws.proofs.PassEffects.{quiet-candidate}
+use Rattle.wired_rules_laws.proofs.WiredEffects.{steady-domainIn}
+use Rattle.wired_rules_laws.proofs.WiredQuietEffects.{quiet-domainIn}
+use Rattle.wired_rules_laws.proofs.WiredSameEffects.{wireSet-same}
+use Rattle.wired.specs.Controller.{Out, wireCall}
+use Rattle.wired_laws.proofs.WireEffects.{wireSet-other, wire-other, wire-own, wire-message}
+use Rattle.wired_laws.proofs.WireEffects.{wire-silent, wire-messages}
+use Rattle.wired_laws.proofs.TargetEffects.{target-call, target-wires, target-not, target-own}
+use Rattle.wired_laws.proofs.TargetEffects.{target-other}
+use Rattle.board_block.specs.Block.{Board}
+use Rattle.board_call.specs.declared.Call.the-variants.{Wire}
+use Rattle.board_call.specs.Outcome.{Stepped, step}
+use Rattle.board_call_laws.proofs.StepEffects.{step-wire, wire-sends, wire-reaches-none, wire-reaches-one}
 use Rattle.claims.specs.Rules.{Sound}
 use Rattle.claims.proofs.Controller.{steady, quiet}
 use Rattle.claims.specs.OneSource.{SentNone, SentOne, Claim-96, Claim-97, Claim-98, Claim-99}

@@ -10,7 +10,7 @@ use Rattle.words.specs.Bits.{hasBit}
 use Rattle.words.specs.Parts.{reversed}
 use Rattle.words.specs.Sets.{member}
 use Rattle.words.proofs.PartsLaws.{reversed-back}
-use Rattle.region.specs.declared.Word.the-variants.{Claimi}
+use Rattle.domain_region.specs.declared.Word.the-variants.{Claimi}
 use Rattle.source.specs.declared.Source.{Source}
 use Rattle.source.specs.declared.Change.{Change}
 use Rattle.source.specs.declared.Change.the-variants.{Pend, Clear}
@@ -19,16 +19,16 @@ use Rattle.domain.specs.Domain.{Domain, byMessages}
 use Rattle.domain.specs.Slot.{sourceAt}
 use Rattle.domain_laws.specs.Shape.{DomainShaped}
 use Rattle.domain_laws.proofs.SlotEffects.{sourceAt-withSource-same}
-use Rattle.writes.specs.Writes.{wordChanged, numberChanged}
-use Rattle.writes_laws.specs.Named.{named}
-use Rattle.writes_laws.proofs.WritesEffects.{touched-wordChanged, touched-numberChanged}
-use Rattle.direct.specs.Direct.{topSource, released}
-use Rattle.direct.proofs.DirectLaws.{claimed-some}
-use Rattle.registers.specs.Write.{registerWritten}
-use Rattle.registers.specs.Read.{claimedBy}
-use Rattle.registers.proofs.ReadLaws.{claimed-by}
-use Rattle.sending_laws.proofs.SendingEffects.{sent-source, spent-hit}
-use Rattle.wires.specs.Wires.{wireSet, sourceWired}
+use Rattle.domain_writes.specs.Writes.{wordChanged, numberChanged}
+use Rattle.domain_writes_laws.specs.Named.{named}
+use Rattle.domain_writes_laws.proofs.WritesEffects.{touched-wordChanged, touched-numberChanged}
+use Rattle.domain_direct.specs.Direct.{topSource, released}
+use Rattle.domain_direct.proofs.DirectLaws.{claimed-some}
+use Rattle.domain_registers.specs.Write.{registerWritten}
+use Rattle.domain_registers.specs.Read.{claimedBy}
+use Rattle.domain_registers.proofs.ReadLaws.{claimed-by}
+use Rattle.domain_sending_laws.proofs.SendingEffects.{sent-source, spent-hit}
+use Rattle.wired_state.specs.Wires.{wireSet, sourceWired}
 use Rattle.wired_sourcecfg.specs.Delegation.{sourceModed, childWritten, rootWritten}
 use Rattle.wired_sourcecfg.specs.Delegation.{sourceWritten}
 use Rattle.claims.specs.Causes.{happens}

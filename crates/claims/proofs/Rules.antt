@@ -10,25 +10,25 @@ use lib.ListN.{length-take}
 use borrow.Author.Tests.{eqb-true, eq-eqb, leb-false, not-true}
 use Rattle.words.specs.Sets.{member}
 use Rattle.words.proofs.TestsLaws.{tested, not-same}
-use Rattle.mode.specs.Mode.{isActive}
-use Rattle.mode.proofs.ModeLaws.{active-zero}
-use Rattle.delivery.proofs.DeliveryLaws.{sound-iff}
+use Rattle.source_mode.specs.Mode.{isActive}
+use Rattle.source_mode.proofs.ModeLaws.{active-zero}
+use Rattle.domain_delivery.proofs.DeliveryLaws.{sound-iff}
 use Rattle.domain.specs.Domain.{Domain, configOf, isEnabled, byMessages, generatedAt}
 use Rattle.domain.specs.Slot.{sourceAt}
 use Rattle.domain.specs.Structure.{structureAt}
 use Rattle.domain_laws.specs.Shape.{DomainShaped}
 use Rattle.domain_laws.proofs.SlotEffects.{domainOf-shaped}
-use Rattle.wires.specs.Wires.{Wired, wiredOf, isDelegated}
-use Rattle.wires.proofs.WiresLaws.{root-long, child-long}
+use Rattle.wired_state.specs.Wires.{Wired, wiredOf, isDelegated}
+use Rattle.wired_state.proofs.WiresLaws.{root-long, child-long}
 use Rattle.source_laws.proofs.ModeEffects.{active-delegated}
-use Rattle.rules.specs.Rules.{configRange, generatedRange, structureRange, sourceZeroRule, generatedRule}
-use Rattle.rules.specs.Rules.{delegatedRule, wiredSound}
-use Rattle.rules_laws.specs.Steady.{Steady, Quiet, WiredSteady, passed}
-use Rattle.rules_laws.proofs.SoundParts.{wired-sound-steady, wired-sound-quiet, wired-sound-joined}
-use Rattle.rules_laws.proofs.WiredEffects.{delegated-yes, delegated-zero, steady-wireSet, steady-claimedIn}
-use Rattle.rules_laws.proofs.WiredEffects.{steady-passed, sound-passed}
-use Rattle.rules_laws.proofs.DelegationEffects.{steady-writtenIn}
-use Rattle.rules_laws.proofs.WiredSameEffects.{delegated-word}
+use Rattle.wired_rules.specs.Rules.{configRange, generatedRange, structureRange, sourceZeroRule, generatedRule}
+use Rattle.wired_rules.specs.Rules.{delegatedRule, wiredSound}
+use Rattle.wired_rules_laws.specs.Steady.{Steady, Quiet, WiredSteady, passed}
+use Rattle.wired_rules_laws.proofs.SoundParts.{wired-sound-steady, wired-sound-quiet, wired-sound-joined}
+use Rattle.wired_rules_laws.proofs.WiredEffects.{delegated-yes, delegated-zero, steady-wireSet, steady-claimedIn}
+use Rattle.wired_rules_laws.proofs.WiredEffects.{steady-passed, sound-passed}
+use Rattle.wired_rules_laws.proofs.DelegationEffects.{steady-writtenIn}
+use Rattle.wired_rules_laws.proofs.WiredSameEffects.{delegated-word}
 use Rattle.claims.specs.Rules.{Long, Sound, DomainRules}
 use Rattle.claims.specs.Rules.{WiredRules, Claim-72, Claim-73, Claim-74, Claim-75}
 use Rattle.claims.proofs.SourceRules.{config-is, generated-is, source-on, source-of, source-sent}

@@ -1,12 +1,12 @@
 -- Claims 50 to 54, from the laws of sending. Assumes nothing.
 use mathlib.Core.Path.{ap}
 use Rattle.file_message.specs.Message.{logWord}
-use Rattle.genmsi.specs.Genmsi.{generatedOf}
-use Rattle.sending.specs.Sending.{Sent}
-use Rattle.sending.proofs.SendingLaws.{sent-off}
-use Rattle.genmsi.proofs.GenmsiLaws.{generated-on, generated-off}
-use Rattle.sending_laws.proofs.SendingEffects.{sent-count, sent-rest, sent-quiet, sent-pending, sent-messages}
-use Rattle.sending_laws.proofs.MessageEffects.{sent-named}
+use Rattle.domain_genmsi.specs.Genmsi.{generatedOf}
+use Rattle.domain_sending.specs.Sending.{Sent}
+use Rattle.domain_sending.proofs.SendingLaws.{sent-off}
+use Rattle.domain_genmsi.proofs.GenmsiLaws.{generated-on, generated-off}
+use Rattle.domain_sending_laws.proofs.SendingEffects.{sent-count, sent-rest, sent-quiet, sent-pending, sent-messages}
+use Rattle.domain_sending_laws.proofs.MessageEffects.{sent-named}
 use Rattle.claims.specs.Sending.{Claim-50, Claim-51, Claim-52, Claim-53, Claim-54}
 
 pub claim-50 : Claim-50

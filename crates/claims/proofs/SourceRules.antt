@@ -12,14 +12,14 @@ use Rattle.words.specs.Parts.{fieldOf, packed}
 use Rattle.words.proofs.BitsLaws.{bitOf-lt, hasBit-none}
 use Rattle.words.proofs.PartsLaws.{packed-is}
 use Rattle.words.proofs.TestsLaws.{tested}
-use Rattle.mode.specs.Mode.{isActive, isLevel, isRectified, sourceWord}
-use Rattle.mode.proofs.ModeLaws.{kept-other, word-child-has, word-machine}
-use Rattle.target.specs.Target.{hartOf, numberOf, receiverOf, keptTarget}
-use Rattle.genmsi.specs.Genmsi.{keptGenerated}
-use Rattle.target.proofs.TargetLaws.{kept-first, kept-priority}
+use Rattle.source_mode.specs.Mode.{isActive, isLevel, isRectified, sourceWord}
+use Rattle.source_mode.proofs.ModeLaws.{kept-other, word-child-has, word-machine}
+use Rattle.source_target.specs.Target.{hartOf, numberOf, receiverOf, keptTarget}
+use Rattle.domain_genmsi.specs.Genmsi.{keptGenerated}
+use Rattle.source_target.proofs.TargetLaws.{kept-first, kept-priority}
 use Rattle.source.specs.declared.Source.{Source}
 use Rattle.source.specs.Pending.{inactive}
-use Rattle.config.specs.Config.{keptConfig}
+use Rattle.domain_config.specs.Config.{keptConfig}
 use Rattle.source_rules.specs.SourceRules.{levelRule, sourceSteady, sentRule}
 use Rattle.source_laws.proofs.ModeEffects.{range-cases, range-delegated}
 use Rattle.source_laws.proofs.SteadyParts.{steady-mode, steady-target, steady-inactive, steady-level}

@@ -11,9 +11,9 @@ use Rattle.words.specs.Sets.{member}
 use Rattle.file.specs.declared.File.{File}
 use Rattle.file.specs.Top.{topIdentity, claimed}
 use Rattle.file_laws.proofs.TopEffects.{top-is, top-within, claimed-pending}
-use Rattle.runs.specs.Runs.{Lent, ran}
-use Rattle.runs.specs.Ready.{boardIn}
-use Rattle.runs.proofs.RunsEffects.{ready-refusal, after-refused, after-board, after-saved, ready-after}
+use Rattle.board_runs.specs.Runs.{Lent, ran}
+use Rattle.board_runs.specs.Ready.{boardIn}
+use Rattle.board_runs.proofs.RunsEffects.{ready-refusal, after-refused, after-board, after-saved, ready-after}
 use Rattle.transfer_laws.specs.Shift.{Stations, Event, withMove, withoutMove}
 use Rattle.transfer_laws.specs.Premises.{Started, TwoGuests, ByMessages, NoneNamesNew, AllAccesses, PagesKept}
 use Rattle.transfer_laws.specs.Premises.{Premises}

@@ -9,24 +9,24 @@ use Rattle.words.specs.Bits.{bitOf, hasBit, withBit, withoutBit}
 use Rattle.words.specs.Parts.{reversed, fieldOf, packed}
 use Rattle.words.specs.Sets.{member, insert, remove, put}
 use Rattle.words.proofs.TestsLaws.{and-first, and-second}
-use Rattle.select.specs.Select.{selectLegal, registerOf}
+use Rattle.file_select.specs.Select.{selectLegal, registerOf}
 use Rattle.file.specs.Page.{arrived, pageWritten}
 use Rattle.file.specs.Top.{passes, qualifies, lowest, topIdentity, topOf}
 use Rattle.file.specs.Register.{held, accessedAt, accessed}
-use Rattle.stored.specs.Stored.{fileWords}
-use Rattle.mode.specs.Mode.{isActive}
+use Rattle.file_words.specs.Stored.{fileWords}
+use Rattle.source_mode.specs.Mode.{isActive}
 use Rattle.file_message.specs.Message.{logWord}
-use Rattle.target.specs.Target.{hartOf, guestOf, numberOf, receiverOf, keptTarget, messageOf}
-use Rattle.delivery.specs.Delivery.{lets}
+use Rattle.source_target.specs.Target.{hartOf, guestOf, numberOf, receiverOf, keptTarget, messageOf}
+use Rattle.domain_delivery.specs.Delivery.{lets}
 use Rattle.source.specs.Pending.{redelivered}
 use Rattle.domain.specs.Domain.{configOf, byMessages, withConfig, withGenerated}
 use Rattle.domain.specs.Slot.{sourceAt, withSource}
 use Rattle.domain.specs.Structure.{structureAt}
-use Rattle.config.specs.Config.{keptConfig, redeliveredAt, redeliveredFrom, modeSettled, configWritten}
-use Rattle.direct.specs.Direct.{standing, eligible, precedes, topFrom, topSource, topiOf}
-use Rattle.registers.specs.Read.{registerValue as readOf}
-use Rattle.region.specs.Region.{wordAt, wordIn, nameIn, registers, addressLegal}
-use Rattle.call.specs.Refusal.{nameRefusal, nameTests, firstFailed, present, addressed, selected}
+use Rattle.domain_config.specs.Config.{keptConfig, redeliveredAt, redeliveredFrom, modeSettled, configWritten}
+use Rattle.domain_direct.specs.Direct.{standing, eligible, precedes, topFrom, topSource, topiOf}
+use Rattle.domain_registers.specs.Read.{registerValue as readOf}
+use Rattle.domain_region.specs.Region.{wordAt, wordIn, nameIn, registers, addressLegal}
+use Rattle.board_call.specs.Refusal.{nameRefusal, nameTests, firstFailed, present, addressed, selected}
 use Rattle.claims.specs.Table.{table, same, holds}
 
 pub table-holds : holds table ≡ true

@@ -8,10 +8,10 @@ use lib.ListN.{length, take, drop, take-append-drop, length-take, length-drop}
 use lib.Seq.{drop-drop, take-all}
 use Rattle.domain.specs.Domain.{Domain, domainOf}
 use denote.Ref.{now}
-use Rattle.region.specs.declared.Word.the-variants.{Sourcecfg}
-use Rattle.region.proofs.RoleLaws.{configures-only}
-use Rattle.wires.specs.Wires.{Wired, wiredOf}
-use Rattle.wired.proofs.WiredLaws.{written-part, written-source}
+use Rattle.domain_region.specs.declared.Word.the-variants.{Sourcecfg}
+use Rattle.domain_region.proofs.RoleLaws.{configures-only}
+use Rattle.wired_state.specs.Wires.{Wired, wiredOf}
+use Rattle.wired_registers.proofs.WiredLaws.{written-part, written-source}
 use Rattle.files.specs.Files.{wordsOf}
 use Rattle.files_laws.proofs.BlockBack.{words-back}
 use Rattle.claims.specs.WiredCalls.{Claim-60, Claim-61, Claim-62, Claim-63, Claim-64, Claim-65}

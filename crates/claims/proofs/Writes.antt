@@ -11,10 +11,10 @@ use Rattle.words.specs.Bits.{hasBit}
 use Rattle.words.specs.Parts.{fieldOf, packed}
 use Rattle.words.specs.Sets.{member}
 use Rattle.words.proofs.TestsLaws.{tested, beq-same, beq-differs, not-same}
-use Rattle.mode.specs.Mode.{isActive}
-use Rattle.target.specs.Target.{hartOf, guestOf, numberOf, startTarget, priorityOf, receiverOf, keptTarget}
-use Rattle.region.specs.declared.Word.the-variants.{Sourcecfg}
-use Rattle.target.proofs.TargetLaws.{hartOf-lt, guestOf-lt, numberOf-lt}
+use Rattle.source_mode.specs.Mode.{isActive}
+use Rattle.source_target.specs.Target.{hartOf, guestOf, numberOf, startTarget, priorityOf, receiverOf, keptTarget}
+use Rattle.domain_region.specs.declared.Word.the-variants.{Sourcecfg}
+use Rattle.source_target.proofs.TargetLaws.{hartOf-lt, guestOf-lt, numberOf-lt}
 use Rattle.source.specs.declared.Source.{Source}
 use Rattle.source.specs.Pending.{settled, redelivered}
 use Rattle.source.proofs.PendingLaws.{retargeted-inactive, retargeted-active}
@@ -24,22 +24,22 @@ use Rattle.domain_laws.specs.Shape.{DomainShaped}
 use Rattle.domain_laws.specs.Became.{Became}
 use Rattle.domain_laws.proofs.SlotEffects.{withSource-back}
 use Rattle.domain_laws.proofs.BecameEffects.{became-withConfig, became-messages, touched-as}
-use Rattle.writes.specs.Writes.{targetWritten}
-use Rattle.config.specs.Config.{keptConfig, configWritten}
-use Rattle.config.proofs.ConfigLaws.{mode-same}
-use Rattle.writes_laws.specs.Named.{named}
-use Rattle.writes_laws.proofs.WritesEffects.{touched-wordChanged, touched-numberChanged}
-use Rattle.writes_laws.proofs.WritesEffects.{touched-targetWritten}
-use Rattle.writes_laws.proofs.ConfigEffects.{keptConfig-messages, became-configWritten}
-use Rattle.writes_laws.proofs.ConfigEffects.{byMessages-configWritten, isEnabled-configWritten}
+use Rattle.domain_writes.specs.Writes.{targetWritten}
+use Rattle.domain_config.specs.Config.{keptConfig, configWritten}
+use Rattle.domain_config.proofs.ConfigLaws.{mode-same}
+use Rattle.domain_writes_laws.specs.Named.{named}
+use Rattle.domain_writes_laws.proofs.WritesEffects.{touched-wordChanged, touched-numberChanged}
+use Rattle.domain_writes_laws.proofs.WritesEffects.{touched-targetWritten}
+use Rattle.domain_writes_laws.proofs.ConfigEffects.{keptConfig-messages, became-configWritten}
+use Rattle.domain_writes_laws.proofs.ConfigEffects.{byMessages-configWritten, isEnabled-configWritten}
 use Rattle.source_laws.proofs.ModeEffects.{active-level}
 use Rattle.source_laws.proofs.TargetEffects.{keptTarget-back}
-use Rattle.wires.specs.Wires.{Wired}
+use Rattle.wired_state.specs.Wires.{Wired}
 use Rattle.wired_sourcecfg.specs.Delegation.{sourceWritten}
-use Rattle.wired.specs.Wired.{writtenIn}
-use Rattle.wired.proofs.WiredLaws.{written-source}
-use Rattle.rules_laws.proofs.SoundParts.{wired-sound-steady}
-use Rattle.rules_laws.proofs.WiredSameEffects.{wireSet-same, delegated-again}
+use Rattle.wired_registers.specs.Wired.{writtenIn}
+use Rattle.wired_registers.proofs.WiredLaws.{written-source}
+use Rattle.wired_rules_laws.proofs.SoundParts.{wired-sound-steady}
+use Rattle.wired_rules_laws.proofs.WiredSameEffects.{wireSet-same, delegated-again}
 use Rattle.claims.specs.Rules.{TargetStored}
 use Rattle.claims.specs.Writes.{Restarted, TargetKept, Claim-55, Claim-56, Claim-57, Claim-58}
 use Rattle.claims.proofs.SourceRules.{config-is, target-iff}

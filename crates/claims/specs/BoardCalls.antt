@@ -17,30 +17,30 @@ use Rattle.file.specs.Top.{topOf}
 use Rattle.files.specs.Files.{fileNumber, theFile}
 use Rattle.domain.specs.Domain.{isEnabled, byMessages}
 use Rattle.domain.specs.Structure.{structureAt}
-use Rattle.direct.specs.Direct.{topiOf}
-use Rattle.wires.specs.Wires.{domainIn}
-use Rattle.block.specs.Block.{Board, boardOf, blockOf, boardSound}
-use Rattle.block.specs.Start.{startBoard}
-use Rattle.block_laws.specs.Shape.{BoardShaped}
-use Rattle.call.specs.declared.Answer.{Answer}
-use Rattle.call.specs.declared.Call.{Call}
-use Rattle.call.specs.declared.Call.the-variants.{Reset, Wire, DomainRead, DomainWrite, PageRead, PageWrite}
-use Rattle.call.specs.declared.Call.the-variants.{Register, Top, Claim, Signals}
-use Rattle.call.specs.Refusal.{testsRules, present, addressed, selected, refusalOf}
-use Rattle.call.specs.Change.{signalsTo}
-use Rattle.call.specs.Outcome.{Outcome, step, outcome, Gives, Does}
-use Rattle.call_laws.specs.Fit.{SavedFit}
-use Rattle.call_laws.specs.Small.{Small}
-use Rattle.wired_calls.proofs.wire.Reads as wire
-use Rattle.wired_calls.proofs.domain_read.Reads as domain-read
-use Rattle.wired_calls.proofs.domain_write.Reads as domain-write
-use Rattle.file_calls.proofs.page_read.Reads as page-read
-use Rattle.file_calls.proofs.page_write.Reads as page-write
-use Rattle.file_calls.proofs.register.Reads as register
-use Rattle.file_calls.proofs.top.Reads as top
-use Rattle.file_calls.proofs.claim.Reads as claim
-use Rattle.hart_calls.proofs.reset.Reads as reset
-use Rattle.hart_calls.proofs.signals.Reads as signals
+use Rattle.domain_direct.specs.Direct.{topiOf}
+use Rattle.wired_state.specs.Wires.{domainIn}
+use Rattle.board_block.specs.Block.{Board, boardOf, blockOf, boardSound}
+use Rattle.board_block.specs.Start.{startBoard}
+use Rattle.board_block_laws.specs.Shape.{BoardShaped}
+use Rattle.board_call.specs.declared.Answer.{Answer}
+use Rattle.board_call.specs.declared.Call.{Call}
+use Rattle.board_call.specs.declared.Call.the-variants.{Reset, Wire, DomainRead, DomainWrite, PageRead, PageWrite}
+use Rattle.board_call.specs.declared.Call.the-variants.{Register, Top, Claim, Signals}
+use Rattle.board_call.specs.Refusal.{testsRules, present, addressed, selected, refusalOf}
+use Rattle.board_call.specs.Change.{signalsTo}
+use Rattle.board_call.specs.Outcome.{Outcome, step, outcome, Gives, Does}
+use Rattle.board_call_laws.specs.Fit.{SavedFit}
+use Rattle.board_call_laws.specs.Small.{Small}
+use Rattle.board_wired_calls.proofs.wire.Reads as wire
+use Rattle.board_wired_calls.proofs.domain_read.Reads as domain-read
+use Rattle.board_wired_calls.proofs.domain_write.Reads as domain-write
+use Rattle.board_file_calls.proofs.page_read.Reads as page-read
+use Rattle.board_file_calls.proofs.page_write.Reads as page-write
+use Rattle.board_file_calls.proofs.register.Reads as register
+use Rattle.board_file_calls.proofs.top.Reads as top
+use Rattle.board_file_calls.proofs.claim.Reads as claim
+use Rattle.board_hart_calls.proofs.reset.Reads as reset
+use Rattle.board_hart_calls.proofs.signals.Reads as signals
 use Rattle.board.proofs.apply.Reads as apply
 
 -- ---- what a call gives

@@ -11,14 +11,14 @@ use mathlib.Core.Logic.{_≢_}
 use contract.Lifetimes.{Lfts}
 use denote.Ref.{RefT, now}
 use Rattle.files.specs.Files.{fileNumber, theFile}
-use Rattle.block.specs.Block.{Board, boardSound}
-use Rattle.call.specs.declared.Call.{Call}
-use Rattle.call.specs.declared.Call.the-variants.{Reset, Wire, DomainRead, DomainWrite, PageRead, PageWrite}
-use Rattle.call.specs.declared.Call.the-variants.{Register, Top, Claim, Signals, Move}
-use Rattle.call.specs.Refusal.{testsRules, refusalOf}
-use Rattle.call.specs.Outcome.{step}
-use Rattle.answer.specs.declared.VskAnswer.{VskAnswer}
-use Rattle.answer.specs.Told.{Tells}
+use Rattle.board_block.specs.Block.{Board, boardSound}
+use Rattle.board_call.specs.declared.Call.{Call}
+use Rattle.board_call.specs.declared.Call.the-variants.{Reset, Wire, DomainRead, DomainWrite, PageRead, PageWrite}
+use Rattle.board_call.specs.declared.Call.the-variants.{Register, Top, Claim, Signals, Move}
+use Rattle.board_call.specs.Refusal.{testsRules, refusalOf}
+use Rattle.board_call.specs.Outcome.{step}
+use Rattle.monitor_answer.specs.declared.VskAnswer.{VskAnswer}
+use Rattle.monitor_answer.specs.Told.{Tells}
 use Rattle.monitor.proofs.vsk_reset.Reads as vsk-reset
 use Rattle.monitor.proofs.vsk_wire.Reads as vsk-wire
 use Rattle.monitor.proofs.vsk_domain_read.Reads as vsk-domain-read

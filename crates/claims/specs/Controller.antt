@@ -10,18 +10,18 @@ use lib.ListN.{length, getD}
 use contract.Lifetimes.{Lfts}
 use denote.Ref.{RefT, now}
 use Rattle.file_message.specs.Message.{fileIn}
-use Rattle.region.specs.Region.{Within}
-use Rattle.region.specs.declared.Word.{Word}
-use Rattle.region.specs.declared.Word.the-variants.{Genmsi}
-use Rattle.wires.specs.Wires.{Wired, wiredOf, domainIn, wireSet}
-use Rattle.wired.specs.Wired.{readIn, claimedIn, writtenIn}
-use Rattle.rules.specs.Rules.{wiredSound}
-use Rattle.sending.specs.Sending.{sent}
-use Rattle.genmsi.specs.Genmsi.{generatedSent}
-use Rattle.controller.specs.Controller.{Out, wireCall, readCall, writeCall, Leaves}
-use Rattle.controller.proofs.set_wire.Reads as set-wire
-use Rattle.controller.proofs.read.Reads as read
-use Rattle.controller.proofs.write.Reads as write
+use Rattle.domain_region.specs.Region.{Within}
+use Rattle.domain_region.specs.declared.Word.{Word}
+use Rattle.domain_region.specs.declared.Word.the-variants.{Genmsi}
+use Rattle.wired_state.specs.Wires.{Wired, wiredOf, domainIn, wireSet}
+use Rattle.wired_registers.specs.Wired.{readIn, claimedIn, writtenIn}
+use Rattle.wired_rules.specs.Rules.{wiredSound}
+use Rattle.domain_sending.specs.Sending.{sent}
+use Rattle.domain_genmsi.specs.Genmsi.{generatedSent}
+use Rattle.wired.specs.Controller.{Out, wireCall, readCall, writeCall, Leaves}
+use Rattle.wired.proofs.set_wire.Reads as set-wire
+use Rattle.wired.proofs.read.Reads as read
+use Rattle.wired.proofs.write.Reads as write
 use Rattle.claims.specs.Rules.{Sound}
 
 -- what each call answers, and leaves of its words and of the log

@@ -6,15 +6,15 @@ use Prim.Native.Nat.{ℕ, _+_, _*_, _≤_, _<_}
 use mathlib.Core.Path.{_≡_}
 use mathlib.Core.Bool.{true, false}
 use mathlib.Core.Logic.{_≢_, _↔_, _⊎_}
-use Rattle.mode.specs.Mode.{isLevel}
-use Rattle.target.specs.Target.{hartOf, numberOf}
+use Rattle.source_mode.specs.Mode.{isLevel}
+use Rattle.source_target.specs.Target.{hartOf, numberOf}
 use Rattle.source.specs.Pending.{withPending}
-use Rattle.delivery.specs.Delivery.{withoutForce}
+use Rattle.domain_delivery.specs.Delivery.{withoutForce}
 use Rattle.domain.specs.Domain.{Domain, configOf, isEnabled, byMessages, generatedAt}
 use Rattle.domain.specs.Slot.{sourceAt}
 use Rattle.domain.specs.Structure.{structureAt, withStructure}
 use Rattle.domain_laws.specs.Shape.{DomainShaped}
-use Rattle.direct.specs.Direct.{eligible, topSource, topiOf, hartClaimed, signalOf}
+use Rattle.domain_direct.specs.Direct.{eligible, topSource, topiOf, hartClaimed, signalOf}
 
 -- the priority number of source i
 abbrev pub priority : Domain → ℕ → ℕ

@@ -10,9 +10,9 @@ use mathlib.Core.Bool.{Bool}
 use mathlib.Core.List.{List}
 use contract.Lifetimes.{Lfts}
 use denote.Ref.{RefT, now}
-use Rattle.select.specs.declared.Register.{Register}
-use Rattle.select.specs.Select.{selectLegal, registerOf}
-use Rattle.select.specs.Deliveries.{deliveryLegal}
+use Rattle.file_select.specs.declared.Register.{Register}
+use Rattle.file_select.specs.Select.{selectLegal, registerOf}
+use Rattle.file_select.specs.Deliveries.{deliveryLegal}
 use Rattle.file.specs.declared.File.{File}
 use Rattle.file.specs.declared.register.Access.{Access}
 use Rattle.file.specs.declared.register.Accessed.{Accessed}
@@ -21,7 +21,7 @@ use Rattle.file.specs.Page.{arrived, pageWritten, pageRead}
 use Rattle.file.specs.Top.{topIdentity, topOf, claimed, signals}
 use Rattle.file.specs.Rules.{fileSound}
 use Rattle.file.specs.Register.{accessed}
-use Rattle.stored.specs.Stored.{fileAt, putFile}
+use Rattle.file_words.specs.Stored.{fileAt, putFile}
 use Rattle.file.proofs.File.arrive.Reads as arrive
 use Rattle.file.proofs.File.page_write.Reads as page-write
 use Rattle.file.proofs.File.page_read.Reads as page-read
@@ -29,13 +29,13 @@ use Rattle.file.proofs.File.top_identity.Reads as top-identity
 use Rattle.file.proofs.File.top.Reads as top
 use Rattle.file.proofs.File.claim.Reads as claim
 use Rattle.file.proofs.File.signals.Reads as signals-of
-use Rattle.select.proofs.select_legal.Reads as select-legal
-use Rattle.select.proofs.register_of.Reads as register-of
-use Rattle.select.proofs.delivery_legal.Reads as delivery-legal
+use Rattle.file_select.proofs.select_legal.Reads as select-legal
+use Rattle.file_select.proofs.register_of.Reads as register-of
+use Rattle.file_select.proofs.delivery_legal.Reads as delivery-legal
 use Rattle.file.proofs.File.access.Reads as access
 use Rattle.file.proofs.File.sound.Reads as sound
-use Rattle.stored.proofs.load.Reads as load
-use Rattle.stored.proofs.store.Reads as store
+use Rattle.file_words.proofs.load.Reads as load
+use Rattle.file_words.proofs.store.Reads as store
 
 -- a message arrives
 unfoldable pub Claim-1 : Type 0

@@ -11,9 +11,9 @@ use lib.Dec.{eqb, leb}
 use lib.ListN.{length}
 use Rattle.words.specs.Bits.{hasBit, withoutBit}
 use Rattle.words.specs.Sets.{member, WordsFit}
-use Rattle.select.specs.declared.Register.the-variants.{Delivery, Threshold, Pending, Enable}
-use Rattle.select.specs.Select.{selectLegal}
-use Rattle.select.specs.Deliveries.{deliveryLegal}
+use Rattle.file_select.specs.declared.Register.the-variants.{Delivery, Threshold, Pending, Enable}
+use Rattle.file_select.specs.Select.{selectLegal}
+use Rattle.file_select.specs.Deliveries.{deliveryLegal}
 use Rattle.file.specs.declared.File.{File}
 use Rattle.file.specs.declared.register.Access.{Access}
 use Rattle.file.specs.declared.register.Reply.the-variants.{Illegal}
@@ -23,7 +23,7 @@ use Rattle.file.specs.Page.{arrived, pageWritten}
 use Rattle.file.specs.Top.{topOf, claimed, signals}
 use Rattle.file.specs.Rules.{fileSound}
 use Rattle.file.specs.Register.{held, written, accessed}
-use Rattle.stored.specs.Stored.{fileAt, putFile}
+use Rattle.file_words.specs.Stored.{fileAt, putFile}
 
 -- identity i is pending and enabled, and below the threshold if that is not 0
 pub record Stands (f : File) (i : ℕ) : Type 0 where

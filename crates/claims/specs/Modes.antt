@@ -6,12 +6,12 @@ use mathlib.Core.Path.{_≡_}
 use mathlib.Core.Bool.{Bool, true, false, cond, not, _&&_, _||_}
 use mathlib.Core.Logic.{_≢_}
 use Rattle.words.specs.Bits.{hasBit}
-use Rattle.mode.specs.Mode.{isActive, isLevel, isRectified}
+use Rattle.source_mode.specs.Mode.{isActive, isLevel, isRectified}
 use Rattle.source.specs.declared.Source.{Source}
 use Rattle.source.specs.Pending.{moded}
 use Rattle.domain.specs.Slot.{sourceAt}
 use Rattle.domain_laws.specs.Shape.{DomainShaped}
-use Rattle.wires.specs.Wires.{Wired, isDelegated}
+use Rattle.wired_state.specs.Wires.{Wired, isDelegated}
 use Rattle.wired_sourcecfg.specs.Delegation.{rootWritten}
 
 -- its rectified value rises by the write

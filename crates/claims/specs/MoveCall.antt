@@ -21,22 +21,22 @@ use contract.Lifetimes.{Lfts}
 use denote.Ref.{RefT, now}
 use Rattle.words.specs.Bits.{hasBit}
 use Rattle.words.specs.Sets.{member}
-use Rattle.select.specs.Halves.{doubleword}
+use Rattle.file_select.specs.Halves.{doubleword}
 use Rattle.file.specs.declared.File.{File}
 use Rattle.file.specs.Parts.{withDelivery, withThreshold}
-use Rattle.target.specs.Target.{hartOf, guestOf, numberOf}
+use Rattle.source_target.specs.Target.{hartOf, guestOf, numberOf}
 use Rattle.domain.specs.Domain.{byMessages, generatedAt}
 use Rattle.domain.specs.Slot.{sourceAt}
 use Rattle.files.specs.Files.{fileNumber, theFile}
-use Rattle.block.specs.Block.{Board}
-use Rattle.call.specs.declared.Call.the-variants.{Move}
-use Rattle.call.specs.Refusal.{isMove, present}
-use Rattle.call.specs.declared.Answer.{Answer}
-use Rattle.call.specs.Outcome.{step, outcome, Gives}
-use Rattle.call_laws.specs.Fit.{Fit}
-use Rattle.answer.specs.declared.VskAnswer.{VskAnswer}
-use Rattle.answer.specs.Told.{Told}
-use Rattle.transfer.proofs.make_access.Reads as make-access
+use Rattle.board_block.specs.Block.{Board}
+use Rattle.board_call.specs.declared.Call.the-variants.{Move}
+use Rattle.board_call.specs.Refusal.{isMove, present}
+use Rattle.board_call.specs.declared.Answer.{Answer}
+use Rattle.board_call.specs.Outcome.{step, outcome, Gives}
+use Rattle.board_call_laws.specs.Fit.{Fit}
+use Rattle.monitor_answer.specs.declared.VskAnswer.{VskAnswer}
+use Rattle.monitor_answer.specs.Told.{Told}
+use Rattle.board_move_calls.proofs.make_access.Reads as make-access
 use Rattle.monitor.proofs.vsk_move.Reads as vsk-move
 
 -- ---- what the call gives

@@ -11,17 +11,17 @@ use mathlib.Core.Logic.{_≢_, _⊎_}
 use lib.Dec.{eqb}
 use Rattle.words.specs.Sets.{member}
 use Rattle.source.specs.Pending.{wireChanged, retargeted}
-use Rattle.region.specs.declared.Word.the-variants.{Target}
+use Rattle.domain_region.specs.declared.Word.the-variants.{Target}
 use Rattle.domain.specs.Domain.{isEnabled, byMessages}
 use Rattle.domain.specs.Slot.{sourceAt}
-use Rattle.wires.specs.Wires.{Wired, domainIn, wireSet}
-use Rattle.sending.specs.Sending.{candidate}
-use Rattle.sending_laws.specs.Candidates.{messageAt, spent}
-use Rattle.controller.specs.Controller.{wireCall, writeCall}
+use Rattle.wired_state.specs.Wires.{Wired, domainIn, wireSet}
+use Rattle.domain_sending.specs.Sending.{candidate}
+use Rattle.domain_sending_laws.specs.Candidates.{messageAt, spent}
+use Rattle.wired.specs.Controller.{wireCall, writeCall}
 use Rattle.files.specs.Files.{reached}
-use Rattle.block.specs.Block.{Board}
-use Rattle.call.specs.declared.Call.the-variants.{Wire}
-use Rattle.call.specs.Outcome.{Stepped, step}
+use Rattle.board_block.specs.Block.{Board}
+use Rattle.board_call.specs.declared.Call.the-variants.{Wire}
+use Rattle.board_call.specs.Outcome.{Stepped, step}
 use Rattle.claims.specs.Rules.{Sound}
 
 -- a wire is set, and wire i stays at its level: source i stays as it was, and in a domain that sends it is

@@ -8,21 +8,21 @@ use mathlib.Core.List.{List}
 use Rattle.words.specs.Bits.{hasBit}
 use Rattle.words.specs.Parts.{reversed}
 use Rattle.words.specs.Sets.{member}
-use Rattle.mode.specs.Mode.{sourceWord}
-use Rattle.region.specs.declared.Word.{Word}
-use Rattle.region.specs.declared.Word.the-variants.{Sourcecfg, Setip, Setipnum, InClrip, Clripnum, SetipnumLe}
-use Rattle.region.specs.declared.Word.the-variants.{SetipnumBe, Claimi}
+use Rattle.source_mode.specs.Mode.{sourceWord}
+use Rattle.domain_region.specs.declared.Word.{Word}
+use Rattle.domain_region.specs.declared.Word.the-variants.{Sourcecfg, Setip, Setipnum, InClrip, Clripnum, SetipnumLe}
+use Rattle.domain_region.specs.declared.Word.the-variants.{SetipnumBe, Claimi}
 use Rattle.source.specs.Pending.{moded}
 use Rattle.domain.specs.Domain.{Domain, isEnabled, byMessages}
 use Rattle.domain.specs.Slot.{sourceAt}
 use Rattle.domain_laws.specs.Shape.{DomainShaped}
-use Rattle.direct.specs.Direct.{topSource}
-use Rattle.registers.specs.Read.{claimedBy}
-use Rattle.registers.specs.Write.{registerWritten}
-use Rattle.sending.specs.Sending.{candidate}
-use Rattle.sending.specs.Sending as sending
-use Rattle.wires.specs.Wires.{Wired, wireSet, isDelegated}
-use Rattle.wired.specs.Wired.{writtenIn}
+use Rattle.domain_direct.specs.Direct.{topSource}
+use Rattle.domain_registers.specs.Read.{claimedBy}
+use Rattle.domain_registers.specs.Write.{registerWritten}
+use Rattle.domain_sending.specs.Sending.{candidate}
+use Rattle.domain_sending.specs.Sending as sending
+use Rattle.wired_state.specs.Wires.{Wired, wireSet, isDelegated}
+use Rattle.wired_registers.specs.Wired.{writtenIn}
 use Rattle.claims.specs.Causes.{Cause, happens}
 use Rattle.claims.specs.Causes.Cause.{wire, setip, clrip, claim, sent}
 use Rattle.claims.specs.Rules.{Long}

@@ -15,20 +15,20 @@ use lib.ListN.{length}
 use contract.Lifetimes.{Lfts}
 use denote.Ref.{RefT, now}
 use Rattle.words.specs.Sets.{member}
-use Rattle.mode.specs.Mode.{isActive, isLevel, isRectified}
-use Rattle.target.specs.Target.{hartOf, guestOf, numberOf}
-use Rattle.region.specs.Region.{Within}
-use Rattle.region.specs.declared.Word.{Word}
+use Rattle.source_mode.specs.Mode.{isActive, isLevel, isRectified}
+use Rattle.source_target.specs.Target.{hartOf, guestOf, numberOf}
+use Rattle.domain_region.specs.Region.{Within}
+use Rattle.domain_region.specs.declared.Word.{Word}
 use Rattle.source.specs.declared.Source.{Source}
 use Rattle.domain.specs.Domain.{Domain, configOf, isEnabled, byMessages, generatedAt}
 use Rattle.domain.specs.Slot.{sourceAt}
 use Rattle.domain.specs.Structure.{structureAt}
 use Rattle.domain_laws.specs.Shape.{DomainShaped}
-use Rattle.wires.specs.Wires.{Wired, wiredOf, wireSet}
-use Rattle.wired.specs.Wired.{writtenIn, claimedIn}
-use Rattle.rules.specs.Rules.{wiredSound}
-use Rattle.rules_laws.specs.Steady.{passed}
-use Rattle.rules.proofs.sound.Reads as sound
+use Rattle.wired_state.specs.Wires.{Wired, wiredOf, wireSet}
+use Rattle.wired_registers.specs.Wired.{writtenIn, claimedIn}
+use Rattle.wired_rules.specs.Rules.{wiredSound}
+use Rattle.wired_rules_laws.specs.Steady.{passed}
+use Rattle.wired_rules.proofs.sound.Reads as sound
 
 abbrev pub Long : Wired → Type 0
 Long w = (length (w .wires) ≡ 2) × DomainShaped (w .root) × DomainShaped (w .child)

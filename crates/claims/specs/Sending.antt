@@ -7,12 +7,12 @@ use mathlib.Core.Bool.{Bool, true, false, cond, not, _&&_}
 use mathlib.Core.List.{[], _∷_, map}
 use lib.ListN.{length, getD}
 use Rattle.words.specs.Sets.{member}
-use Rattle.target.specs.Target.{hartOf, numberOf}
+use Rattle.source_target.specs.Target.{hartOf, numberOf}
 use Rattle.domain.specs.Domain.{Domain, isEnabled, byMessages}
 use Rattle.domain.specs.Slot.{sourceAt}
-use Rattle.sending.specs.Sending.{candidate, sent}
-use Rattle.genmsi.specs.Genmsi.{generatedSent}
-use Rattle.sending_laws.specs.Candidates.{candidates, messageAt, DomainPendingOnly, Names}
+use Rattle.domain_sending.specs.Sending.{candidate, sent}
+use Rattle.domain_genmsi.specs.Genmsi.{generatedSent}
+use Rattle.domain_sending_laws.specs.Candidates.{candidates, messageAt, DomainPendingOnly, Names}
 
 -- the messages are those of the candidates, ascending, and none if IE and DM are not both 1
 unfoldable pub Claim-50 : Type 0

@@ -12,14 +12,14 @@ use mathlib.Core.Logic.{_≢_}
 use Rattle.words.specs.Sets.{member}
 use Rattle.file.specs.Top.{topIdentity}
 use Rattle.files.specs.Files.{fileNumber, theFile}
-use Rattle.wires.specs.Wires.{domainIn}
-use Rattle.call.specs.declared.Call.{Call}
-use Rattle.call.specs.declared.Call.the-variants.{Claim}
-use Rattle.call.specs.Outcome.{step}
-use Rattle.call.specs.Refusal.{nameRefusal, refusalOf}
-use Rattle.call_laws.specs.Small.{Small}
-use Rattle.runs.specs.Runs.{Lent, outcomeOn, after, ran}
-use Rattle.runs.specs.Ready.{boardIn, Ready}
+use Rattle.wired_state.specs.Wires.{domainIn}
+use Rattle.board_call.specs.declared.Call.{Call}
+use Rattle.board_call.specs.declared.Call.the-variants.{Claim}
+use Rattle.board_call.specs.Outcome.{step}
+use Rattle.board_call.specs.Refusal.{nameRefusal, refusalOf}
+use Rattle.board_call_laws.specs.Small.{Small}
+use Rattle.board_runs.specs.Runs.{Lent, outcomeOn, after, ran}
+use Rattle.board_runs.specs.Ready.{boardIn, Ready}
 use Rattle.transfer_laws.specs.Shift.{Stations, Event, withMove, withoutMove}
 use Rattle.transfer_laws.specs.Premises.{Started, TwoGuests, ByMessages, NoneNamesNew, AllAccesses, PagesKept}
 use Rattle.transfer_laws.specs.Moved.{oldNumber, newNumber, oldIn, newIn, AccessesDone}

@@ -11,21 +11,21 @@ use Rattle.file.specs.Reply.{replyNumber, replyValue}
 use Rattle.file.specs.Page.{pageWritten}
 use Rattle.file.specs.Top.{topOf}
 use Rattle.file.specs.Register.{accessed}
-use Rattle.stored.specs.Stored.{fileWords}
+use Rattle.file_words.specs.Stored.{fileWords}
 use Rattle.words.specs.Parts.{packed}
-use Rattle.target.specs.Target.{keptTarget, messageOf}
-use Rattle.region.specs.declared.Word.the-variants.{Domaincfg}
-use Rattle.region.specs.declared.role.Role.{Role}
-use Rattle.region.specs.declared.role.Role.the-variants.{Claims, Configures, Generates, Plain}
+use Rattle.source_target.specs.Target.{keptTarget, messageOf}
+use Rattle.domain_region.specs.declared.Word.the-variants.{Domaincfg}
+use Rattle.domain_region.specs.declared.role.Role.{Role}
+use Rattle.domain_region.specs.declared.role.Role.the-variants.{Claims, Configures, Generates, Plain}
 use Rattle.domain.specs.Domain.{Domain}
-use Rattle.config.specs.Config.{configWritten}
-use Rattle.direct.specs.Direct.{topiOf}
-use Rattle.region.specs.Region.{wordAt}
-use Rattle.region.specs.Role.{roleOf}
-use Rattle.registers.specs.Read.{registerValue as readOf}
-use Rattle.call.specs.declared.Call.the-variants.{DomainRead}
-use Rattle.block.specs.Start.{startBoard}
-use Rattle.call.specs.Refusal.{nameRefusal}
+use Rattle.domain_config.specs.Config.{configWritten}
+use Rattle.domain_direct.specs.Direct.{topiOf}
+use Rattle.domain_region.specs.Region.{wordAt}
+use Rattle.domain_region.specs.Role.{roleOf}
+use Rattle.domain_registers.specs.Read.{registerValue as readOf}
+use Rattle.board_call.specs.declared.Call.the-variants.{DomainRead}
+use Rattle.board_block.specs.Start.{startBoard}
+use Rattle.board_call.specs.Refusal.{nameRefusal}
 
 -- a row: the case's number, what the definitions give, what the table says
 pub record Row : Type 0 where

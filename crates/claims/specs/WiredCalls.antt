@@ -10,29 +10,29 @@ use mathlib.Core.Logic.{_≢_}
 use lib.ListN.{length, take}
 use contract.Lifetimes.{Lfts}
 use denote.Ref.{RefT, now}
-use Rattle.region.specs.declared.Word.{Word}
-use Rattle.region.specs.declared.Word.the-variants.{Sourcecfg}
-use Rattle.region.specs.Region.{wordAt}
+use Rattle.domain_region.specs.declared.Word.{Word}
+use Rattle.domain_region.specs.declared.Word.the-variants.{Sourcecfg}
+use Rattle.domain_region.specs.Region.{wordAt}
 use Rattle.domain.specs.Domain.{domainOf}
-use Rattle.direct.specs.Direct.{signalOf}
-use Rattle.registers.specs.Read.{registerValue, claimedBy}
-use Rattle.registers.specs.Write.{registerWritten}
-use Rattle.sending.specs.Sending.{sent, logged}
-use Rattle.genmsi.specs.Genmsi.{generatedSent}
+use Rattle.domain_direct.specs.Direct.{signalOf}
+use Rattle.domain_registers.specs.Read.{registerValue, claimedBy}
+use Rattle.domain_registers.specs.Write.{registerWritten}
+use Rattle.domain_sending.specs.Sending.{sent, logged}
+use Rattle.domain_genmsi.specs.Genmsi.{generatedSent}
 use Rattle.files.specs.Files.{filesOf, wordsOf, allReached}
-use Rattle.wires.specs.Wires.{wiredOf, wireSet}
+use Rattle.wired_state.specs.Wires.{wiredOf, wireSet}
 use Rattle.wired_sourcecfg.specs.Delegation.{sourceWritten}
-use Rattle.wired.specs.Wired.{readIn, claimedIn, partWritten}
-use Rattle.region.proofs.word_at.Reads as word-at
-use Rattle.registers.proofs.read.Reads as read
-use Rattle.registers.proofs.write.Reads as write
-use Rattle.direct.proofs.signal.Reads as signal
-use Rattle.sending.proofs.send.Reads as send
+use Rattle.wired_registers.specs.Wired.{readIn, claimedIn, partWritten}
+use Rattle.domain_region.proofs.word_at.Reads as word-at
+use Rattle.domain_registers.proofs.read.Reads as read
+use Rattle.domain_registers.proofs.write.Reads as write
+use Rattle.domain_direct.proofs.signal.Reads as signal
+use Rattle.domain_sending.proofs.send.Reads as send
 use Rattle.files.proofs.deliver.Reads as deliver
-use Rattle.genmsi.proofs.send_generated.Reads as send-generated
-use Rattle.wires.proofs.set_wire.Reads as set-wire
-use Rattle.wired.proofs.read.Reads as wired-read
-use Rattle.wired.proofs.write.Reads as wired-write
+use Rattle.domain_genmsi.proofs.send_generated.Reads as send-generated
+use Rattle.wired_state.proofs.set_wire.Reads as set-wire
+use Rattle.wired_registers.proofs.read.Reads as wired-read
+use Rattle.wired_registers.proofs.write.Reads as wired-write
 
 -- which register an address names
 unfoldable pub Claim-60 : Type 0

@@ -14,9 +14,9 @@ use mathlib.Core.Logic.{_≢_}
 use lib.Dec.{eqb}
 use Rattle.words.specs.Bits.{hasBit}
 use Rattle.words.specs.Sets.{member}
-use Rattle.mode.specs.Mode.{isActive, isLevel, isRectified}
-use Rattle.target.specs.Target.{hartOf, guestOf, numberOf, keptTarget}
-use Rattle.region.specs.declared.Word.the-variants.{Sourcecfg}
+use Rattle.source_mode.specs.Mode.{isActive, isLevel, isRectified}
+use Rattle.source_target.specs.Target.{hartOf, guestOf, numberOf, keptTarget}
+use Rattle.domain_region.specs.declared.Word.the-variants.{Sourcecfg}
 use Rattle.source.specs.declared.Source.{Source}
 use Rattle.source.specs.declared.Change.{Change}
 use Rattle.source.specs.Pending.{withTarget, changed, redelivered}
@@ -24,10 +24,10 @@ use Rattle.domain.specs.Domain.{Domain, isEnabled, byMessages, withConfig}
 use Rattle.domain.specs.Slot.{sourceAt}
 use Rattle.domain_laws.specs.Shape.{DomainShaped}
 use Rattle.domain_laws.specs.Became.{Became, Touched}
-use Rattle.writes.specs.Writes.{wordChanged, numberChanged, targetWritten}
-use Rattle.config.specs.Config.{configWritten}
-use Rattle.wires.specs.Wires.{Wired, wireSet, isDelegated}
-use Rattle.wired.specs.Wired.{writtenIn}
+use Rattle.domain_writes.specs.Writes.{wordChanged, numberChanged, targetWritten}
+use Rattle.domain_config.specs.Config.{configWritten}
+use Rattle.wired_state.specs.Wires.{Wired, wireSet, isDelegated}
+use Rattle.wired_registers.specs.Wired.{writtenIn}
 use Rattle.claims.specs.Rules.{Sound, TargetStored}
 
 -- a write of v to word k of a family changes the sources whose bits are set, and a number that source alone

@@ -4,7 +4,7 @@ use mathlib.Core.Path.{_≡_, ap, _∙_}
 use mathlib.Core.List.{List}
 use native.Mathlib.Omega.{arith}
 use lib.ListN.{getD, set}
-use Rattle.delivery.specs.declared.Delivery.{Delivery}
+use Rattle.domain_delivery.specs.declared.Delivery.{Delivery}
 use Rattle.domain.specs.Domain.{Domain, domainOf, withDeliveries}
 use Rattle.domain.specs.Structure.{structureAt, withStructure}
 use Rattle.domain.proofs.DomainLaws.{store-delivery, read-delivery}

@@ -5,7 +5,7 @@
 use Prim.Native.Nat.{ℕ, _+_, _*_}
 use lib.ListN.{getD, set}
 use Rattle.sizes.specs.Sizes.{structureSize}
-use Rattle.delivery.specs.declared.Delivery.{Delivery}
+use Rattle.domain_delivery.specs.declared.Delivery.{Delivery}
 use Rattle.domain.specs.Domain.{Domain, withDeliveries}
 
 unfoldable pub structureAt : Domain → ℕ → Delivery

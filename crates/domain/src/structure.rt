@@ -5,7 +5,7 @@ ghost use lib.ListN.{length};
 ghost use Rattle.sizes.specs.Sizes.{hartCount, domainSize};
 ghost use Rattle.domain.specs.Domain.{domainOf};
 ghost use Rattle.domain.specs.Structure.{structureAt, withStructure};
-use delivery::Delivery;
+use domain_delivery::Delivery;
 use sizes::STRUCTURE_SIZE;
 use sizes::STRUCTURES_PLACE;
 

@@ -7,7 +7,7 @@ use lib.ListN.{length-set}
 use lib.Seq.{getD-set-same, getD-set-other}
 use Rattle.words.specs.Bits.{hasBit}
 use Rattle.source.specs.declared.Source.{Source}
-use Rattle.delivery.specs.declared.Delivery.{Delivery}
+use Rattle.domain_delivery.specs.declared.Delivery.{Delivery}
 use Rattle.domain.specs.Domain.{Domain, configOf, isEnabled, byMessages, generatedAt, withConfig}
 use Rattle.domain.specs.Domain.{withGenerated}
 use Rattle.domain.specs.Slot.{sourceAt, withSource}

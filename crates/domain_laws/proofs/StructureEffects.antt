@@ -7,7 +7,7 @@ use mathlib.Core.Logic.{_≢_}
 use native.Mathlib.Omega.{arith}
 use lib.ListN.{length, getD, set, length-set}
 use lib.Seq.{getD-set-same, getD-set-other}
-use Rattle.delivery.specs.declared.Delivery.{Delivery}
+use Rattle.domain_delivery.specs.declared.Delivery.{Delivery}
 use Rattle.domain.specs.Domain.{Domain}
 use Rattle.domain.specs.Slot.{sourceAt}
 use Rattle.domain.specs.Structure.{structureAt, withStructure}

@@ -2,10 +2,10 @@
 use Prim.Native.Nat.{ℕ}
 use mathlib.Core.Path.{_≡_, sym, ap₂, _∙_}
 use mathlib.Core.Bool.{Bool, true, false}
-use Rattle.select.specs.declared.Register.{Register}
-use Rattle.select.specs.declared.Register.the-variants.{Delivery}
-use Rattle.select.specs.Select.{selectLegal, registerOf}
-use Rattle.select.specs.Deliveries.{deliveryLegal}
+use Rattle.file_select.specs.declared.Register.{Register}
+use Rattle.file_select.specs.declared.Register.the-variants.{Delivery}
+use Rattle.file_select.specs.Select.{selectLegal, registerOf}
+use Rattle.file_select.specs.Deliveries.{deliveryLegal}
 use Rattle.file.specs.declared.File.{File}
 use Rattle.file.specs.declared.register.Access.{Access}
 use Rattle.file.specs.declared.register.Reply.the-variants.{Illegal}

@@ -4,7 +4,7 @@ use mathlib.Core.Path.{_≡_}
 use mathlib.Core.Bool.{Bool, true, false, not, and-false}
 use borrow.Author.Tests.{le-leb, lt-leb}
 use Rattle.words.specs.Sets.{member}
-use Rattle.select.specs.Deliveries.{deliveryLegal}
+use Rattle.file_select.specs.Deliveries.{deliveryLegal}
 use Rattle.file.specs.declared.File.{File}
 use Rattle.file.specs.Rules.{deliveryRule, thresholdRule, zeroRule, fileSound}
 

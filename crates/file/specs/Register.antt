@@ -7,11 +7,11 @@
 use Prim.Native.Nat.{ℕ, _+_, _%_}
 use mathlib.Core.Bool.{Bool, cond}
 use Rattle.words.specs.Bits.{union, without}
-use Rattle.select.specs.declared.Register.{Register}
-use Rattle.select.specs.declared.Register.the-variants.{Delivery, Threshold, Pending, Enable, Unused}
-use Rattle.select.specs.Select.{selectLegal, registerOf}
-use Rattle.select.specs.Halves.{doubleword, putDoubleword}
-use Rattle.select.specs.Deliveries.{deliveryLegal}
+use Rattle.file_select.specs.declared.Register.{Register}
+use Rattle.file_select.specs.declared.Register.the-variants.{Delivery, Threshold, Pending, Enable, Unused}
+use Rattle.file_select.specs.Select.{selectLegal, registerOf}
+use Rattle.file_select.specs.Halves.{doubleword, putDoubleword}
+use Rattle.file_select.specs.Deliveries.{deliveryLegal}
 use Rattle.file.specs.declared.File.{File}
 use Rattle.file.specs.declared.register.Access.{Access}
 use Rattle.file.specs.declared.register.Access.the-variants.{Read, Write, Set, Clear}

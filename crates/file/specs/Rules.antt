@@ -7,7 +7,7 @@ use Prim.Native.Nat.{ℕ}
 use mathlib.Core.Bool.{Bool, not, _&&_}
 use lib.Dec.{leb}
 use Rattle.words.specs.Sets.{member}
-use Rattle.select.specs.Deliveries.{deliveryLegal}
+use Rattle.file_select.specs.Deliveries.{deliveryLegal}
 use Rattle.file.specs.declared.File.{File}
 
 unfoldable pub deliveryRule : Bool → File → Bool

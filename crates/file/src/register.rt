@@ -3,12 +3,12 @@ ghost use mathlib.Core.Path.{_≡_};
 ghost use Rattle.file.specs.Register.{held, written, accessed};
 ghost use Rattle.sizes.specs.Sizes.{identities};
 use super::File;
-use select::Register;
-use select::delivery_legal;
-use select::doubleword;
-use select::put_doubleword;
-use select::register_of;
-use select::select_legal;
+use file_select::Register;
+use file_select::delivery_legal;
+use file_select::doubleword;
+use file_select::put_doubleword;
+use file_select::register_of;
+use file_select::select_legal;
 
 pub enum Access {
     Read,

@@ -3,7 +3,7 @@ ghost use mathlib.Core.Path.{_≡_};
 ghost use Rattle.file.specs.Rules.{fileSound};
 ghost use Rattle.sizes.specs.Sizes.{identities};
 use super::File;
-use select::delivery_legal;
+use file_select::delivery_legal;
 use sizes::IDENTITIES;
 
 impl File {

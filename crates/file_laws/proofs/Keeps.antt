@@ -19,13 +19,13 @@ use Rattle.words.proofs.BitsLaws.{withoutBit-le, union-lt, without-le}
 use Rattle.words.proofs.SetsLaws.{set-fit, length-insert, length-remove, insert-fit, remove-fit}
 use Rattle.words.proofs.SetsLaws.{member-insert-other, member-remove-other}
 use Rattle.words.proofs.TestsLaws.{tested, and-first, and-second}
-use Rattle.select.specs.declared.Register.{Register}
-use Rattle.select.specs.declared.Register.the-variants.{Delivery, Threshold, Pending, Enable, Unused}
-use Rattle.select.specs.Select.{selectLegal, registerOf}
-use Rattle.select.specs.Halves.{doubleword, putHalves, putDoubleword}
-use Rattle.select.specs.Deliveries.{deliveryLegal}
-use Rattle.select.proofs.HalvesLaws.{put-past}
-use Rattle.select.proofs.DeliveriesLaws.{legal-lt}
+use Rattle.file_select.specs.declared.Register.{Register}
+use Rattle.file_select.specs.declared.Register.the-variants.{Delivery, Threshold, Pending, Enable, Unused}
+use Rattle.file_select.specs.Select.{selectLegal, registerOf}
+use Rattle.file_select.specs.Halves.{doubleword, putHalves, putDoubleword}
+use Rattle.file_select.specs.Deliveries.{deliveryLegal}
+use Rattle.file_select.proofs.HalvesLaws.{put-past}
+use Rattle.file_select.proofs.DeliveriesLaws.{legal-lt}
 use Rattle.file.specs.declared.File.{File}
 use Rattle.file.specs.declared.register.Access.{Access}
 use Rattle.file.specs.declared.register.Access.the-variants.{Read, Write, Set, Clear}

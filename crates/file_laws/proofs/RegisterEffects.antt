@@ -16,9 +16,9 @@ use Rattle.words.specs.Parts.{low, high, joined}
 use Rattle.words.specs.Sets.{member}
 use Rattle.words.proofs.BitsLaws.{hasBit-withoutBit-same, hasBit-withoutBit-other}
 use Rattle.words.proofs.PartsLaws.{joined-back, hasBit-low, hasBit-high}
-use Rattle.select.specs.declared.Register.the-variants.{Delivery, Threshold, Pending, Enable}
-use Rattle.select.specs.Halves.{doubleword, putHalves, putDoubleword}
-use Rattle.select.specs.Deliveries.{deliveryLegal}
+use Rattle.file_select.specs.declared.Register.the-variants.{Delivery, Threshold, Pending, Enable}
+use Rattle.file_select.specs.Halves.{doubleword, putHalves, putDoubleword}
+use Rattle.file_select.specs.Deliveries.{deliveryLegal}
 use Rattle.file.specs.declared.File.{File}
 use Rattle.file.specs.Register.{held, written}
 use Rattle.file.proofs.RegisterLaws.{written-legal, written-illegal}

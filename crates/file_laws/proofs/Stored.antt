@@ -16,7 +16,7 @@ use lib.Seq.{ext-getD, drop-cons, drop-drop, take-add}
 use Rattle.words.specs.Sets.{WordsFit}
 use Rattle.file.specs.declared.File.{File}
 use Rattle.file.specs.Shape.{Shaped}
-use Rattle.stored.specs.Stored.{fileWords, fileAt, putFile}
+use Rattle.file_words.specs.Stored.{fileWords, fileAt, putFile}
 
 -- ---- a run of stores, read at a place
 

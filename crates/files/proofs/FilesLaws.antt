@@ -16,7 +16,7 @@ use Rattle.file.specs.declared.File.{File}
 use Rattle.file.specs.Page.{arrived}
 use Rattle.file.specs.Rules.{fileSound}
 use Rattle.file_laws.proofs.Stored.{Long, long-back, long-apart}
-use Rattle.stored.specs.Stored.{fileAt, putFile}
+use Rattle.file_words.specs.Stored.{fileAt, putFile}
 use Rattle.files.specs.Files.{fileNumber, isGuest, zeroFile, filesFrom, filesOf, theFile, withFile}
 use Rattle.files.specs.Files.{namedBy, reached, allReached, Named, soundAt}
 

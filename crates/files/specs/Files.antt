@@ -25,7 +25,7 @@ use Rattle.file_message.specs.Message.{hartIn, fileIn, identityIn}
 use Rattle.file.specs.declared.File.{File}
 use Rattle.file.specs.Page.{arrived}
 use Rattle.file.specs.Rules.{fileSound}
-use Rattle.stored.specs.Stored.{fileWords, fileAt}
+use Rattle.file_words.specs.Stored.{fileWords, fileAt}
 
 unfoldable pub fileNumber : ℕ → ℕ → ℕ
 fileNumber h f = hartFiles * h + f

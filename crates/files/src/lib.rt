@@ -18,14 +18,14 @@ pub fn load(files: &[u32], k: usize) -> File
     requires { ⌜ (length (now files) ≡ filesSize) × (k < fileCount) ⌝ }
     ensures { λ r. ⌜ r ≡ theFile (filesOf (now (files .entry))) k ⌝ }
 {
-    stored::load(files, FILE_SIZE * k)
+    file_words::load(files, FILE_SIZE * k)
 }
 
 pub fn store(files: &mut [u32], k: usize, f: File)
     requires { ⌜ (length (now files) ≡ filesSize) × (k < fileCount) ⌝ }
     ensures { λ r. ⌜ filesOf (now (files .exit)) ≡ withFile (filesOf (now (files .entry))) k f ⌝ }
 {
-    stored::store(files, FILE_SIZE * k, f);
+    file_words::store(files, FILE_SIZE * k, f);
 }
 
 fn file_sound(files: &[u32], k: usize) -> bool

@@ -9,7 +9,7 @@ use lib.ListN.{length, getD, take, drop}
 use lib.Seq.{take-all, take-add, drop-drop, take-at, drop-at, getD-append-add, drop-append-add}
 use Rattle.file.specs.declared.File.{File}
 use Rattle.file_laws.proofs.Stored.{Long, file-path, words-long, words-loaded}
-use Rattle.stored.specs.Stored.{fileWords, fileAt}
+use Rattle.file_words.specs.Stored.{fileWords, fileAt}
 use Rattle.files.specs.Files.{filesFrom, filesOf, wordsOf, theFile}
 use Rattle.files.proofs.FilesLaws.{length-filesOf, theFile-filesOf, files-same}
 

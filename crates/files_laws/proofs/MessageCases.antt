@@ -7,7 +7,7 @@ use Rattle.words.specs.Bits.{bitOf, withBit}
 use Rattle.words.specs.Sets.{insert}
 use Rattle.file_message.specs.Message.{hartIn, fileIn, identityIn}
 use Rattle.file.specs.Page.{arrived}
-use Rattle.stored.specs.Stored.{fileWords, fileAt}
+use Rattle.file_words.specs.Stored.{fileWords, fileAt}
 use Rattle.files.specs.Files.{fileNumber, filesFrom, filesOf, wordsOf, theFile, withFile, zeroFile}
 use Rattle.files.specs.Files.{namedBy, reached, allReached}
 

@@ -1,20 +1,20 @@
 // The functions that a monitor in C calls, each thin over one call of the board. C gives a slice as two
 // arguments, the pointer and the number of words; include/varskumo.h has the prototypes.
 ghost use mathlib.Core.Path.{_≡_};
-ghost use Rattle.call.specs.declared.Call.the-variants as the;
-ghost use Rattle.call.specs.Outcome.{outcome};
-ghost use Rattle.answer.specs.Told.{Told, Tells};
-use answer::VskAnswer;
-use answer::numbers;
+ghost use Rattle.board_call.specs.declared.Call.the-variants as the;
+ghost use Rattle.board_call.specs.Outcome.{outcome};
+ghost use Rattle.monitor_answer.specs.Told.{Told, Tells};
+use board_move_calls::make_access;
+use monitor_answer::VskAnswer;
+use monitor_answer::numbers;
 use sizes::RECORD_SIZE;
-use transfer::make_access;
 
 #[no_mangle]
 pub extern "C" fn vsk_reset(state: &mut [u32], log: &mut [u32]) -> VskAnswer
     ensures { λ r. ⌜ Tells the.Reset (now (state .entry)) (now (log .entry)) r
         (now (state .exit)) (now (log .exit)) ⌝ }
 {
-    numbers(hart_calls::reset(state, log))
+    numbers(board_hart_calls::reset(state, log))
 }
 
 #[no_mangle]
@@ -22,7 +22,7 @@ pub extern "C" fn vsk_wire(state: &mut [u32], log: &mut [u32], wire: u64, level:
     ensures { λ r. ⌜ Tells (the.Wire wire level) (now (state .entry)) (now (log .entry)) r
         (now (state .exit)) (now (log .exit)) ⌝ }
 {
-    numbers(wired_calls::wire(state, log, wire, level))
+    numbers(board_wired_calls::wire(state, log, wire, level))
 }
 
 #[no_mangle]
@@ -35,7 +35,7 @@ pub extern "C" fn vsk_domain_read(
     ensures { λ r. ⌜ Tells (the.DomainRead domain address) (now (state .entry)) (now (log .entry)) r
         (now (state .exit)) (now (log .exit)) ⌝ }
 {
-    numbers(wired_calls::domain_read(state, log, domain, address))
+    numbers(board_wired_calls::domain_read(state, log, domain, address))
 }
 
 #[no_mangle]
@@ -49,7 +49,7 @@ pub extern "C" fn vsk_domain_write(
     ensures { λ r. ⌜ Tells (the.DomainWrite domain address value) (now (state .entry)) (now (log .entry)) r
         (now (state .exit)) (now (log .exit)) ⌝ }
 {
-    numbers(wired_calls::domain_write(state, log, domain, address, value))
+    numbers(board_wired_calls::domain_write(state, log, domain, address, value))
 }
 
 #[no_mangle]
@@ -63,7 +63,7 @@ pub extern "C" fn vsk_page_read(
     ensures { λ r. ⌜ Tells (the.PageRead hart file address) (now (state .entry)) (now (log .entry)) r
         (now (state .exit)) (now (log .exit)) ⌝ }
 {
-    numbers(file_calls::page_read(state, log, hart, file, address))
+    numbers(board_file_calls::page_read(state, log, hart, file, address))
 }
 
 #[no_mangle]
@@ -78,7 +78,7 @@ pub extern "C" fn vsk_page_write(
     ensures { λ r. ⌜ Tells (the.PageWrite hart file address value) (now (state .entry)) (now (log .entry)) r
         (now (state .exit)) (now (log .exit)) ⌝ }
 {
-    numbers(file_calls::page_write(state, log, hart, file, address, value))
+    numbers(board_file_calls::page_write(state, log, hart, file, address, value))
 }
 
 #[no_mangle]
@@ -94,7 +94,7 @@ pub extern "C" fn vsk_register(
     ensures { λ r. ⌜ Tells (the.Register hart file kind select value)
         (now (state .entry)) (now (log .entry)) r (now (state .exit)) (now (log .exit)) ⌝ }
 {
-    numbers(file_calls::register(state, log, hart, file, kind, select, value))
+    numbers(board_file_calls::register(state, log, hart, file, kind, select, value))
 }
 
 #[no_mangle]
@@ -102,7 +102,7 @@ pub extern "C" fn vsk_top(state: &mut [u32], log: &mut [u32], hart: u64, file: u
     ensures { λ r. ⌜ Tells (the.Top hart file) (now (state .entry)) (now (log .entry)) r
         (now (state .exit)) (now (log .exit)) ⌝ }
 {
-    numbers(file_calls::top(state, log, hart, file))
+    numbers(board_file_calls::top(state, log, hart, file))
 }
 
 #[no_mangle]
@@ -110,7 +110,7 @@ pub extern "C" fn vsk_claim(state: &mut [u32], log: &mut [u32], hart: u64, file:
     ensures { λ r. ⌜ Tells (the.Claim hart file) (now (state .entry)) (now (log .entry)) r
         (now (state .exit)) (now (log .exit)) ⌝ }
 {
-    numbers(file_calls::claim(state, log, hart, file))
+    numbers(board_file_calls::claim(state, log, hart, file))
 }
 
 #[no_mangle]
@@ -118,7 +118,7 @@ pub extern "C" fn vsk_signals(state: &mut [u32], log: &mut [u32], hart: u64) -> 
     ensures { λ r. ⌜ Tells (the.Signals hart) (now (state .entry)) (now (log .entry)) r
         (now (state .exit)) (now (log .exit)) ⌝ }
 {
-    numbers(hart_calls::signals(state, log, hart))
+    numbers(board_hart_calls::signals(state, log, hart))
 }
 
 // C gives the record as a pointer to ten numbers, the same one at each access of a move.

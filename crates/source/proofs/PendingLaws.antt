@@ -3,8 +3,8 @@ use Prim.Native.Nat.{ℕ}
 use mathlib.Core.Path.{_≡_}
 use mathlib.Core.Bool.{Bool, true, false, not, _&&_, _||_, or-false}
 use Rattle.source.specs.declared.Source.{Source}
-use Rattle.mode.specs.Mode.{isActive, isLevel, isRectified}
-use Rattle.target.specs.Target.{startTarget, keptTarget}
+use Rattle.source_mode.specs.Mode.{isActive, isLevel, isRectified}
+use Rattle.source_target.specs.Target.{startTarget, keptTarget}
 use Rattle.source.specs.Pending.{withPending, withEnabled, withTarget, withMode, inactive, fresh}
 use Rattle.source.specs.Pending.{settled, pended, cleared, switched, moded, redelivered, retargeted}
 

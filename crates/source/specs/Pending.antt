@@ -15,8 +15,8 @@ use mathlib.Core.Bool.{Bool, true, false, cond, not, _&&_, _||_}
 use Rattle.source.specs.declared.Source.{Source}
 use Rattle.source.specs.declared.Change.{Change}
 use Rattle.source.specs.declared.Change.the-variants.{Pend, Clear, Enable, Disable}
-use Rattle.mode.specs.Mode.{isActive, isLevel, isRectified}
-use Rattle.target.specs.Target.{startTarget, keptTarget}
+use Rattle.source_mode.specs.Mode.{isActive, isLevel, isRectified}
+use Rattle.source_target.specs.Target.{startTarget, keptTarget}
 
 abbrev pub withPending : Source → Bool → Source
 withPending s p = record { mode = s .mode; target = s .target; pending = p; enabled = s .enabled }

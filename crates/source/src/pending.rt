@@ -4,11 +4,11 @@ ghost use Rattle.source.specs.Pending.{settled, wireChanged, pended, cle
 ghost use Rattle.source.specs.Pending.{changed, moded, redelivered, retargeted};
 use super::Change;
 use super::Source;
-use mode::active;
-use mode::level;
-use mode::rectified;
-use target::kept_target;
-use target::start_target;
+use source_mode::active;
+use source_mode::level;
+use source_mode::rectified;
+use source_target::kept_target;
+use source_target::start_target;
 
 impl Source {
     // The pending bit after the rectified value rose, or did not, and now is `high`.

@@ -2,7 +2,7 @@
 -- nothing risen, settling it again changes nothing. No contract cites this file. Assumes nothing.
 use mathlib.Core.Path.{_≡_, refl, sym, ap}
 use mathlib.Core.Bool.{Bool, true, false, cond, not, _&&_, _||_, or-true, or-false}
-use Rattle.mode.specs.Mode.{isLevel, isRectified}
+use Rattle.source_mode.specs.Mode.{isLevel, isRectified}
 use Rattle.source.specs.declared.Source.{Source}
 use Rattle.source.specs.Pending.{withPending, settled, cleared}
 use Rattle.source_rules.specs.SourceRules.{levelRule}

@@ -11,7 +11,7 @@ use Rattle.words.specs.Bits.{bitOf, hasBit}
 use Rattle.words.specs.Parts.{fieldOf}
 use Rattle.words.proofs.PartsLaws.{fieldOf-lt}
 use Rattle.words.proofs.TestsLaws.{tested, not-same}
-use Rattle.mode.specs.Mode.{isActive, isLevel, isRectified, keptMode, sourceWord}
+use Rattle.source_mode.specs.Mode.{isActive, isLevel, isRectified, keptMode, sourceWord}
 
 -- ---- the words that a write stores: six modes, and 1024 in the machine domain
 

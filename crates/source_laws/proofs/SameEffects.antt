@@ -3,7 +3,7 @@
 use mathlib.Core.Path.{_≡_, sym, ap, _∙_}
 use mathlib.Core.Bool.{Bool, true, false, or-false, not-and-self}
 use Rattle.words.proofs.TestsLaws.{tested}
-use Rattle.mode.specs.Mode.{isActive}
+use Rattle.source_mode.specs.Mode.{isActive}
 use Rattle.source.specs.declared.Source.{Source}
 use Rattle.source.specs.Pending.{withPending, settled, wireChanged, cleared, moded}
 use Rattle.source.proofs.PendingLaws.{cleared-other, moded-inactive, moded-kept}

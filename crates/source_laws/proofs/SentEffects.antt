@@ -3,8 +3,8 @@ use Prim.Native.Nat.{ℕ}
 use mathlib.Core.Path.{_≡_, refl}
 use mathlib.Core.Bool.{Bool, true, false, not, _&&_, and-false}
 use Rattle.words.proofs.TestsLaws.{tested}
-use Rattle.mode.specs.Mode.{isActive, isLevel}
-use Rattle.mode.proofs.ModeLaws.{active-zero}
+use Rattle.source_mode.specs.Mode.{isActive, isLevel}
+use Rattle.source_mode.proofs.ModeLaws.{active-zero}
 use Rattle.source.specs.declared.Source.{Source}
 use Rattle.source.specs.Pending.{inactive, cleared, switched, retargeted}
 use Rattle.source.proofs.PendingLaws.{switched-active, switched-inactive, retargeted-active}

@@ -4,8 +4,8 @@ use Prim.Native.Nat.{ℕ}
 use mathlib.Core.Path.{_≡_, sym}
 use mathlib.Core.Bool.{Bool, true, false, and-false}
 use Rattle.words.proofs.TestsLaws.{tested}
-use Rattle.mode.specs.Mode.{isActive, isRectified, sourceWord}
-use Rattle.target.specs.Target.{startTarget, keptTarget}
+use Rattle.source_mode.specs.Mode.{isActive, isRectified, sourceWord}
+use Rattle.source_target.specs.Target.{startTarget, keptTarget}
 use Rattle.source.specs.declared.Source.{Source}
 use Rattle.source.specs.declared.Change.{Change}
 use Rattle.source.specs.declared.Change.the-variants.{Pend, Clear, Enable, Disable}

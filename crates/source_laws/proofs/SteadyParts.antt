@@ -6,9 +6,9 @@ use mathlib.Core.Bool.{Bool, true, false, not, _&&_}
 use lib.Dec.{eqb}
 use borrow.Author.Tests.{eqb-true, eq-eqb, not-true}
 use Rattle.words.proofs.TestsLaws.{tested, and-first, and-second}
-use Rattle.mode.specs.Mode.{isActive, sourceWord}
-use Rattle.mode.proofs.ModeLaws.{active-zero}
-use Rattle.target.specs.Target.{keptTarget}
+use Rattle.source_mode.specs.Mode.{isActive, sourceWord}
+use Rattle.source_mode.proofs.ModeLaws.{active-zero}
+use Rattle.source_target.specs.Target.{keptTarget}
 use Rattle.source.specs.declared.Source.{Source}
 use Rattle.source.specs.Pending.{inactive}
 use Rattle.source_rules.specs.SourceRules.{modeRange, targetRange, inactiveRule, levelRule, sourceSteady}

@@ -12,8 +12,8 @@
 -- and DM. "Stored numbers lie in the ranges above" is said so: to write the number would store it as it is.
 use mathlib.Core.Bool.{Bool, true, not, _&&_, _||_}
 use lib.Dec.{eqb}
-use Rattle.mode.specs.Mode.{isActive, isLevel, isRectified, sourceWord}
-use Rattle.target.specs.Target.{keptTarget}
+use Rattle.source_mode.specs.Mode.{isActive, isLevel, isRectified, sourceWord}
+use Rattle.source_target.specs.Target.{keptTarget}
 use Rattle.source.specs.declared.Source.{Source}
 
 unfoldable pub modeRange : Bool → Source → Bool

@@ -2,21 +2,21 @@
 ghost use mathlib.Core.Path.{_≡_};
 ghost use Rattle.source_rules.specs.SourceRules.{modeRange, targetRange, inactiveRule, levelRule};
 ghost use Rattle.source_rules.specs.SourceRules.{sentRule, sourceSound};
-use mode::active;
-use mode::level;
-use mode::rectified;
 use source::Source;
+use source_mode::active;
+use source_mode::level;
+use source_mode::rectified;
 
 pub fn mode_range(child: bool, s: Source) -> bool
     ensures { λ r. ⌜ r ≡ modeRange child s ⌝ }
 {
-    s.mode == mode::source_word(child, true, s.mode)
+    s.mode == source_mode::source_word(child, true, s.mode)
 }
 
 pub fn target_range(child: bool, messages: bool, s: Source) -> bool
     ensures { λ r. ⌜ r ≡ targetRange child messages s ⌝ }
 {
-    !active(s.mode) | (s.target == target::kept_target(child, messages, s.target))
+    !active(s.mode) | (s.target == source_target::kept_target(child, messages, s.target))
 }
 
 pub fn inactive_rule(s: Source) -> bool

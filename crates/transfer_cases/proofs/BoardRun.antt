@@ -14,39 +14,39 @@ use borrow.Author.Tests.{eq-eqb, ne-eqb}
 use Rattle.words.specs.Bits.{bitOf, hasBit, withBit, withoutBit, union}
 use Rattle.words.specs.Sets.{member, insert, remove, put}
 use Rattle.words.specs.Parts.{low, high, joined, fieldOf, packed}
-use Rattle.select.specs.Select.{selectLegal, registerOf, registersFrom}
-use Rattle.select.specs.Halves.{doubleword, putHalves, putDoubleword}
-use Rattle.select.specs.Deliveries.{deliveryLegal}
+use Rattle.file_select.specs.Select.{selectLegal, registerOf, registersFrom}
+use Rattle.file_select.specs.Halves.{doubleword, putHalves, putDoubleword}
+use Rattle.file_select.specs.Deliveries.{deliveryLegal}
 use Rattle.file.specs.Page.{arrived, pageWritten}
 use Rattle.file.specs.Register.{held, written, accessedAt, accessed}
 use Rattle.files.specs.Files.{fileNumber, isGuest, theFile, withFile, namedBy, reached, allReached}
-use Rattle.mode.specs.Mode.{isActive, isLevel, isRectified}
+use Rattle.source_mode.specs.Mode.{isActive, isLevel, isRectified}
 use Rattle.file_message.specs.Message.{logWord}
-use Rattle.target.specs.Target.{hartOf, guestOf, numberOf, receiverOf, keptTarget, messageOf}
+use Rattle.source_target.specs.Target.{hartOf, guestOf, numberOf, receiverOf, keptTarget, messageOf}
 use Rattle.file_message.specs.Message.{hartIn, fileIn, identityIn}
 use Rattle.source.specs.Pending as source
 use Rattle.domain.specs.Domain.{configOf, isEnabled, byMessages}
 use Rattle.domain.specs.Slot.{sourceAt, withSource}
-use Rattle.values.specs.Values.{registerValue}
-use Rattle.writes.specs.Writes.{targetWritten}
-use Rattle.registers.specs.Write.{registerWritten}
-use Rattle.wires.specs.Wires.{sourceWired, wireSet, domainIn, withDomain}
-use Rattle.wired.specs.Wired.{writtenAs, writtenIn}
-use Rattle.sending.specs.Sending.{candidate, servedAt, messagesAt, sentFrom, sent}
-use Rattle.controller.specs.Controller.{flushed}
-use Rattle.transfer_steps.specs.Names.{namesFile, renamed}
-use Rattle.transfer_steps.specs.Steps.{actOf}
-use Rattle.call.specs.declared.Call.{Call}
-use Rattle.call.specs.Move.{retargetedIn, Acted, acted}
-use Rattle.call.specs.Change.{change}
-use Rattle.call.specs.Refusal.{isWire, isFile, isGuestFile, isMove, isPageAddress, present, addressed}
-use Rattle.call.specs.Refusal.{selected}
-use Rattle.call.specs.Refusal.{firstFailed, nameTests, nameRefusal}
-use Rattle.call.specs.Outcome.{thenSent, step}
-use Rattle.call_laws.specs.Small.{Small}
-use Rattle.runs.specs.Runs.{Lent, after, ran}
-use Rattle.runs.specs.Ready.{boardIn, Ready, AllSmall}
-use Rattle.runs.proofs.RunsEffects.{after-refused, ready-refusal, after-board, after-saved, ready-after}
+use Rattle.domain_values.specs.Values.{registerValue}
+use Rattle.domain_writes.specs.Writes.{targetWritten}
+use Rattle.domain_registers.specs.Write.{registerWritten}
+use Rattle.wired_state.specs.Wires.{sourceWired, wireSet, domainIn, withDomain}
+use Rattle.wired_registers.specs.Wired.{writtenAs, writtenIn}
+use Rattle.domain_sending.specs.Sending.{candidate, servedAt, messagesAt, sentFrom, sent}
+use Rattle.wired.specs.Controller.{flushed}
+use Rattle.board_move_steps.specs.Names.{namesFile, renamed}
+use Rattle.board_move_steps.specs.Steps.{actOf}
+use Rattle.board_call.specs.declared.Call.{Call}
+use Rattle.board_call.specs.Move.{retargetedIn, Acted, acted}
+use Rattle.board_call.specs.Change.{change}
+use Rattle.board_call.specs.Refusal.{isWire, isFile, isGuestFile, isMove, isPageAddress, present, addressed}
+use Rattle.board_call.specs.Refusal.{selected}
+use Rattle.board_call.specs.Refusal.{firstFailed, nameTests, nameRefusal}
+use Rattle.board_call.specs.Outcome.{thenSent, step}
+use Rattle.board_call_laws.specs.Small.{Small}
+use Rattle.board_runs.specs.Runs.{Lent, after, ran}
+use Rattle.board_runs.specs.Ready.{boardIn, Ready, AllSmall}
+use Rattle.board_runs.proofs.RunsEffects.{after-refused, ready-refusal, after-board, after-saved, ready-after}
 use Rattle.transfer_laws.specs.Shift.{Stations, Event, withMove, withoutMove}
 
 abbrev pub heldBy : Lent → Acted

@@ -6,15 +6,15 @@ use mathlib.Core.List.{List, _++_}
 use native.Mathlib.Omega.{arith}
 use lib.ListN.{getD}
 use Rattle.words.specs.Sets.{member}
-use Rattle.sending.specs.Sending.{logged}
-use Rattle.block.specs.Block.{Board}
-use Rattle.call.specs.Move as call
-use Rattle.call.specs.Outcome.{Stepped, step, Outcome, doneAs}
-use Rattle.call.specs.Refusal.{nameRefusal}
-use Rattle.call_laws.proofs.OutcomeEffects.{outcome-done}
-use Rattle.runs.specs.Runs.{outcomeOn, after}
-use Rattle.runs.specs.Ready.{boardIn, Ready}
-use Rattle.runs.proofs.RunsEffects.{ready-refusal, ready-ran, after-board}
+use Rattle.domain_sending.specs.Sending.{logged}
+use Rattle.board_block.specs.Block.{Board}
+use Rattle.board_call.specs.Move as call
+use Rattle.board_call.specs.Outcome.{Stepped, step, Outcome, doneAs}
+use Rattle.board_call.specs.Refusal.{nameRefusal}
+use Rattle.board_call_laws.proofs.OutcomeEffects.{outcome-done}
+use Rattle.board_runs.specs.Runs.{outcomeOn, after}
+use Rattle.board_runs.specs.Ready.{boardIn, Ready}
+use Rattle.board_runs.proofs.RunsEffects.{ready-refusal, ready-ran, after-board}
 use Rattle.transfer_laws.specs.Shift.{Event, withMove}
 use Rattle.transfer_laws.specs.Premises.{TwoGuests, accessesIn, AllAccesses, PagesKept, Premises}
 use Rattle.transfer_laws.specs.Moved.{oldIn, newIn, MoveKeeps, MoveDone}

@@ -10,14 +10,14 @@ use lib.Dec.{eqb}
 use lib.ListN.{length, replicate}
 use Rattle.words.specs.Sets.{member}
 use Rattle.file.specs.declared.File.{File}
-use Rattle.block.specs.Block.{Board}
-use Rattle.block.specs.Start.{startBoard}
-use Rattle.call.specs.declared.Call.{Call}
-use Rattle.call.specs.Refusal.{testsRules}
-use Rattle.call.proofs.RefusalLaws.{refused-log, refused-blocks}
-use Rattle.runs.specs.Runs.{Lent, ran}
-use Rattle.runs.specs.Ready.{boardIn}
-use Rattle.runs.proofs.RunsEffects.{after-refused}
+use Rattle.board_block.specs.Block.{Board}
+use Rattle.board_block.specs.Start.{startBoard}
+use Rattle.board_call.specs.declared.Call.{Call}
+use Rattle.board_call.specs.Refusal.{testsRules}
+use Rattle.board_call.proofs.RefusalLaws.{refused-log, refused-blocks}
+use Rattle.board_runs.specs.Runs.{Lent, ran}
+use Rattle.board_runs.specs.Ready.{boardIn}
+use Rattle.board_runs.proofs.RunsEffects.{after-refused}
 use Rattle.transfer_laws.specs.Shift.{Stations, Event, withMove, withoutMove}
 use Rattle.transfer_laws.specs.Shift.Event.{wire, page, access}
 use Rattle.transfer_laws.specs.Premises.{ByMessages, NoneNamesNew, accessesIn, AllAccesses, PagesKept}

@@ -20,34 +20,34 @@ use Rattle.words.specs.Parts.{fieldOf, packed}
 use Rattle.words.specs.Every.{every}
 use Rattle.words.proofs.TestsLaws.{and-first, and-second, not-same}
 use Rattle.words.proofs.EveryLaws.{every-each}
-use Rattle.select.specs.Deliveries.{deliveryLegal}
+use Rattle.file_select.specs.Deliveries.{deliveryLegal}
 use Rattle.file.specs.declared.File.{File}
 use Rattle.file.specs.Rules as file
-use Rattle.stored.specs.Stored.{fileWords, fileAt}
+use Rattle.file_words.specs.Stored.{fileWords, fileAt}
 use Rattle.files.specs.Files.{fileNumber, isGuest, filesFrom, filesOf, wordsOf, theFile, withFile, soundAt}
 use Rattle.files.specs.Files.{filesSound}
-use Rattle.mode.specs.Mode.{isActive, isLevel, isRectified, keptMode, sourceWord}
-use Rattle.target.specs.Target.{hartOf, guestOf, numberOf, receiverOf, keptTarget}
-use Rattle.genmsi.specs.Genmsi.{keptGenerated}
-use Rattle.delivery.specs.Delivery.{deliverySound}
+use Rattle.source_mode.specs.Mode.{isActive, isLevel, isRectified, keptMode, sourceWord}
+use Rattle.source_target.specs.Target.{hartOf, guestOf, numberOf, receiverOf, keptTarget}
+use Rattle.domain_genmsi.specs.Genmsi.{keptGenerated}
+use Rattle.domain_delivery.specs.Delivery.{deliverySound}
 use Rattle.domain.specs.Domain.{domainOf, configOf, isEnabled, byMessages, generatedAt}
 use Rattle.domain.specs.Slot.{sourceAt}
 use Rattle.domain.specs.Structure.{structureAt}
-use Rattle.config.specs.Config.{keptConfig}
-use Rattle.wires.specs.Wires.{wiredOf, isDelegated}
+use Rattle.domain_config.specs.Config.{keptConfig}
+use Rattle.wired_state.specs.Wires.{wiredOf, isDelegated}
 use Rattle.source_rules.specs.SourceRules.{modeRange, targetRange, inactiveRule, levelRule, sourceSteady}
 use Rattle.source_rules.specs.SourceRules.{sentRule, sourceSound}
-use Rattle.rules.specs.Rules.{configRange, generatedRange, structureRange, sourceZeroRule, generatedRule}
-use Rattle.rules.specs.Rules.{sourceRule, domainSound, delegatedRule, wiredSound}
-use Rattle.transfer_steps.specs.Names.{namesFile, renamed}
+use Rattle.wired_rules.specs.Rules.{configRange, generatedRange, structureRange, sourceZeroRule, generatedRule}
+use Rattle.wired_rules.specs.Rules.{sourceRule, domainSound, delegatedRule, wiredSound}
+use Rattle.board_move_steps.specs.Names.{namesFile, renamed}
 use Rattle.sizes.specs.Sizes.{recordSize}
-use Rattle.block.specs.Block.{Board, boardOf, domainWords, wiredWords, blockOf, boardSound}
-use Rattle.block.specs.Start.{startFile, startFilesFrom, startDomain, startBoard}
-use Rattle.call.specs.declared.Call.{Call}
-use Rattle.call.specs.Move as call
-use Rattle.call_laws.proofs.FitEffects.{fit-block}
-use Rattle.runs.specs.Runs.{Lent, ran}
-use Rattle.runs.specs.Ready.{boardIn, Ready, AllSmall}
+use Rattle.board_block.specs.Block.{Board, boardOf, domainWords, wiredWords, blockOf, boardSound}
+use Rattle.board_block.specs.Start.{startFile, startFilesFrom, startDomain, startBoard}
+use Rattle.board_call.specs.declared.Call.{Call}
+use Rattle.board_call.specs.Move as call
+use Rattle.board_call_laws.proofs.FitEffects.{fit-block}
+use Rattle.board_runs.specs.Runs.{Lent, ran}
+use Rattle.board_runs.specs.Ready.{boardIn, Ready, AllSmall}
 use Rattle.transfer_laws.specs.Shift.{Stations, Event, withMove, withoutMove}
 use Rattle.transfer_laws.specs.Premises.{Started, ByMessages, NoneNamesNew}
 use Rattle.transfer_laws.specs.Moved.{oldIn, newIn, Moved}

@@ -12,12 +12,12 @@ use lib.ListN.{replicate}
 use Rattle.file.specs.declared.File.{File}
 use Rattle.files.specs.Files.{withFile}
 use Rattle.domain.specs.Domain.{Domain}
-use Rattle.wires.specs.Wires.{Wired}
-use Rattle.transfer_steps.specs.Names.{renamed}
+use Rattle.wired_state.specs.Wires.{Wired}
+use Rattle.board_move_steps.specs.Names.{renamed}
 use Rattle.sizes.specs.Sizes.{recordSize}
-use Rattle.block.specs.Block.{Board, blockOf}
-use Rattle.block.specs.Start.{startBoard}
-use Rattle.runs.specs.Runs.{Lent}
+use Rattle.board_block.specs.Block.{Board, blockOf}
+use Rattle.board_block.specs.Start.{startBoard}
+use Rattle.board_runs.specs.Runs.{Lent}
 use Rattle.transfer_laws.specs.Shift.{Stations}
 use Rattle.transfer_laws.specs.Moved.{oldNumber}
 

@@ -17,10 +17,10 @@ use lib.ListN.{getD, replicate}
 use Rattle.words.specs.Sets.{member}
 use Rattle.file.specs.declared.File.{File}
 use Rattle.file_message.specs.Message.{logWord}
-use Rattle.call.specs.declared.Call.{Call}
-use Rattle.call.specs.declared.Call.the-variants.{Wire}
-use Rattle.runs.specs.Runs.{Lent, outcomeOn, after, ran}
-use Rattle.runs.specs.Ready.{boardIn}
+use Rattle.board_call.specs.declared.Call.{Call}
+use Rattle.board_call.specs.declared.Call.the-variants.{Wire}
+use Rattle.board_runs.specs.Runs.{Lent, outcomeOn, after, ran}
+use Rattle.board_runs.specs.Ready.{boardIn}
 use Rattle.transfer_laws.specs.Shift.{Event, withMove, withoutMove}
 use Rattle.transfer_laws.specs.Shift.Event.{wire, page, access}
 use Rattle.transfer_laws.specs.Premises.{Premises}

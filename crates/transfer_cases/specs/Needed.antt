@@ -16,11 +16,11 @@ use mathlib.Core.List.{List, [], _∷_}
 use lib.ListN.{length}
 use Rattle.words.specs.Sets.{WordsFit}
 use Rattle.sizes.specs.Sizes.{recordSize}
-use Rattle.block.specs.Block.{boardSound}
-use Rattle.call.specs.Refusal.{isFile, isGuestFile}
-use Rattle.call_laws.specs.Fit.{SavedFit}
-use Rattle.runs.specs.Runs.{Lent, ran}
-use Rattle.runs.specs.Ready.{boardIn}
+use Rattle.board_block.specs.Block.{boardSound}
+use Rattle.board_call.specs.Refusal.{isFile, isGuestFile}
+use Rattle.board_call_laws.specs.Fit.{SavedFit}
+use Rattle.board_runs.specs.Runs.{Lent, ran}
+use Rattle.board_runs.specs.Ready.{boardIn}
 use Rattle.transfer_laws.specs.Shift.{Stations, Event, isOld, isNew, withMove, withoutMove}
 use Rattle.transfer_laws.specs.Premises.{Started, TwoGuests, ByMessages, NoneNamesNew, accessesIn}
 use Rattle.transfer_laws.specs.Premises.{AllAccesses, PagesKept}

@@ -17,16 +17,16 @@ use Rattle.file.specs.Reply.{replyValue}
 use Rattle.file.specs.Register.{accessed}
 use Rattle.files.specs.Files.{fileNumber, isGuest, theFile, withFile}
 use Rattle.files.proofs.FilesLaws.{theFile-withFile-same, theFile-withFile-other}
-use Rattle.transfer_steps.specs.declared.Act.{Act}
-use Rattle.transfer_steps.specs.declared.Act.the-variants.{Save, Zero, Target, Put}
-use Rattle.transfer_files.proofs.TableLaws.{isTarget}
-use Rattle.transfer_files.specs.Related.{Three, guestAccess, actedOn}
-use Rattle.block.specs.Block.{Board}
-use Rattle.call.specs.Move.{registerOn, retargetedIn, Acted, acted}
-use Rattle.call.specs.Refusal.{isGuestFile}
-use Rattle.call_laws.proofs.FileCallEffects.{guest-file}
-use Rattle.call_laws.proofs.MoveCallEffects.{guest-there}
-use Rattle.call_laws.proofs.MoveEffects.{guest-low, guest-number}
+use Rattle.board_move_steps.specs.declared.Act.{Act}
+use Rattle.board_move_steps.specs.declared.Act.the-variants.{Save, Zero, Target, Put}
+use Rattle.board_move_files_laws.proofs.TableLaws.{isTarget}
+use Rattle.board_move_files_laws.specs.Related.{Three, guestAccess, actedOn}
+use Rattle.board_block.specs.Block.{Board}
+use Rattle.board_call.specs.Move.{registerOn, retargetedIn, Acted, acted}
+use Rattle.board_call.specs.Refusal.{isGuestFile}
+use Rattle.board_call_laws.proofs.FileCallEffects.{guest-file}
+use Rattle.board_call_laws.proofs.MoveCallEffects.{guest-there}
+use Rattle.board_call_laws.proofs.MoveEffects.{guest-low, guest-number}
 use Rattle.transfer_laws.proofs.ArrivalEffects.{three}
 
 three-path : {x y : Three} → x .old ≡ y .old → x .new ≡ y .new → x .numbers ≡ y .numbers → x ≡ y

@@ -9,7 +9,7 @@ use native.Mathlib.Decide.{ℕ-discrete}
 use native.Mathlib.Omega.{arith}
 use lib.Dec.{ltb}
 use Rattle.sizes.specs.Sizes.{identities}
-use Rattle.select.specs.Select.{selectLegal}
+use Rattle.file_select.specs.Select.{selectLegal}
 use Rattle.file.specs.declared.File.{File}
 use Rattle.file.specs.Reply.{replyValue}
 use Rattle.file.specs.Page.{pageWritten, pageRead}
@@ -18,29 +18,29 @@ use Rattle.file.specs.Top.{topOf, claimed, signals}
 use Rattle.files.specs.Files.{fileNumber, theFile}
 use Rattle.files.proofs.FilesLaws.{theFile-withFile-same}
 use Rattle.files_laws.proofs.ReachedEffects.{withFile-theFile}
-use Rattle.block.specs.Block.{Board}
-use Rattle.call.specs.declared.Call.{Call}
-use Rattle.call.specs.Change.{kindOf}
-use Rattle.call.specs.Outcome.{Stepped, step, doneAs}
-use Rattle.call.specs.Refusal.{isPageAddress, isGuestFile, present, addressed, selected, firstFailed}
-use Rattle.call.specs.Refusal.{nameTests, nameRefusal}
-use Rattle.call_laws.specs.Fit.{Fit}
-use Rattle.call_laws.specs.Small.{Small}
-use Rattle.call_laws.proofs.CallTests.{quiet}
-use Rattle.call_laws.proofs.FileCallEffects.{onlyFile, step-pageRead, step-pageWrite, step-register, step-top}
-use Rattle.call_laws.proofs.FileCallEffects.{step-claim}
-use Rattle.call_laws.proofs.HartCallEffects.{signal-bit, signal-guest-own}
-use Rattle.call_laws.proofs.MoveEffects.{guest-low, guest-high, guest-number}
-use Rattle.call_laws.proofs.OutcomeEffects.{outcome-refused, outcome-done}
-use Rattle.runs.specs.Runs.{Lent, outcomeOn, after, ran, outcomesOf}
-use Rattle.runs.specs.Ready.{boardIn, Ready}
-use Rattle.runs.proofs.RunsEffects.{after-refused, ready-refusal, after-board, ready-after}
+use Rattle.board_block.specs.Block.{Board}
+use Rattle.board_call.specs.declared.Call.{Call}
+use Rattle.board_call.specs.Change.{kindOf}
+use Rattle.board_call.specs.Outcome.{Stepped, step, doneAs}
+use Rattle.board_call.specs.Refusal.{isPageAddress, isGuestFile, present, addressed, selected, firstFailed}
+use Rattle.board_call.specs.Refusal.{nameTests, nameRefusal}
+use Rattle.board_call_laws.specs.Fit.{Fit}
+use Rattle.board_call_laws.specs.Small.{Small}
+use Rattle.board_call_laws.proofs.CallTests.{quiet}
+use Rattle.board_call_laws.proofs.FileCallEffects.{onlyFile, step-pageRead, step-pageWrite, step-register, step-top}
+use Rattle.board_call_laws.proofs.FileCallEffects.{step-claim}
+use Rattle.board_call_laws.proofs.HartCallEffects.{signal-bit, signal-guest-own}
+use Rattle.board_call_laws.proofs.MoveEffects.{guest-low, guest-high, guest-number}
+use Rattle.board_call_laws.proofs.OutcomeEffects.{outcome-refused, outcome-done}
+use Rattle.board_runs.specs.Runs.{Lent, outcomeOn, after, ran, outcomesOf}
+use Rattle.board_runs.specs.Ready.{boardIn, Ready}
+use Rattle.board_runs.proofs.RunsEffects.{after-refused, ready-refusal, after-board, ready-after}
 use Rattle.transfer_laws.specs.Shift.{Stations}
 use Rattle.transfer_laws.specs.Premises.{TwoGuests}
 use Rattle.transfer_laws.specs.Moved.{oldIn, newIn}
 use Rattle.transfer_laws.specs.After.{FileCall, callOn, Said, saidOf, GoesOn, SmallCalls}
 use Rattle.transfer_laws.specs.After.{SameSignal}
-use Rattle.call_laws.proofs.MoveCallEffects.{guest-there}
+use Rattle.board_call_laws.proofs.MoveCallEffects.{guest-there}
 use Rattle.transfer_laws.proofs.ActedEffects.{guest-is}
 
 -- ---- one call on a guest's file

@@ -21,8 +21,8 @@ use Rattle.file.specs.Shape.{Shaped}
 use Rattle.file_laws.proofs.PageEffects.{arrived-ignored}
 use Rattle.files.specs.Files.{theFile, withFile}
 use Rattle.files.proofs.FilesLaws.{theFile-withFile-same, theFile-withFile-other}
-use Rattle.transfer_files.specs.Related.{Three, Related}
-use Rattle.transfer_files.proofs.RelatedEffects.{related-both, related-new}
+use Rattle.board_move_files_laws.specs.Related.{Three, Related}
+use Rattle.board_move_files_laws.proofs.RelatedEffects.{related-both, related-new}
 use Rattle.words.proofs.TestsLaws.{tested}
 
 abbrev pub arrivedAt : List File → ℕ → ℕ → List File

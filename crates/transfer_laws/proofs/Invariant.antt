@@ -20,32 +20,32 @@ use Rattle.file.specs.declared.File.{File}
 use Rattle.file.specs.Page.{pageWritten}
 use Rattle.file_laws.proofs.Keeps.{Rules}
 use Rattle.files.specs.Files.{fileNumber, theFile, reached, allReached}
-use Rattle.target.specs.Target.{hartOf, guestOf, numberOf, messageOf}
-use Rattle.target.proofs.TargetLaws.{hartOf-lt, guestOf-lt}
+use Rattle.source_target.specs.Target.{hartOf, guestOf, numberOf, messageOf}
+use Rattle.source_target.proofs.TargetLaws.{hartOf-lt, guestOf-lt}
 use Rattle.domain.specs.Domain.{configOf, byMessages}
-use Rattle.wires.specs.Wires.{Wired, domainIn}
-use Rattle.controller.specs.Controller.{wireCall}
-use Rattle.transfer_steps.specs.Names.{renamed}
-use Rattle.transfer_steps.specs.Steps.{accesses, actOf}
-use Rattle.transfer_steps.specs.declared.Act.{Act}
-use Rattle.transfer_steps.proofs.StepsLaws.{act-target}
-use Rattle.transfer_files.proofs.TableLaws.{act-else}
-use Rattle.transfer_files.specs.Related.{Three, Related}
-use Rattle.transfer_files.proofs.RelatedEffects.{related-act}
-use Rattle.transfer_wired.specs.Retargeted.{TargetsOnly, Same, Rewritten, TargetsMoved}
-use Rattle.transfer_wired.proofs.TargetNames.{names-number, names-other, numberOf-renamed, hartOf-renamed}
-use Rattle.transfer_wired.proofs.TargetNames.{guestOf-renamed, message-reaches}
-use Rattle.transfer_wired.proofs.WireRelated.{only-messages, wire-frame, wire-related, targets-wire}
-use Rattle.transfer_wired.proofs.WireRelated.{wire-moved}
-use Rattle.transfer_wired.proofs.StepThree.{retargeted-only, retargeted-moved, moved-else}
-use Rattle.block.specs.Block.{Board}
-use Rattle.call.specs.Move.{Acted, acted}
-use Rattle.call.specs.Refusal.{isFile, isGuestFile, isMove}
-use Rattle.call_laws.proofs.FileCallEffects.{onlyFile, file-lt, number-lt, number-read}
-use Rattle.call_laws.specs.Fit.{Fit}
-use Rattle.call_laws.proofs.FitEffects.{fit-steady, fit-rules}
-use Rattle.call_laws.proofs.StepEffects.{sound-quiet, wiredStep}
-use Rattle.call_laws.proofs.MoveEffects.{guest-hart, guest-low, guest-high, guest-number}
+use Rattle.wired_state.specs.Wires.{Wired, domainIn}
+use Rattle.wired.specs.Controller.{wireCall}
+use Rattle.board_move_steps.specs.Names.{renamed}
+use Rattle.board_move_steps.specs.Steps.{accesses, actOf}
+use Rattle.board_move_steps.specs.declared.Act.{Act}
+use Rattle.board_move_steps.proofs.StepsLaws.{act-target}
+use Rattle.board_move_files_laws.proofs.TableLaws.{act-else}
+use Rattle.board_move_files_laws.specs.Related.{Three, Related}
+use Rattle.board_move_files_laws.proofs.RelatedEffects.{related-act}
+use Rattle.board_move_wired_laws.specs.Retargeted.{TargetsOnly, Same, Rewritten, TargetsMoved}
+use Rattle.board_move_wired_laws.proofs.TargetNames.{names-number, names-other, numberOf-renamed, hartOf-renamed}
+use Rattle.board_move_wired_laws.proofs.TargetNames.{guestOf-renamed, message-reaches}
+use Rattle.board_move_wired_laws.proofs.WireRelated.{only-messages, wire-frame, wire-related, targets-wire}
+use Rattle.board_move_wired_laws.proofs.WireRelated.{wire-moved}
+use Rattle.board_move_wired_laws.proofs.StepThree.{retargeted-only, retargeted-moved, moved-else}
+use Rattle.board_block.specs.Block.{Board}
+use Rattle.board_call.specs.Move.{Acted, acted}
+use Rattle.board_call.specs.Refusal.{isFile, isGuestFile, isMove}
+use Rattle.board_call_laws.proofs.FileCallEffects.{onlyFile, file-lt, number-lt, number-read}
+use Rattle.board_call_laws.specs.Fit.{Fit}
+use Rattle.board_call_laws.proofs.FitEffects.{fit-steady, fit-rules}
+use Rattle.board_call_laws.proofs.StepEffects.{sound-quiet, wiredStep}
+use Rattle.board_call_laws.proofs.MoveEffects.{guest-hart, guest-low, guest-high, guest-number}
 use Rattle.transfer_laws.specs.Shift.{Stations, isOld, isNew}
 use Rattle.transfer_laws.specs.Premises.{TwoGuests}
 use Rattle.transfer_laws.specs.Moved.{oldNumber, newNumber}

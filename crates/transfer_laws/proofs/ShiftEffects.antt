@@ -11,34 +11,34 @@ use native.Mathlib.Omega.{arith}
 use lib.Dec.{eqb}
 use Rattle.words.proofs.TestsLaws.{tested, and-both, not-same}
 use Rattle.domain.specs.Domain.{Domain}
-use Rattle.wires.specs.Wires.{Wired, domainIn}
-use Rattle.transfer_steps.specs.Steps.{accesses}
-use Rattle.transfer_files.proofs.RelatedEffects.{related-start, related-end}
-use Rattle.transfer_wired.proofs.WireRelated.{only-messages}
-use Rattle.transfer_wired.proofs.StepThree.{named-active, only-start, moved-start}
-use Rattle.call.specs.declared.Call.{Call}
-use Rattle.call.specs.declared.Call.the-variants.{Wire, PageWrite}
-use Rattle.call.specs.Outcome.{Outcome, step}
-use Rattle.call.specs.Refusal.{isWire, isFile, isPageAddress, isMove, present, addressed, selected}
-use Rattle.call.specs.Refusal.{firstFailed, nameTests, nameRefusal}
-use Rattle.call.proofs.RefusalLaws.{numbers-name}
-use Rattle.call_laws.specs.Small.{Small}
-use Rattle.call_laws.proofs.FileCallEffects.{step-pageWrite}
-use Rattle.call_laws.proofs.FitEffects.{fit-block, fit-steady}
-use Rattle.call_laws.proofs.MoveEffects.{guest-low, step-move}
-use Rattle.call_laws.proofs.OutcomeEffects.{outcome-done}
-use Rattle.call_laws.proofs.StepEffects.{step-wire}
-use Rattle.call_laws.proofs.WiredCallEffects.{wire-low, wire-high}
-use Rattle.runs.specs.Runs.{Lent, outcomeOn, after, ran}
-use Rattle.runs.specs.Ready.{boardIn, Ready}
-use Rattle.runs.proofs.RunsEffects.{after-refused, ready-refusal, accepted-named, after-board, after-saved}
-use Rattle.runs.proofs.RunsEffects.{ready-after}
+use Rattle.wired_state.specs.Wires.{Wired, domainIn}
+use Rattle.board_move_steps.specs.Steps.{accesses}
+use Rattle.board_move_files_laws.proofs.RelatedEffects.{related-start, related-end}
+use Rattle.board_move_wired_laws.proofs.WireRelated.{only-messages}
+use Rattle.board_move_wired_laws.proofs.StepThree.{named-active, only-start, moved-start}
+use Rattle.board_call.specs.declared.Call.{Call}
+use Rattle.board_call.specs.declared.Call.the-variants.{Wire, PageWrite}
+use Rattle.board_call.specs.Outcome.{Outcome, step}
+use Rattle.board_call.specs.Refusal.{isWire, isFile, isPageAddress, isMove, present, addressed, selected}
+use Rattle.board_call.specs.Refusal.{firstFailed, nameTests, nameRefusal}
+use Rattle.board_call.proofs.RefusalLaws.{numbers-name}
+use Rattle.board_call_laws.specs.Small.{Small}
+use Rattle.board_call_laws.proofs.FileCallEffects.{step-pageWrite}
+use Rattle.board_call_laws.proofs.FitEffects.{fit-block, fit-steady}
+use Rattle.board_call_laws.proofs.MoveEffects.{guest-low, step-move}
+use Rattle.board_call_laws.proofs.OutcomeEffects.{outcome-done}
+use Rattle.board_call_laws.proofs.StepEffects.{step-wire}
+use Rattle.board_call_laws.proofs.WiredCallEffects.{wire-low, wire-high}
+use Rattle.board_runs.specs.Runs.{Lent, outcomeOn, after, ran}
+use Rattle.board_runs.specs.Ready.{boardIn, Ready}
+use Rattle.board_runs.proofs.RunsEffects.{after-refused, ready-refusal, accepted-named, after-board, after-saved}
+use Rattle.board_runs.proofs.RunsEffects.{ready-after}
 use Rattle.transfer_laws.specs.Shift.{Stations, Event, accessOf, isOld, isNew, withMove, withoutMove}
 use Rattle.transfer_laws.specs.Premises.{Started, TwoGuests, ByMessages, NoneNamesNew, accessesIn}
 use Rattle.transfer_laws.specs.Premises.{AllAccesses}
 use Rattle.transfer_laws.specs.Premises.{PagesKept, Premises}
 use Rattle.transfer_laws.specs.Moved.{oldNumber, newNumber, Moved, MoveKeeps, AccessesDone, MoveDone}
-use Rattle.call_laws.proofs.MoveCallEffects.{guest-there}
+use Rattle.board_call_laws.proofs.MoveCallEffects.{guest-there}
 use Rattle.transfer_laws.proofs.Invariant.{old-lt, new-lt, new-parts, move-there, Middle, middle-page}
 use Rattle.transfer_laws.proofs.Invariant.{middle-wire}
 use Rattle.transfer_laws.proofs.Invariant.{middle-access}

@@ -13,13 +13,13 @@ use mathlib.Core.Path.{_≡_}
 use mathlib.Core.List.{List, map}
 use Rattle.sizes.specs.Sizes.{hartFiles}
 use Rattle.words.specs.Bits.{hasBit}
-use Rattle.block.specs.Block.{Board}
-use Rattle.call.specs.declared.Call.{Call}
-use Rattle.call.specs.declared.Call.the-variants.{PageRead, PageWrite, Register, Top, Claim}
-use Rattle.call.specs.Change.{signalsTo}
-use Rattle.call.specs.Outcome.{Outcome}
-use Rattle.runs.specs.Runs.{Lent, ran, outcomesOf}
-use Rattle.runs.specs.Ready.{boardIn, AllSmall}
+use Rattle.board_block.specs.Block.{Board}
+use Rattle.board_call.specs.declared.Call.{Call}
+use Rattle.board_call.specs.declared.Call.the-variants.{PageRead, PageWrite, Register, Top, Claim}
+use Rattle.board_call.specs.Change.{signalsTo}
+use Rattle.board_call.specs.Outcome.{Outcome}
+use Rattle.board_runs.specs.Runs.{Lent, ran, outcomesOf}
+use Rattle.board_runs.specs.Ready.{boardIn, AllSmall}
 use Rattle.transfer_laws.specs.Shift.{Stations}
 use Rattle.transfer_laws.specs.Moved.{oldIn, newIn}
 

@@ -18,11 +18,11 @@ use mathlib.Core.Logic.{_≢_}
 use Rattle.sizes.specs.Sizes.{fileCount}
 use Rattle.file.specs.declared.File.{File}
 use Rattle.files.specs.Files.{fileNumber, theFile}
-use Rattle.wires.specs.Wires.{domainIn}
-use Rattle.block.specs.Block.{Board}
-use Rattle.call.specs.declared.Call.the-variants.{Wire, PageWrite}
-use Rattle.runs.specs.Runs.{Lent, outcomeOn, after, ran}
-use Rattle.runs.specs.Ready.{boardIn}
+use Rattle.wired_state.specs.Wires.{domainIn}
+use Rattle.board_block.specs.Block.{Board}
+use Rattle.board_call.specs.declared.Call.the-variants.{Wire, PageWrite}
+use Rattle.board_runs.specs.Runs.{Lent, outcomeOn, after, ran}
+use Rattle.board_runs.specs.Ready.{boardIn}
 use Rattle.transfer_laws.specs.Shift.{Stations, Event, accessOf, withMove, withoutMove}
 use Rattle.transfer_laws.specs.Premises.{Premises}
 

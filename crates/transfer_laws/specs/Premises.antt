@@ -18,17 +18,17 @@ use mathlib.Core.List.{List, [], _∷_}
 use lib.ListN.{length}
 use Rattle.sizes.specs.Sizes.{sourceCount, blockSize, logSize}
 use Rattle.words.specs.Sets.{WordsFit}
-use Rattle.mode.specs.Mode.{isActive}
+use Rattle.source_mode.specs.Mode.{isActive}
 use Rattle.domain.specs.Domain.{byMessages}
 use Rattle.domain.specs.Slot.{sourceAt}
-use Rattle.transfer_steps.specs.Names.{namesFile}
+use Rattle.board_move_steps.specs.Names.{namesFile}
 use Rattle.sizes.specs.Sizes.{recordSize}
-use Rattle.transfer_steps.specs.Steps.{accesses}
-use Rattle.block.specs.Block.{boardSound}
-use Rattle.call.specs.Refusal.{isGuestFile}
-use Rattle.call_laws.specs.Fit.{SavedFit}
-use Rattle.runs.specs.Runs.{Lent}
-use Rattle.runs.specs.Ready.{boardIn}
+use Rattle.board_move_steps.specs.Steps.{accesses}
+use Rattle.board_block.specs.Block.{boardSound}
+use Rattle.board_call.specs.Refusal.{isGuestFile}
+use Rattle.board_call_laws.specs.Fit.{SavedFit}
+use Rattle.board_runs.specs.Runs.{Lent}
+use Rattle.board_runs.specs.Ready.{boardIn}
 use Rattle.transfer_laws.specs.Shift.{Stations, Event, isOld, isNew}
 
 pub record Started (x : Lent) : Type 0 where

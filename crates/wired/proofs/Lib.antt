@@ -1,2 +1,3 @@
--- The laws of the wired controller. Assumes nothing.
-pub mod WiredLaws
+-- The laws of the wired controller's calls. Assumes nothing.
+pub mod CallLaws
+pub mod ControllerLaws

@@ -1,2 +1,2 @@
--- The wired controller: the registers of its two domains. Assumes nothing.
-pub mod Wired
+-- The wired controller's calls, with what they send. Assumes nothing.
+pub mod Controller

@@ -1,8 +1,8 @@
-// The wired controller in its own 290 words: its registers and its signals. What each call does before it
-// sends.
-mod access;
-mod word;
+// The calls of the wired controller on its own 290 words, with what they send: each changes it as `wired`
+// does, and then each domain sends.
+mod calls;
+mod pass;
 
-pub use access::read;
-pub use access::signal;
-pub use word::write;
+pub use calls::read;
+pub use calls::set_wire;
+pub use calls::write;

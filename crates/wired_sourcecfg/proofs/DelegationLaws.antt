@@ -5,11 +5,11 @@ use mathlib.Core.Path.{_≡_, refl}
 use mathlib.Core.Bool.{Bool, true, false, Bool·beq}
 use lib.Dec.{leb}
 use Rattle.words.specs.Sets.{member}
-use Rattle.mode.specs.Mode.{sourceWord}
+use Rattle.source_mode.specs.Mode.{sourceWord}
 use Rattle.source.specs.Pending.{inactive}
 use Rattle.domain.specs.Slot.{sourceAt, withSource}
-use Rattle.wires.specs.Wires.{Wired}
-use Rattle.wires.specs.Wires.{isDelegated}
+use Rattle.wired_state.specs.Wires.{Wired}
+use Rattle.wired_state.specs.Wires.{isDelegated}
 use Rattle.wired_sourcecfg.specs.Delegation.{sourceModed, childWritten, rootWritten, sourceWritten}
 
 module _ (w : Wired) (i v : ℕ) where

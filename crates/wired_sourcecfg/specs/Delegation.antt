@@ -8,13 +8,13 @@
 use Prim.Native.Nat.{ℕ}
 use mathlib.Core.Bool.{Bool, true, false, Bool·beq, cond}
 use lib.Dec.{leb}
-use Rattle.mode.specs.Mode.{delegatedWord}
+use Rattle.source_mode.specs.Mode.{delegatedWord}
 use Rattle.words.specs.Sets.{member}
-use Rattle.mode.specs.Mode.{sourceWord}
+use Rattle.source_mode.specs.Mode.{sourceWord}
 use Rattle.source.specs.Pending.{inactive, moded}
 use Rattle.domain.specs.Domain.{Domain, byMessages}
 use Rattle.domain.specs.Slot.{sourceAt, withSource}
-use Rattle.wires.specs.Wires.{Wired, isDelegated}
+use Rattle.wired_state.specs.Wires.{Wired, isDelegated}
 
 -- the source with a new sourcecfg word
 unfoldable pub sourceModed : Domain → ℕ → ℕ → Bool → Domain

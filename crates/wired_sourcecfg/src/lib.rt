@@ -8,17 +8,17 @@ ghost use Rattle.sizes.specs.Sizes.{slotCount, domainSize, wiredSize};
 ghost use Rattle.source.specs.Pending.{inactive};
 ghost use Rattle.domain.specs.Domain.{domainOf};
 ghost use Rattle.domain.specs.Slot.{withSource};
-ghost use Rattle.wires.specs.Wires.{wiredOf};
-ghost use Rattle.wires.specs.Wires.{isDelegated};
+ghost use Rattle.wired_state.specs.Wires.{wiredOf};
+ghost use Rattle.wired_state.specs.Wires.{isDelegated};
 ghost use Rattle.wired_sourcecfg.specs.Delegation.{sourceModed, childWritten, rootWritten};
 ghost use Rattle.wired_sourcecfg.specs.Delegation.{sourceWritten};
-use mode::DELEGATED_WORD;
 use sizes::CHILD_PLACE;
 use sizes::ROOT_PLACE;
 use sizes::WIRED_SIZE;
 use source::Source;
-use wires::delegated;
-use wires::wires;
+use source_mode::DELEGATED_WORD;
+use wired_state::delegated;
+use wired_state::wires;
 
 fn mode_source(part: &mut [u32], i: usize, mode: u32, wire: bool)
     requires { ⌜ (length (now part) ≡ domainSize) × (i < slotCount) ⌝ }
@@ -52,7 +52,7 @@ fn write_child(w: &mut [u32], i: usize, value: u32)
     mode_source(
         &mut w[CHILD_PLACE..WIRED_SIZE],
         i,
-        mode::source_word(true, has, value),
+        source_mode::source_word(true, has, value),
         wire,
     );
 }
@@ -63,7 +63,7 @@ fn write_root(w: &mut [u32], i: usize, value: u32)
 {
     let wire = source_wire::wire_at(wires(w), i);
     let had = delegated(w, i);
-    let mode = mode::source_word(false, false, value);
+    let mode = source_mode::source_word(false, false, value);
     mode_source(&mut w[ROOT_PLACE..CHILD_PLACE], i, mode, wire);
     let has = DELEGATED_WORD <= mode;
     if had == has {

@@ -1,6 +1,6 @@
 -- `board::apply` meets its contract: case by case it is the call of that case. Assumes nothing.
 use mathlib.Core.Path.{sym}
-use Rattle.call_laws.proofs.GivesEffects.{gives-of}
+use Rattle.board_call_laws.proofs.GivesEffects.{gives-of}
 use borrow.Author.Needs.{needs}
 use Rattle.board.proofs.apply.Statement.{statement}
 use Rattle.board.proofs.apply.Tie as tie

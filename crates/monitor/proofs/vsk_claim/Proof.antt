@@ -1,5 +1,5 @@
 -- `monitor::vsk_claim` meets its contract: its numbers are those of the call below it. Assumes nothing.
-use Rattle.answer.proofs.ToldLaws.{told-of}
+use Rattle.monitor_answer.proofs.ToldLaws.{told-of}
 use borrow.Author.Needs.{needs}
 use Rattle.monitor.proofs.vsk_claim.Statement.{statement}
 use Rattle.monitor.proofs.vsk_claim.Tie as tie

@@ -1,7 +1,7 @@
 -- `monitor::vsk_domain_write` meets its contract: its numbers are those of the call below it.
 -- Assumes nothing.
 use borrow.Author.Needs.{needs}
-use Rattle.answer.proofs.ToldLaws.{told-of}
+use Rattle.monitor_answer.proofs.ToldLaws.{told-of}
 use Rattle.monitor.proofs.vsk_domain_write.Statement.{statement}
 use Rattle.monitor.proofs.vsk_domain_write.Tie as tie
 

@@ -1,6 +1,6 @@
 -- `monitor::vsk_page_write` meets its contract: its numbers are those of the call below it. Assumes nothing.
 use borrow.Author.Needs.{needs}
-use Rattle.answer.proofs.ToldLaws.{told-of}
+use Rattle.monitor_answer.proofs.ToldLaws.{told-of}
 use Rattle.monitor.proofs.vsk_page_write.Statement.{statement}
 use Rattle.monitor.proofs.vsk_page_write.Tie as tie
 

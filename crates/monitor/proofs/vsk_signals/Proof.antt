@@ -1,6 +1,6 @@
 -- `monitor::vsk_signals` meets its contract: its numbers are those of the call below it. Assumes nothing.
 use borrow.Author.Needs.{needs}
-use Rattle.answer.proofs.ToldLaws.{told-of}
+use Rattle.monitor_answer.proofs.ToldLaws.{told-of}
 use Rattle.monitor.proofs.vsk_signals.Statement.{statement}
 use Rattle.monitor.proofs.vsk_signals.Tie as tie
 

@@ -5,12 +5,12 @@ use mathlib.Core.Bool.{Bool, true}
 use mathlib.Core.List.{List}
 use lib.ListN.{take, drop}
 use Rattle.words.specs.Sets.{member}
-use Rattle.mode.specs.Mode.{sourceWord}
+use Rattle.source_mode.specs.Mode.{sourceWord}
 use Rattle.domain.specs.Domain.{Domain, domainOf}
-use Rattle.wires.specs.Wires.{wiredOf}
-use Rattle.wires.specs.Wires.{isDelegated}
+use Rattle.wired_state.specs.Wires.{wiredOf}
+use Rattle.wired_state.specs.Wires.{isDelegated}
 use Rattle.wired_sourcecfg.specs.Delegation.{sourceModed, childWritten}
-use Rattle.wires.proofs.WiresLaws.{put-child, child-long, child-part}
+use Rattle.wired_state.proofs.WiresLaws.{put-child, child-long, child-part}
 use borrow.Author.Needs.{needs}
 use Rattle.wired_sourcecfg.proofs.write_child.Statement.{statement}
 use Rattle.wired_sourcecfg.proofs.write_child.Tie as tie

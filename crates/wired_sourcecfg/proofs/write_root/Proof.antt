@@ -7,14 +7,14 @@ use mathlib.Core.List.{List, _++_}
 use lib.Dec.{leb}
 use lib.ListN.{take, drop}
 use Rattle.words.specs.Sets.{member}
-use Rattle.mode.specs.Mode.{sourceWord}
+use Rattle.source_mode.specs.Mode.{sourceWord}
 use Rattle.source.specs.Pending.{inactive}
 use Rattle.domain.specs.Domain.{Domain, domainOf}
 use Rattle.domain.specs.Slot.{withSource}
-use Rattle.wires.specs.Wires.{wiredOf}
+use Rattle.wired_state.specs.Wires.{wiredOf}
 use Rattle.wired_sourcecfg.specs.Delegation.{sourceModed}
-use Rattle.wires.proofs.WiresLaws.{put-root, both-put, put-long, second-part, root-long, child-long}
-use Rattle.wires.proofs.WiresLaws.{root-part}
+use Rattle.wired_state.proofs.WiresLaws.{put-root, both-put, put-long, second-part, root-long, child-long}
+use Rattle.wired_state.proofs.WiresLaws.{root-part}
 use Rattle.wired_sourcecfg.proofs.DelegationLaws.{root-stays, root-moves}
 use borrow.Author.Needs.{needs}
 use Rattle.wired_sourcecfg.proofs.write_root.Statement.{statement}

@@ -1,8 +1,8 @@
 -- `file::File::written` meets its contract: each register by its case. Assumes nothing.
 use mathlib.Core.Path.{ap, sym, _∙_}
 use native.Mathlib.Nat.{mod-eq-of-lt}
-use Rattle.select.specs.declared.Register.{Register}
-use Rattle.select.proofs.DeliveriesLaws.{legal-lt}
+use Rattle.file_select.specs.declared.Register.{Register}
+use Rattle.file_select.proofs.DeliveriesLaws.{legal-lt}
 use Rattle.file.specs.Parts.{withDelivery, withPendingSet, withEnable}
 use Rattle.file.specs.Register.{written}
 use Rattle.file.proofs.RegisterLaws.{written-legal, written-illegal}

@@ -1,7 +1,7 @@
 -- `source::Source::moded` meets its contract: inactive, newly active, active before and after. Assumes
 -- nothing.
 use Rattle.source.specs.declared.Source.{Source}
-use Rattle.target.specs.Target.{startTarget}
+use Rattle.source_target.specs.Target.{startTarget}
 use Prim.Native.Nat.{ℕ}
 use mathlib.Core.Path.{ap, ap₂, sym, _∙_}
 use mathlib.Core.Bool.{Bool, false, not, _&&_}

@@ -1,0 +1,95 @@
+-- Laws of specs/Block.antt: the two parts of the block as they are lent, and the board after a part came
+-- back. No contract cites this file. Assumes nothing.
+--   filesPut l ys    the block l with ys in the place of the files' 360 words
+--   wiredPut l zs    the block l with zs in the place of the wired controller's 290
+use Prim.Native.Nat.{ℕ}
+use mathlib.Core.Path.{_≡_, refl, ap, ap₂, _∙_}
+use mathlib.Core.Bool.{Bool, _&&_}
+use mathlib.Core.List.{List, _++_}
+use native.Mathlib.Omega.{arith}
+use lib.ListN.{length, take, drop, length-take, length-drop, length-append}
+use lib.Seq.{take-at, drop-at}
+use Rattle.files.specs.Files.{filesOf, filesSound}
+use Rattle.wired_state.specs.Wires.{wiredOf}
+use Rattle.wired_rules.specs.Rules.{wiredSound}
+use Rattle.board_block.specs.Block.{Board, boardOf, boardSound}
+
+-- two boards are equal if their parts are
+pub board-path : {b c : Board} → b .files ≡ c .files → b .wired ≡ c .wired → b ≡ c
+board-path f w = λ k. record { files = f k; wired = w k }
+
+-- ---- the parts that are lent
+
+module _ (l : List ℕ) (long : length l ≡ 650) where
+  pub files-long : length (take 360 l) ≡ 360
+  files-long = simp length-take (omega arith)
+
+  pub wired-long : length (take 290 (drop 360 l)) ≡ 290
+  wired-long = simp (length-take, length-drop) (omega arith)
+
+  pub files-part : filesOf (take 360 l) ≡ boardOf l .files
+  unfolding boardOf
+  files-part = refl
+
+  pub wired-part : wiredOf (take 290 (drop 360 l)) ≡ boardOf l .wired
+  unfolding boardOf
+  wired-part = refl
+
+-- ---- a part put back
+
+abbrev pub filesPut : List ℕ → List ℕ → List ℕ
+filesPut l ys = ys ++ drop 360 l
+
+abbrev pub wiredPut : List ℕ → List ℕ → List ℕ
+wiredPut l zs = take 360 l ++ (zs ++ drop 290 (drop 360 l))
+
+module _ (l ys : List ℕ) (long : length l ≡ 650) (part : length ys ≡ 360) where
+  pub put-files : boardOf (filesPut l ys) ≡ record { files = filesOf ys; wired = boardOf l .wired }
+  unfolding boardOf
+  put-files =
+      board-path (ap filesOf (take-at ys (drop 360 l) 360 part))
+      (ap (λ (x : List ℕ). wiredOf (take 290 x)) (drop-at ys (drop 360 l) 360 part))
+
+  pub put-files-long : length (filesPut l ys) ≡ 650
+  put-files-long = simp (length-append, length-drop) (omega arith)
+
+  -- the wired part, lent after the files came back
+  pub wired-behind : wiredOf (take 290 (drop 360 (filesPut l ys))) ≡ boardOf l .wired
+  wired-behind = wired-part (filesPut l ys) put-files-long ∙ ap (λ (b : Board). b .wired) put-files
+
+module _ (l zs : List ℕ) (long : length l ≡ 650) (part : length zs ≡ 290) where
+  pub put-wired : boardOf (wiredPut l zs) ≡ record { files = boardOf l .files; wired = wiredOf zs }
+  unfolding boardOf
+  put-wired =
+      let rest = zs ++ drop 290 (drop 360 l) in
+      board-path (ap filesOf (take-at (take 360 l) rest 360 (files-long l long)))
+      (ap wiredOf (ap (take 290) (drop-at (take 360 l) rest 360 (files-long l long))
+      ∙ take-at zs (drop 290 (drop 360 l)) 290 part))
+
+  pub put-wired-long : length (wiredPut l zs) ≡ 650
+  put-wired-long = simp (length-append, length-take, length-drop) (omega arith)
+
+  -- the files, lent after the wired part came back
+  pub files-behind : filesOf (take 360 (wiredPut l zs)) ≡ boardOf l .files
+  files-behind = files-part (wiredPut l zs) put-wired-long ∙ ap (λ (b : Board). b .files) put-wired
+
+-- both parts, in either order
+module _ (l ys zs : List ℕ) (long : length l ≡ 650) (files : length ys ≡ 360) (wired : length zs ≡ 290) where
+  pub put-wired-files : boardOf (filesPut (wiredPut l zs) ys)
+      ≡ record { files = filesOf ys; wired = wiredOf zs }
+  put-wired-files =
+      put-files (wiredPut l zs) ys (put-wired-long l zs long wired) files
+      ∙ board-path refl (ap (λ (b : Board). b .wired) (put-wired l zs long wired))
+
+  pub put-files-wired : boardOf (wiredPut (filesPut l ys) zs)
+      ≡ record { files = filesOf ys; wired = wiredOf zs }
+  put-files-wired =
+      put-wired (filesPut l ys) zs (put-files-long l ys long files) wired
+      ∙ board-path (ap (λ (b : Board). b .files) (put-files l ys long files)) refl
+
+-- ---- the state rules
+
+pub board-sound-read : (b : Board) (f w : Bool) → f ≡ filesSound (b .files) → w ≡ wiredSound (b .wired)
+    → (f && w) ≡ boardSound b
+unfolding boardSound
+board-sound-read b f w p q = ap₂ _&&_ p q

@@ -1,0 +1,89 @@
+-- Both round trips between the board and its block of 650 words: one board has one block. No contract cites
+-- this file. Assumes nothing.
+use Prim.Native.Nat.{ℕ, suc, _*_, _<_}
+use mathlib.Core.Path.{_≡_, refl, sym, ap, _∙_}
+use mathlib.Core.List.{List, [], _∷_, append-nil}
+use native.Mathlib.Omega.{arith}
+use lib.ListN.{length, take, drop, length-append, length-take, length-drop}
+use lib.Seq.{take-all, take-add}
+use Rattle.file.specs.declared.File.{File}
+use Rattle.file_laws.proofs.Stored.{Long, words-long}
+use Rattle.file_words.specs.Stored.{fileWords}
+use Rattle.files.specs.Files.{filesOf, wordsOf, theFile}
+use Rattle.files.proofs.FilesLaws.{length-filesOf}
+use Rattle.files_laws.proofs.BlockBack.{words-back, files-back}
+use Rattle.files_laws.proofs.Keeps.{filesOf-long}
+use Rattle.domain_laws.proofs.SlotEffects.{domainOf-shaped}
+use Rattle.wired_state.specs.Wires.{wiredOf}
+use Rattle.wired_state.proofs.WiresLaws.{root-long, child-long}
+use Rattle.board_block.specs.Block.{Board, boardOf, blockOf, wiredWords}
+use Rattle.board_block.proofs.BlockLaws.{board-path, files-long, wired-long}
+use Rattle.board_block_laws.specs.Shape.{BoardShaped}
+use Rattle.board_block_laws.proofs.DomainBack.{stretch-at, wired-words-back, length-wiredWords, wired-back}
+
+-- ---- from the block to the board and back
+
+module _ (l : List ℕ) (long : length l ≡ 650) where
+  pub block-back : blockOf (boardOf l) ≡ l
+  unfolding blockOf boardOf
+  block-back =
+      rw (
+        words-back (take 360 l) (files-long l long),
+        wired-words-back (take 290 (drop 360 l)) (wired-long l long),
+        ← take-add 360 290 l,
+      )
+      (take-all 650 l (omega arith))
+
+  pub boardOf-shaped : BoardShaped (boardOf l)
+  unfolding boardOf wiredOf
+  boardOf-shaped =
+      let part = take 290 (drop 360 l) in
+      let half = wired-long l long in
+      record {
+        many = length-filesOf (take 360 l);
+        long = λ k h. filesOf-long (take 360 l) (files-long l long) k h;
+        wires = simp (length-take, length-drop) (omega arith);
+        root = domainOf-shaped (take 144 (drop 2 part)) (root-long part half);
+        child = domainOf-shaped (take 144 (drop 146 part)) (child-long part half);
+      }
+
+-- two blocks with the same board are the same
+pub blocks-same : (l m : List ℕ) → length l ≡ 650 → length m ≡ 650 → boardOf l ≡ boardOf m → l ≡ m
+blocks-same l m hl hm e = sym (block-back l hl) ∙ ap blockOf e ∙ block-back m hm
+
+-- ---- from the board to the block and back
+
+length-wordsOf : (fs : List File) → ((k : ℕ) → k < length fs → Long (theFile fs k))
+    → length (wordsOf fs) ≡ 18 * length fs
+unfolding wordsOf theFile
+length-wordsOf [] long = refl
+length-wordsOf (f ∷ fs) long =
+    let here = words-long f (long 0 (omega arith)) in
+    let rest = length-wordsOf fs (λ k h. long (suc k) (omega arith)) in
+    length-append (fileWords f) (wordsOf fs) ∙ omega arith
+
+module _ (b : Board) (shaped : BoardShaped b) where
+  abbrev filesWords : List ℕ
+  filesWords = wordsOf (b .files)
+
+  length-files : length filesWords ≡ 360
+  length-files =
+      length-wordsOf (b .files) (λ k h. shaped .long k (omega (arith, shaped .many)))
+      ∙ ap (λ (n : ℕ). 18 * n) (shaped .many)
+
+  length-wired : length (wiredWords (b .wired)) ≡ 290
+  length-wired = length-wiredWords (b .wired) (shaped .wires) (shaped .root) (shaped .child)
+
+  pub length-blockOf : length (blockOf b) ≡ 650
+  unfolding blockOf
+  length-blockOf = simp length-append (omega (arith, length-files, length-wired))
+
+  pub board-back : boardOf (blockOf b) ≡ b
+  unfolding boardOf blockOf
+  board-back =
+      let ws = wiredWords (b .wired) in
+      board-path (ap filesOf (stretch-at (blockOf b) [] filesWords ws 0 360 refl refl length-files)
+      ∙ files-back (b .files) (shaped .many) (shaped .long))
+      (ap wiredOf
+      (stretch-at (blockOf b) filesWords ws [] 360 290 (simp append-nil) length-files length-wired)
+      ∙ wired-back (b .wired) (shaped .wires) (shaped .root) (shaped .child))

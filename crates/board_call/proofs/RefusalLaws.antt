@@ -1,0 +1,138 @@
+-- Laws of specs/Refusal.antt: which number each failed test gives, and what holds where none fails. No
+-- contract cites this file. Assumes nothing.
+use Prim.Native.Nat.{ℕ}
+use mathlib.Core.Path.{_≡_, refl, sym, _∙_}
+use mathlib.Core.Bool.{Bool, true, false, cond, not, _&&_, false≢true}
+use mathlib.Core.List.{List, [], _∷_, _++_}
+use mathlib.Core.Logic.{_≢_}
+use native.Mathlib.Decide.{ℕ-discrete}
+use native.Mathlib.Omega.{arith}
+use lib.Dec.{eqb}
+use lib.ListN.{length}
+use borrow.Author.Tests.{eq-eqb, ne-eqb}
+use Rattle.words.proofs.TestsLaws.{tested, and-first, and-second, or-right}
+use Rattle.board_block.specs.Block.{Board, boardOf, boardSound}
+use Rattle.board_call.specs.declared.Answer.{Answer}
+use Rattle.board_call.specs.declared.Call.{Call}
+use Rattle.board_call.specs.Answer.{Refuses}
+use Rattle.board_call.specs.Refusal.{testsRules, present, addressed, selected, Test, firstFailed, blockTests}
+use Rattle.board_call.specs.Refusal.{nameTests, blockRefusal, nameRefusal, refusalOf}
+use Rattle.board_call.proofs.AnswerLaws.{NotDone, refused-case}
+
+not-true : (t : Bool) → not t ≡ true → t ≡ false
+not-true true e = absurd (false≢true e)
+not-true false e = refl
+
+-- ---- of lists of tests
+
+-- no test has the number 0, which says that none fails
+numbered : List Test → Bool
+numbered [] = true
+numbered (t ∷ ts) = not (eqb (t .number) 0) && numbered ts
+
+-- the first that fails of the former tests, or else of the latter
+first-append : (ts us : List Test) → numbered ts ≡ true
+    → firstFailed (ts ++ us) ≡ cond (eqb (firstFailed ts) 0) (firstFailed us) (firstFailed ts)
+unfolding firstFailed numbered
+first-append [] us n = refl
+first-append (t ∷ ts) us n =
+    let zero = eqb (t .number) 0 in
+    tested (t .passed) (λ p. rw p (first-append ts us (and-second (not zero) (numbered ts) n)))
+    (λ p. rw (p, not-true zero (and-first (not zero) (numbered ts) n)))
+
+-- ---- of the blocks
+
+module _ (t : Bool) (l g : List ℕ) where
+  pub refused-state : length l ≢ 650 → blockRefusal t l g ≡ 1
+  unfolding blockRefusal blockTests firstFailed
+  refused-state h = simp (ne-eqb (length l) 650 h)
+
+  module _ (long : length l ≡ 650) where
+    pub refused-log : length g ≢ 63 → blockRefusal t l g ≡ 2
+    unfolding blockRefusal blockTests firstFailed
+    refused-log h = simp (eq-eqb (length l) 650 long, ne-eqb (length g) 63 h)
+
+    module _ (full : length g ≡ 63) where
+      pub refused-rules : t ≡ true → boardSound (boardOf l) ≡ false → blockRefusal t l g ≡ 3
+      unfolding blockRefusal blockTests firstFailed
+      refused-rules e f = simp (eq-eqb (length l) 650 long, eq-eqb (length g) 63 full, e, f)
+
+      pub blocks-sound : boardSound (boardOf l) ≡ true → blockRefusal t l g ≡ 0
+      unfolding blockRefusal blockTests firstFailed
+      blocks-sound f =
+          let tests = or-right (not t) (boardSound (boardOf l)) f in
+          simp (eq-eqb (length l) 650 long, eq-eqb (length g) 63 full, tests)
+
+      pub blocks-untested : t ≡ false → blockRefusal t l g ≡ 0
+      unfolding blockRefusal blockTests firstFailed
+      blocks-untested e = simp (eq-eqb (length l) 650 long, eq-eqb (length g) 63 full, e)
+
+-- a refusal by the lengths is one where the rules are tested too
+pub refused-lengths : (t : Bool) (l g : List ℕ) (r : Answer) → Refuses r (blockRefusal false l g) → NotDone r
+    → Refuses r (blockRefusal t l g)
+unfolding blockRefusal blockTests firstFailed
+refused-lengths t l g r e d =
+    let same : blockRefusal false l g ≡ blockRefusal t l g =
+    tested (eqb (length l) 650)
+    (λ a. tested (eqb (length g) 63) (λ b. absurd (refused-case r d (e .number ∙ simp (a, b))))
+    (λ b. simp (a, b)))
+    (λ a. simp a) in
+    record { number = e .number ∙ same; value = e .value; count = e .count }
+
+-- where no test fails
+module _ (t : Bool) (l g : List ℕ) (z : blockRefusal t l g ≡ 0) where
+  pub passed-state : length l ≡ 650
+  passed-state = at (ℕ-discrete (length l) 650)
+    where
+      at : Dec (length l ≡ 650) → length l ≡ 650
+      at (yes e) = e
+      at (no n) = absurd (omega (arith, refused-state t l g n, z))
+
+  pub passed-log : length g ≡ 63
+  passed-log = at (ℕ-discrete (length g) 63)
+    where
+      at : Dec (length g ≡ 63) → length g ≡ 63
+      at (yes e) = e
+      at (no n) = absurd (omega (arith, refused-log t l g passed-state n, z))
+
+  pub passed-rules : t ≡ true → boardSound (boardOf l) ≡ true
+  passed-rules e =
+      tested (boardSound (boardOf l)) (λ y. y)
+      (λ n. absurd (omega (arith, refused-rules t l g passed-state passed-log e n, z)))
+
+-- ---- of the numbers
+
+module _ (c : Call) (b : Board) where
+  pub refused-name : present c b ≡ false → nameRefusal c b ≡ 4
+  unfolding nameRefusal nameTests firstFailed
+  refused-name n = simp n
+
+  module _ (n : present c b ≡ true) where
+    pub refused-address : addressed c ≡ false → nameRefusal c b ≡ 5
+    unfolding nameRefusal nameTests firstFailed
+    refused-address a = simp (n, a)
+
+    module _ (a : addressed c ≡ true) where
+      pub refused-select : selected c ≡ false → nameRefusal c b ≡ 6
+      unfolding nameRefusal nameTests firstFailed
+      refused-select s = simp (n, a, s)
+
+      pub numbers-name : selected c ≡ true → nameRefusal c b ≡ 0
+      unfolding nameRefusal nameTests firstFailed
+      numbers-name s = simp (n, a, s)
+
+-- ---- of both
+
+module _ (c : Call) (l g : List ℕ) where
+  refusal-append : refusalOf c l g
+      ≡ cond (eqb (blockRefusal (testsRules c) l g) 0) (nameRefusal c (boardOf l))
+      (blockRefusal (testsRules c) l g)
+  unfolding refusalOf blockRefusal nameRefusal blockTests numbered
+  refusal-append = first-append (blockTests (testsRules c) l g) (nameTests c (boardOf l)) refl
+
+  pub refused-blocks : (k : ℕ) → k ≡ blockRefusal (testsRules c) l g → k ≢ 0 → refusalOf c l g ≡ k
+  refused-blocks k e h =
+      refusal-append ∙ simp (ne-eqb (blockRefusal (testsRules c) l g) 0 (λ z. h (e ∙ z))) (sym e)
+
+  pub refused-numbers : blockRefusal (testsRules c) l g ≡ 0 → refusalOf c l g ≡ nameRefusal c (boardOf l)
+  refused-numbers z = refusal-append ∙ simp (eq-eqb (blockRefusal (testsRules c) l g) 0 z)

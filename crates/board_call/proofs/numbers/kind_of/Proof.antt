@@ -1,0 +1,34 @@
+-- `board_call::numbers::kind_of` meets its contract: number by number. Assumes nothing.
+use borrow.Author.Tests.{eq-eqb, ne-eqb}
+use Rattle.board_call.specs.Change.{kindOf}
+use Rattle.board_call.proofs.numbers.kind_of.Statement.{statement}
+use Rattle.board_call.proofs.numbers.kind_of.Tie as tie
+
+returns : tie.Need-returns
+unfolding kindOf
+returns c = simp (eq-eqb _ 0 (c .if1 .taken))
+
+returns-2 : tie.Need-returns-2
+unfolding kindOf
+returns-2 c = simp (ne-eqb _ 0 (c .before .if1 .left), eq-eqb _ 1 (c .if2 .taken))
+
+returns-3 : tie.Need-returns-3
+unfolding kindOf
+returns-3 c =
+    simp (
+      ne-eqb _ 0 (c .before .before .if1 .left),
+      ne-eqb _ 1 (c .before .if2 .left),
+      eq-eqb _ 2 (c .if3 .taken),
+    )
+
+returns-4 : tie.Need-returns-4
+unfolding kindOf
+returns-4 c =
+    simp (
+      ne-eqb _ 0 (c .before .before .if1 .left),
+      ne-eqb _ 1 (c .before .if2 .left),
+      ne-eqb _ 2 (c .if3 .left),
+    )
+
+pub kind-of-spec : {M : Type 1} → statement M
+kind-of-spec = tie.close (tie.spec returns returns-2 returns-3 returns-4)

@@ -1,0 +1,81 @@
+-- What a call does, all in all. 01, "Calls and their refusals", "The wired controller". Assumes nothing.
+--   Stepped           the board after a call, its value, the messages that it sent, in order, and the record
+--   thenSent x         x, then each domain sends what is to be sent, and every message reaches its file
+--   step c b s        what an accepted call does: its change, thenSent; s is the record of a move
+--   Outcome           refusal, value and count, the block, the log and the record after the call
+--   outcome c l g s   what the call c does with the block l, the log g and the record s: refused, it answers
+--                     0 and 0 and changes nothing
+--   Gives o r l g s   a call that answers r and leaves the block l, the log g and the record s does as o says
+--   Does c l g r l′ g′   the same of a call that is lent no record: any record stays as it is
+use Prim.Native.Nat.{ℕ}
+use mathlib.Core.Path.{_≡_}
+use mathlib.Core.Bool.{cond}
+use mathlib.Core.List.{List, _++_}
+use lib.Dec.{eqb}
+use lib.ListN.{length}
+use Rattle.files.specs.Files.{allReached}
+use Rattle.domain_sending.specs.Sending.{logged}
+use Rattle.wired.specs.Controller.{flushed}
+use Rattle.board_block.specs.Block.{Board, boardOf, blockOf}
+use Rattle.board_call.specs.declared.Answer.{Answer}
+use Rattle.board_call.specs.declared.Call.{Call}
+use Rattle.board_call.specs.Answer.{refusalNumber, answerValue, answerCount}
+use Rattle.board_call.specs.Refusal.{refusalOf}
+use Rattle.board_call.specs.Change.{Changed, change}
+
+pub record Stepped : Type 0 where
+  pub board : Board
+  pub value : ℕ
+  pub messages : List ℕ
+  pub saved : List ℕ
+
+unfoldable pub thenSent : Changed → Stepped
+thenSent x =
+    let after = flushed (x .board .wired) in
+    let ms = x .own ++ after .messages in
+    record {
+      board = record { files = allReached (x .board .files) ms; wired = after .wired };
+      value = x .value;
+      messages = ms;
+      saved = x .saved;
+    }
+
+unfoldable pub step : Call → Board → List ℕ → Stepped
+step c b s = thenSent (change c b s)
+
+pub record Outcome : Type 0 where
+  pub number : ℕ
+  pub value : ℕ
+  pub count : ℕ
+  pub block : List ℕ
+  pub log : List ℕ
+  pub saved : List ℕ
+
+abbrev pub refusedAs : ℕ → List ℕ → List ℕ → List ℕ → Outcome
+refusedAs n l g s = record { number = n; value = 0; count = 0; block = l; log = g; saved = s }
+
+abbrev pub doneAs : Stepped → List ℕ → Outcome
+doneAs x g =
+    record {
+      number = 0;
+      value = x .value;
+      count = length (x .messages);
+      block = blockOf (x .board);
+      log = logged g (x .messages);
+      saved = x .saved;
+    }
+
+unfoldable pub outcome : Call → List ℕ → List ℕ → List ℕ → Outcome
+outcome c l g s =
+    let n = refusalOf c l g in cond (eqb n 0) (doneAs (step c (boardOf l) s) g) (refusedAs n l g s)
+
+pub record Gives (o : Outcome) (r : Answer) (l g s : List ℕ) : Type 0 where
+  pub number : refusalNumber r ≡ o .number
+  pub value : answerValue r ≡ o .value
+  pub count : answerCount r ≡ o .count
+  pub block : l ≡ o .block
+  pub log : g ≡ o .log
+  pub saved : s ≡ o .saved
+
+abbrev pub Does : Call → List ℕ → List ℕ → Answer → List ℕ → List ℕ → Type 0
+Does c l g r l′ g′ = (s : List ℕ) → Gives (outcome c l g s) r l′ g′ s

@@ -1,0 +1,22 @@
+// The top of a file.
+ghost use Rattle.board_call.specs.declared.Call.the-variants as the;
+ghost use Rattle.board_call.specs.Outcome.{Does};
+use super::one::load_file;
+use board_call::Answer;
+use board_call::check;
+use board_call::is_file;
+
+pub fn top(state: &mut [u32], log: &mut [u32], hart: u64, file: u64) -> Answer
+    ensures { λ r. ⌜ Does (the.Top hart file) (now (state .entry)) (now (log .entry)) r
+        (now (state .exit)) (now (log .exit)) ⌝ }
+{
+    let answer = check(state, log);
+    let Answer::Done(_, _) = answer else {
+        return answer;
+    };
+    if !is_file(hart, file) {
+        return Answer::NoSuch;
+    }
+    let f = load_file(state, hart, file);
+    Answer::Done(f.top() as u64, 0)
+}

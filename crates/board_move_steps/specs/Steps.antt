@@ -1,0 +1,57 @@
+-- The 89 accesses of a move, in the six steps of 01, "The move, with its premises"; the standard 6.1.2.
+-- Assumes nothing.
+--   accesses            how many there are
+--                       The record has delivery, threshold, four words of pending bits and four of enable
+--                       bits, at these places:
+--   deliveryAt, thresholdAt, pendingAt k, enableAt k
+--   actOf n             what access n does, for n of 1 to 89
+--   actWithin a         the source that a names is one of 1 to 63, its place one of the record's
+use Prim.Native.Nat.{ℕ, _+_, _-_, _*_}
+use mathlib.Core.Bool.{Bool, true, false, cond, _&&_}
+use lib.Dec.{eqb, leb, ltb}
+use Rattle.sizes.specs.Sizes.{recordSize, sourceCount}
+use Rattle.file_select.specs.Select.{eidelivery, eithreshold, eip0, eie0}
+use Rattle.file.specs.declared.register.Access.the-variants.{Write, Set}
+use Rattle.board_move_steps.specs.declared.Act.{Act}
+use Rattle.board_move_steps.specs.declared.Act.the-variants.{Save, Zero, Target, Put}
+
+abbrev pub accesses : ℕ
+accesses = 89
+
+abbrev pub deliveryAt : ℕ
+deliveryAt = 0
+
+abbrev pub thresholdAt : ℕ
+thresholdAt = 1
+
+abbrev pub pendingAt : ℕ → ℕ
+pendingAt k = 2 + k
+
+abbrev pub enableAt : ℕ → ℕ
+enableAt k = 6 + k
+
+unfoldable pub actOf : ℕ → Act
+actOf n =
+    -- 1. save old delivery and threshold, set old delivery 0
+    cond (eqb n 1) (Save eidelivery deliveryAt)
+    (cond (eqb n 2) (Save eithreshold thresholdAt)
+    (cond (eqb n 3) (Zero false eidelivery)
+    -- 2. set new delivery 0, clear new pending
+    (cond (eqb n 4) (Zero true eidelivery)
+    (cond (leb n 8) (Zero true (eip0 + 2 * (n - 5)))
+    -- 3. rewrite each child target that names old to name new
+    (cond (leb n 71) (Target (n - 8))
+    -- 4. read old pending and enable
+    (cond (leb n 75) (Save (eip0 + 2 * (n - 72)) (pendingAt (n - 72)))
+    (cond (leb n 79) (Save (eie0 + 2 * (n - 76)) (enableAt (n - 76)))
+    -- 5. set the pending bits in new, write the enables
+    (cond (leb n 83) (Put Set (eip0 + 2 * (n - 80)) (pendingAt (n - 80)))
+    (cond (leb n 87) (Put Write (eie0 + 2 * (n - 84)) (enableAt (n - 84)))
+    -- 6. write threshold and delivery to new
+    (cond (eqb n 88) (Put Write eithreshold thresholdAt) (Put Write eidelivery deliveryAt)))))))))))
+
+unfoldable pub actWithin : Act → Bool
+actWithin (Save select place) = ltb place recordSize
+actWithin (Zero new select) = true
+actWithin (Target i) = leb 1 i && leb i sourceCount
+actWithin (Put kind select place) = ltb place recordSize

@@ -1,0 +1,92 @@
+-- What an accepted call leaves: the wired part came back, then the files. No contract cites this file.
+-- Assumes nothing.
+use Prim.Native.Nat.{ℕ, _≤_, _<_}
+use mathlib.Core.Path.{_≡_, sym, ap, ap₂, subst, _∙_}
+use mathlib.Core.Bool.{Bool, true}
+use mathlib.Core.List.{List, []}
+use native.Mathlib.Omega.{arith}
+use lib.ListN.{length, take, drop}
+use Rattle.files.specs.Files.{filesOf, allReached, Named}
+use Rattle.files.proofs.FilesLaws.{named-of}
+use Rattle.domain_region.specs.Region.{Within}
+use Rattle.domain_region.specs.declared.Word.{Word}
+use Rattle.wired_state.specs.Wires.{Wired, wiredOf}
+use Rattle.wired_rules.specs.Rules.{wiredSound}
+use Rattle.domain_sending.specs.Sending.{logged}
+use Rattle.domain_sending_laws.proofs.MessageEffects.{logged-back, logged-every, Every}
+use Rattle.wired.specs.Controller.{Out, Leaves, wireCall, readCall, writeCall}
+use Rattle.wired.proofs.CallLaws.{words-steady, words-quiet, read-silent}
+use Rattle.wired_laws.proofs.OutEffects.{Exists, wire-count, write-count}
+use Rattle.board_block.specs.Block.{boardOf, boardSound}
+use Rattle.board_block.proofs.BlockLaws.{board-path, wired-part, wired-long, wiredPut, filesPut}
+use Rattle.board_block.proofs.BlockLaws.{put-wired-files, files-behind}
+use Rattle.board_call_laws.proofs.StepEffects.{sound-wired}
+use Rattle.board_call_laws.specs.Left.{Left}
+
+-- the wired part of a sound board keeps its rules
+pub part-sound : (l : List ℕ) → length l ≡ 650 → boardSound (boardOf l) ≡ true
+    → wiredSound (wiredOf (take 290 (drop 360 l))) ≡ true
+part-sound l long sound = ap wiredSound (wired-part l long) ∙ sound-wired (boardOf l) sound
+
+-- and so 63 words suffice for what it sends
+module _ (l : List ℕ) (long : length l ≡ 650) (sound : boardSound (boardOf l) ≡ true) (n : ℕ) where
+  abbrev part : List ℕ
+  part = take 290 (drop 360 l)
+
+  pub wire-within : (i : ℕ) → 1 ≤ i → i < 64 → (level : Bool)
+      → n ≡ length (wireCall (wiredOf part) i level .messages) → n ≤ 63
+  wire-within i a b level e =
+      let kept = part-sound l long sound in
+      omega (
+        arith,
+        e,
+        wire-count (wiredOf part) (words-steady part (wired-long l long) kept)
+            (words-quiet part (wired-long l long) kept) i a b level,
+      )
+
+  pub write-within : (c : Bool) (r : Word) → Within r → (v : ℕ)
+      → n ≡ length (writeCall (wiredOf part) c r v .messages) → n ≤ 63
+  write-within c r b v e =
+      let kept = part-sound l long sound in
+      omega (
+        arith,
+        e,
+        write-count (wiredOf part) (words-steady part (wired-long l long) kept)
+            (words-quiet part (wired-long l long) kept) c r b v,
+      )
+
+-- a read sends nothing
+pub read-none : (l : List ℕ) → length l ≡ 650 → boardSound (boardOf l) ≡ true → (c : Bool) (r : Word)
+    → readCall (boardOf l .wired) c r .messages ≡ []
+read-none l long sound c r =
+    let part = take 290 (drop 360 l) in
+    let kept = part-sound l long sound in
+    ap (λ (w : Wired). readCall w c r .messages) (sym (wired-part l long))
+    ∙ ap (λ (o : Out). o .messages)
+    (read-silent (wiredOf part) (words-steady part (wired-long l long) kept)
+    (words-quiet part (wired-long l long) kept) c r)
+
+-- the messages of a call can be delivered from the log that it left
+pub left-named : (o : Out) (w : Wired) (g g′ : List ℕ) (n : ℕ) → Leaves o w g g′ n
+    → Every Exists (o .messages) → Named g′ n
+left-named o w g g′ n (a, b, k) exist =
+    subst (λ (x : List ℕ). Named x n) (sym b)
+    (named-of (logged g (o .messages)) n
+    (λ j h. logged-every Exists (o .messages) g exist j (omega arith)))
+
+module _ (l zs ys g g′ : List ℕ) (n : ℕ) (long : length l ≡ 650) (wired : length zs ≡ 290)
+    (files : length ys ≡ 360) where
+  pub done-left : (o : Out) → Leaves o (wiredOf zs) g g′ n
+      → filesOf ys ≡ allReached (filesOf (take 360 (wiredPut l zs))) (take n g′)
+      → Left o l (filesPut (wiredPut l zs) ys) g g′ n
+  done-left o (a, b, k) e =
+      let sent : take n g′ ≡ o .messages = ap (take n) b ∙ logged-back (o .messages) g n k in (
+        put-wired-files l ys zs long files wired
+            ∙ board-path (e ∙ ap₂ allReached (files-behind l zs long wired) sent) a,
+        b,
+        k,
+      )
+
+pub left-of : {o p : Out} → o ≡ p → (l l′ g g′ : List ℕ) (n : ℕ) → Left o l l′ g g′ n
+    → Left p l l′ g g′ n
+left-of e l l′ g g′ n = subst (λ (x : Out). Left x l l′ g g′ n) e

@@ -1,0 +1,94 @@
+-- `board_wired_calls::written::write_done` meets its contract: a write, then the messages. Assumes nothing.
+use mathlib.Core.Path.{ap, _∙_}
+use lib.ListN.{take, drop}
+use Rattle.wired_state.specs.Wires.{Wired, wiredOf}
+use Rattle.wired.specs.Controller.{writeCall}
+use Rattle.wired_laws.proofs.OutEffects.{write-exists}
+use Rattle.board_block.proofs.BlockLaws.{files-long, wired-long, wired-part, wiredPut, put-wired-long}
+use Rattle.board_wired_calls.proofs.DoneLaws.{part-sound, write-within, left-named, done-left, left-of}
+use borrow.Author.Needs.{needs}
+use Rattle.board_wired_calls.proofs.written.write_done.Statement.{statement}
+use Rattle.board_wired_calls.proofs.written.write_done.Tie as tie
+
+sub-write : tie.Need-sub-write
+sub-write c = search needs
+
+part-write-start : tie.Need-part-write-start
+part-write-start c = search needs
+
+part-write-end : tie.Need-part-write-end
+part-write-end c = search needs
+
+write-requires : tie.Need-write-requires
+write-requires c κs =
+    let start = c .before .before .before .before in
+    let l = start .args .state .now in
+    (wired-long l (start .pre .0), start .pre .1, start .pre .2, part-sound l (start .pre .0) (start .pre .3))
+
+sub-deliver : tie.Need-sub-deliver
+sub-deliver c = search needs
+
+part-deliver-start : tie.Need-part-deliver-start
+part-deliver-start c = search needs
+
+part-deliver-end : tie.Need-part-deliver-end
+part-deliver-end c = search needs
+
+deliver-requires : tie.Need-deliver-requires
+deliver-requires c κs =
+    let at-call = c .before .before .before .before .before .before in
+    let start = at-call .before .before .before .before .before in
+    let args = start .args in
+    let l = args .state .now in
+    let long = start .pre .0 in
+    let zs = at-call .write .last .0 in
+    let left = at-call .write .ensures in (
+      files-long (wiredPut l zs) (put-wired-long l zs long (at-call .write .kept .0 ∙ wired-long l long)),
+      at-call .write .kept .1 .0 ∙ start .pre .1,
+      write-within l long (start .pre .3) _ (args .child) (args .word) (start .pre .2) (args .value)
+          (left .2),
+      left-named _ _ (args .log .now) _ _ left (write-exists (wiredOf (take 290 (drop 360 l))) (args .child)
+          (args .word) (args .value)),
+    )
+
+same-length : tie.Need-same-length
+same-length c = search needs
+
+same-length-2 : tie.Need-same-length-2
+same-length-2 c = search needs
+
+returns : tie.Need-returns
+returns c =
+    let at-deliver = c .before .before in
+    let at-call = at-deliver .before .before .before .before .before .before .before in
+    let start = at-call .before .before .before .before .before in
+    let args = start .args in
+    let l = args .state .now in
+    let long = start .pre .0 in
+    let zs = at-call .write .last .0 in
+    let whole = at-call .write .kept .0 ∙ wired-long l long in
+    let left = at-call .write .ensures in (
+      write-within l long (start .pre .3) _ (args .child) (args .word) (start .pre .2) (args .value)
+          (left .2),
+      left-of (ap (λ (w : Wired). writeCall w (args .child) (args .word) (args .value))
+          (wired-part l long)) l _ (args .log .now) _ _
+          (done-left l zs (at-deliver .deliver .last .0) (args .log .now) _ _ long whole
+          (at-deliver .deliver .kept .0 ∙ files-long (wiredPut l zs) (put-wired-long l zs long whole)) _ left
+          (at-deliver .deliver .ensures)),
+    )
+
+pub write-done-spec : {M : Type 1} → statement M
+write-done-spec =
+    tie.close
+    (tie.spec
+    sub-write
+    part-write-start
+    part-write-end
+    write-requires
+    sub-deliver
+    part-deliver-start
+    part-deliver-end
+    deliver-requires
+    same-length
+    same-length-2
+    returns)

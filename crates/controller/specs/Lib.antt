@@ -1,2 +1,0 @@
--- The wired controller's calls, with what they send. Assumes nothing.
-pub mod Controller

@@ -1,0 +1,65 @@
+-- `domain_config::redeliver` meets its contract: the sources from i on are still to be changed. Assumes
+-- nothing.
+use Prim.Native.Nat.{_-_, _≤_, _+_}
+use mathlib.Core.Path.{_≡_, refl, sym, ap, _∙_}
+use native.Mathlib.Omega.{arith}
+use lib.ListN.{length}
+use Rattle.domain.specs.Domain.{domainOf, Domain}
+use Rattle.domain_config.specs.Config.{redeliveredFrom}
+use Rattle.domain_config.proofs.ConfigLaws.{redelivered-next, redelivered-end}
+use Rattle.domain_config.proofs.redeliver.Statement.{statement}
+use Rattle.domain_config.proofs.redeliver.Tie as tie
+
+abbrev Inv-loop : tie.InvT-loop
+Inv-loop part₀ wires i₀ part i = (length part ≡ 144) × (1 ≤ i) × (i ≤ 64)
+    × (redeliveredFrom (domainOf part₀) wires 1 63 ≡ redeliveredFrom (domainOf part) wires i (64 - i))
+
+abbrev μ-loop : tie.MeasureT-loop
+μ-loop part₀ wires i₀ part i = 64 - i
+
+loop-holds : tie.Need-loop-holds Inv-loop μ-loop
+loop-holds c = (c .before .pre, omega arith, omega arith, refl)
+
+redeliver-source-requires : tie.Need-redeliver-source-requires Inv-loop μ-loop
+redeliver-source-requires c κs = (c .before .before .loop .inv .0, omega arith)
+
+add-i : tie.Need-add-i Inv-loop μ-loop
+add-i c = omega arith
+
+loop-less : tie.Need-loop-less Inv-loop μ-loop
+loop-less c = omega arith
+
+loop-again : tie.Need-loop-again Inv-loop μ-loop
+loop-again c =
+    let at-call = c .before .before in
+    let at-loop = at-call .before .before .before .loop in
+    let wires = at-call .before .before .before .before .before .args .wires in (
+      at-call .redeliver-source .kept .0 ∙ at-loop .inv .0,
+      omega arith,
+      omega arith,
+      at-loop .inv .3 ∙ redelivered-next _ wires (at-loop .i) 64 (omega arith)
+          ∙ ap (λ (d : Domain). redeliveredFrom d wires (at-loop .i + 1) (64 - (at-loop .i + 1)))
+          (sym (at-call .redeliver-source .ensures)),
+    )
+
+same-length : tie.Need-same-length Inv-loop μ-loop
+same-length c = c .before .loop .inv .0 ∙ sym (c .before .before .before .pre)
+
+returns : tie.Need-returns Inv-loop μ-loop
+returns c =
+    sym (c .before .loop .inv .3
+    ∙ redelivered-end _ (c .before .before .before .args .wires) (c .before .loop .i) 64 (omega arith))
+
+pub redeliver-spec : {M : Type 1} → statement M
+redeliver-spec =
+    tie.close
+    (tie.spec
+    Inv-loop
+    μ-loop
+    loop-holds
+    redeliver-source-requires
+    add-i
+    loop-less
+    loop-again
+    same-length
+    returns)

@@ -1,0 +1,57 @@
+// What a write to domaincfg does to its domain, before anything is sent.
+ghost use mathlib.Core.Path.{_≡_};
+ghost use Prim.Native.Nat.{_-_, _≤_, _<_};
+ghost use lib.ListN.{length};
+ghost use Rattle.sizes.specs.Sizes.{sourceCount, slotCount, domainSize};
+ghost use Rattle.domain.specs.Domain.{domainOf};
+ghost use Rattle.domain_config.specs.Config.{keptConfig, redeliveredAt, redeliveredFrom, configWritten};
+use domain::DM_BIT;
+use domain::IE_BIT;
+use sizes::SLOT_COUNT;
+use sizes::SOURCE_SET_SIZE;
+use source_wire::wire_at;
+
+// What of a written domaincfg is stored.
+pub fn kept_config(value: u32) -> u32
+    ensures { λ r. ⌜ r ≡ keptConfig value ⌝ }
+{
+    let ie = words::field32(value, IE_BIT, 1);
+    let dm = words::field32(value, DM_BIT, 1);
+    words::packed32(ie, IE_BIT, words::packed32(dm, DM_BIT, 0))
+}
+
+fn redeliver_source(part: &mut [u32], wires: [u32; SOURCE_SET_SIZE], i: usize)
+    requires { ⌜ (length (now part) ≡ domainSize) × (i < slotCount) ⌝ }
+    ensures { λ r. ⌜ domainOf (now (part .exit)) ≡ redeliveredAt (domainOf (now (part .entry))) wires i ⌝ }
+{
+    let messages = domain::by_messages(part);
+    let s = domain::load(part, i);
+    domain::store(part, i, s.redelivered(messages, wire_at(wires, i)));
+}
+
+fn redeliver(part: &mut [u32], wires: [u32; SOURCE_SET_SIZE])
+    requires { ⌜ length (now part) ≡ domainSize ⌝ }
+    ensures { λ r. ⌜ domainOf (now (part .exit))
+        ≡ redeliveredFrom (domainOf (now (part .entry))) wires 1 sourceCount ⌝ }
+{
+    let mut i: usize = 1;
+    while i < SLOT_COUNT {
+        redeliver_source(part, wires, i);
+        i += 1;
+    }
+}
+
+pub fn write_config(part: &mut [u32], wires: [u32; SOURCE_SET_SIZE], value: u32)
+    requires { ⌜ length (now part) ≡ domainSize ⌝ }
+    ensures { λ r. ⌜ domainOf (now (part .exit))
+        ≡ configWritten (domainOf (now (part .entry))) wires value ⌝ }
+{
+    let before = domain::by_messages(part);
+    domain::put_config(part, kept_config(value));
+    let after = domain::by_messages(part);
+    if before == after {
+        return;
+    }
+    domain::put_generated(part, 0);
+    redeliver(part, wires);
+}

@@ -1,0 +1,147 @@
+-- The pass as the code makes it: what holds before each source's turn. No contract cites this file. Assumes
+-- nothing.
+--   turn-miss, turn-hit                  one turn, of a source that is not to be sent and of one that is
+--   SoFar c d₀ l₀ d l i n                the pass over d₀, with the log l₀, has come to source i: the domain
+--                                        is d, and the n messages sent stand first in the log l
+--   pass-start, pass-next                it holds at the start, and after each turn
+--   pass-end                             what it says at the end
+use Prim.Native.Nat.{ℕ, _+_, _-_, _≤_, _<_}
+use mathlib.Core.Path.{_≡_, refl, sym, ap, _∙_}
+use mathlib.Core.Bool.{Bool, true, false}
+use mathlib.Core.List.{List, _++_, append-assoc, append-nil}
+use native.Mathlib.Omega.{arith}
+use lib.ListN.{length, take, drop, set, length-append, length-take}
+use lib.Seq.{sets, sets-eq, length-sets, take-at, drop-at, drop-drop}
+use Rattle.source_target.specs.Target.{messageOf}
+use Rattle.source.specs.declared.Source.{Source}
+use Rattle.source.specs.Pending.{withPending}
+use Rattle.domain.specs.Domain.{Domain}
+use Rattle.domain.specs.Slot.{sourceAt, withSource}
+use Rattle.domain_sending.specs.Sending.{candidate, servedAt, messagesAt, sentFrom, logged}
+use Rattle.domain_sending.proofs.SendingLaws.{served-hit, served-miss, messages-hit, messages-miss}
+use Rattle.domain_sending.proofs.SendingLaws.{messages-le, from-zero, from-domain, from-messages}
+use Rattle.domain_sending.proofs.SendingLaws.{logged-count, logged-is}
+
+-- ---- words stored from a place on
+
+module _ (l ms : List ℕ) (n : ℕ) (h : n + length ms ≤ length l) where
+  front-long : length (take n l ++ ms) ≡ n + length ms
+  front-long = simp (length-append, length-take) (omega arith)
+
+  take-sets : take (n + length ms) (sets l n ms) ≡ take n l ++ ms
+  take-sets = ap (take (n + length ms)) (sets-eq ms l n h)
+      ∙ take-at (take n l ++ ms) (drop (n + length ms) l) (n + length ms) front-long
+
+  drop-sets : drop (n + length ms) (sets l n ms) ≡ drop (n + length ms) l
+  drop-sets = ap (drop (n + length ms)) (sets-eq ms l n h)
+      ∙ drop-at (take n l ++ ms) (drop (n + length ms) l) (n + length ms) front-long
+
+-- ---- one turn, as the code makes it
+
+module _ (c : Bool) (d : Domain) (l : List ℕ) (i n : ℕ) (s : Source) (e : s ≡ sourceAt d i) where
+  abbrev Turned : Domain → List ℕ → ℕ → Type 0
+  Turned d′ l′ n′ =
+      (d′ ≡ servedAt d i) × (l′ ≡ sets l n (messagesAt c d i)) × (n′ ≡ n + length (messagesAt c d i))
+
+  pub turn-miss : candidate s ≡ false → Turned d l n
+  turn-miss f =
+      let miss = ap candidate (sym e) ∙ f in (
+        sym (served-miss d i miss),
+        rw (messages-miss c d i miss) refl,
+        omega (arith, ap length (messages-miss c d i miss)),
+      )
+
+  pub turn-hit : candidate s ≡ true → (d′ : Domain) (m : ℕ) → d′ ≡ withSource d i (withPending s false)
+      → m ≡ messageOf c (s .target) → Turned d′ (set l n m) (n + 1)
+  turn-hit t d′ m ed em =
+      let hit = ap candidate (sym e) ∙ t in (
+        ed ∙ ap (λ (x : Source). withSource d i (withPending x false)) e ∙ sym (served-hit d i hit),
+        rw (messages-hit c d i hit) (ap (set l n) (em ∙ ap (λ (x : Source). messageOf c (x .target)) e)),
+        omega (arith, ap length (messages-hit c d i hit)),
+      )
+
+-- ---- one turn, as the code counts
+
+module _ (c : Bool) (d : Domain) (i : ℕ) (h : i < 64) where
+  turn-domain : sentFrom c d i (64 - i) .domain ≡ sentFrom c (servedAt d i) (i + 1) (64 - (i + 1)) .domain
+  turn-domain =
+      ap (λ (k : ℕ). sentFrom c d i k .domain) (omega arith) ∙ from-domain c d i (64 - (i + 1))
+      ∙ ap (λ (k : ℕ). sentFrom c (servedAt d i) k (64 - (i + 1)) .domain) (omega arith)
+
+  turn-messages : sentFrom c d i (64 - i) .messages
+      ≡ messagesAt c d i ++ sentFrom c (servedAt d i) (i + 1) (64 - (i + 1)) .messages
+  turn-messages =
+      ap (λ (k : ℕ). sentFrom c d i k .messages) (omega arith) ∙ from-messages c d i (64 - (i + 1))
+      ∙ ap (λ (k : ℕ). messagesAt c d i ++ sentFrom c (servedAt d i) k (64 - (i + 1)) .messages) (omega arith)
+
+-- ---- the pass
+
+pub record SoFar (c : Bool) (d₀ : Domain) (l₀ : List ℕ) (d : Domain) (l : List ℕ) (i n : ℕ) : Type 0 where
+  pub low : 1 ≤ i
+  pub high : i ≤ 64
+  pub fewer : n < i
+  pub long : length l ≡ 63
+  pub domains : sentFrom c d₀ 1 63 .domain ≡ sentFrom c d i (64 - i) .domain
+  pub messages : sentFrom c d₀ 1 63 .messages ≡ take n l ++ sentFrom c d i (64 - i) .messages
+  pub behind : drop n l ≡ drop n l₀
+
+pub pass-start : (c : Bool) (d : Domain) (l : List ℕ) → length l ≡ 63 → SoFar c d l d l 1 0
+pass-start c d l e =
+    record {
+      low = omega arith;
+      high = omega arith;
+      fewer = omega arith;
+      long = e;
+      domains = refl;
+      messages = refl;
+      behind = refl;
+    }
+
+module _ (c : Bool) (d₀ : Domain) (l₀ : List ℕ) (d : Domain) (l : List ℕ) (i n : ℕ)
+    (s : SoFar c d₀ l₀ d l i n) where
+  abbrev ms : List ℕ
+  ms = messagesAt c d i
+
+  next : i < 64 → SoFar c d₀ l₀ (servedAt d i) (sets l n ms) (i + 1) (n + length ms)
+  next h =
+      let fits : n + length ms ≤ length l = omega (arith, messages-le c d i) in
+      let later = sentFrom c (servedAt d i) (i + 1) (64 - (i + 1)) .messages in
+      record {
+        low = omega arith;
+        high = omega arith;
+        fewer = omega (arith, messages-le c d i);
+        long = length-sets l n ms ∙ s .long;
+        domains = s .domains ∙ turn-domain c d i h;
+        messages =
+            s .messages ∙ ap (λ (r : List ℕ). take n l ++ r) (turn-messages c d i h)
+            ∙ sym (append-assoc (take n l) ms later)
+            ∙ ap (λ (r : List ℕ). r ++ later) (sym (take-sets l ms n fits));
+        behind =
+            drop-sets l ms n fits ∙ sym (drop-drop (length ms) n l) ∙ ap (drop (length ms)) (s .behind)
+            ∙ drop-drop (length ms) n l₀;
+      }
+
+  pub pass-next : i < 64 → (d′ : Domain) (l′ : List ℕ) (n′ : ℕ) → d′ ≡ servedAt d i → l′ ≡ sets l n ms
+      → n′ ≡ n + length ms → SoFar c d₀ l₀ d′ l′ (i + 1) n′
+  pass-next h d′ l′ n′ ed el en = rw (ed, el, en) (next h)
+
+  module _ (h : 64 ≤ i) where
+    end : 64 - i ≡ 0
+    end = omega arith
+
+    front : take n l ≡ sentFrom c d₀ 1 63 .messages
+    front =
+        sym (s .messages ∙ ap (λ (k : ℕ). take n l ++ sentFrom c d i k .messages) end
+        ∙ ap (λ r. take n l ++ r .messages) (from-zero c d i) ∙ append-nil (take n l))
+
+    last : d ≡ sentFrom c d₀ 1 63 .domain
+    last =
+        sym (s .domains ∙ ap (λ (k : ℕ). sentFrom c d i k .domain) end
+        ∙ ap (λ r. r .domain) (from-zero c d i))
+
+    pub pass-end : (d ≡ sentFrom c d₀ 1 63 .domain) × (l ≡ logged l₀ (sentFrom c d₀ 1 63 .messages))
+        × (n ≡ length (sentFrom c d₀ 1 63 .messages))
+    pass-end =
+        let all = sentFrom c d₀ 1 63 .messages in
+        let fits : n ≤ length l = omega arith in
+        (last, logged-is l₀ l all n fits front (s .behind), logged-count l₀ l all n fits front)

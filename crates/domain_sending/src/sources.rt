@@ -1,0 +1,75 @@
+// The pass over a domain's sources: each that is active, pending and enabled is sent, lowest first.
+ghost use mathlib.Core.Path.{_≡_};
+ghost use Prim.Native.Nat.{_+_, _<_};
+ghost use lib.ListN.{length};
+ghost use lib.Seq.{sets};
+ghost use Rattle.sizes.specs.Sizes.{sourceCount, slotCount, domainSize, logSize};
+ghost use Rattle.domain.specs.Domain.{domainOf};
+ghost use Rattle.domain_sending.specs.Sending.{candidate, servedAt, messagesAt, sentFrom, sent, logged};
+use super::waiting::idle;
+use super::waiting::sends;
+use domain::load;
+use domain::store;
+use sizes::SLOT_COUNT;
+use source::Source;
+use source_mode::active;
+use source_target::message;
+
+fn candidate(s: Source) -> bool
+    ensures { λ r. ⌜ r ≡ candidate s ⌝ }
+{
+    active(s.mode) & s.pending & s.enabled
+}
+
+// The turn of source `i`, with `n` messages in the log. Answers how many there are then.
+fn serve(part: &mut [u32], child: bool, log: &mut [u32], i: usize, n: usize) -> usize
+    requires { ⌜ (length (now part) ≡ domainSize) × (length (now log) ≡ logSize) × (i < slotCount)
+        × (n < logSize) ⌝ }
+    ensures { λ r.
+        ⌜ (domainOf (now (part .exit)) ≡ servedAt (domainOf (now (part .entry))) i)
+        × (now (log .exit) ≡ sets (now (log .entry)) n (messagesAt child (domainOf (now (part .entry))) i))
+        × (r ≡ n + length (messagesAt child (domainOf (now (part .entry))) i)) ⌝ }
+{
+    let mut s = load(part, i);
+    if !candidate(s) {
+        return n;
+    }
+    log[n] = message(child, s.target);
+    s.pending = false;
+    store(part, i, s);
+    n + 1
+}
+
+fn pass(part: &mut [u32], child: bool, log: &mut [u32]) -> usize
+    requires { ⌜ (length (now part) ≡ domainSize) × (length (now log) ≡ logSize) ⌝ }
+    ensures { λ r.
+        ⌜ (domainOf (now (part .exit)) ≡ sentFrom child (domainOf (now (part .entry))) 1 sourceCount .domain)
+        × (now (log .exit)
+        ≡ logged (now (log .entry)) (sentFrom child (domainOf (now (part .entry))) 1 sourceCount .messages))
+        × (r ≡ length (sentFrom child (domainOf (now (part .entry))) 1 sourceCount .messages)) ⌝ }
+{
+    let mut n: usize = 0;
+    let mut i: usize = 1;
+    while i < SLOT_COUNT {
+        n = serve(part, child, log, i, n);
+        i += 1;
+    }
+    n
+}
+
+// Sends what is to be sent. The messages come first in `log`; answers their number.
+pub fn send(part: &mut [u32], child: bool, log: &mut [u32]) -> usize
+    requires { ⌜ (length (now part) ≡ domainSize) × (length (now log) ≡ logSize) ⌝ }
+    ensures { λ r.
+        ⌜ (domainOf (now (part .exit)) ≡ sent child (domainOf (now (part .entry))) .domain)
+        × (now (log .exit) ≡ logged (now (log .entry)) (sent child (domainOf (now (part .entry))) .messages))
+        × (r ≡ length (sent child (domainOf (now (part .entry))) .messages)) ⌝ }
+{
+    if !sends(part) {
+        return 0;
+    }
+    if idle(part) {
+        return 0;
+    }
+    pass(part, child, log)
+}

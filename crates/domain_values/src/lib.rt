@@ -1,0 +1,67 @@
+// What a read of a register of one domain gives. What a read does besides is not here.
+ghost use mathlib.Core.Path.{_≡_};
+ghost use Prim.Native.Nat.{_+_, _<_};
+ghost use lib.ListN.{length};
+ghost use Rattle.sizes.specs.Sizes.{slotCount, domainSize};
+ghost use Rattle.domain_region.specs.Region.{Within};
+ghost use Rattle.domain.specs.Domain.{domainOf, configOf};
+ghost use Rattle.domain.specs.Slot.{sourceAt};
+ghost use Rattle.domain_values.specs.Values.{registerValue};
+ghost use Rattle.domain_values.specs.Values.{configMark};
+use domain_direct::Setting;
+use domain_region::Word;
+use sizes::SOURCE_SET_SIZE;
+
+const CONFIG_MARK: u32 = 0x80000000;
+
+fn source_word(part: &[u32], i: usize) -> u32
+    requires { ⌜ (length (now part) ≡ domainSize) × (i < slotCount) ⌝ }
+    ensures { λ r. ⌜ r ≡ sourceAt (domainOf (now (part .entry))) i .mode ⌝ }
+{
+    let s = domain::load(part, i);
+    s.mode
+}
+
+fn target_word(part: &[u32], i: usize) -> u32
+    requires { ⌜ (length (now part) ≡ domainSize) × (i < slotCount) ⌝ }
+    ensures { λ r. ⌜ r ≡ sourceAt (domainOf (now (part .entry))) i .target ⌝ }
+{
+    let s = domain::load(part, i);
+    s.target
+}
+
+fn config_word(part: &[u32]) -> u32
+    requires { ⌜ (length (now part) ≡ domainSize) × (configOf (domainOf (now part)) < configMark) ⌝ }
+    ensures { λ r. ⌜ r ≡ configMark + configOf (domainOf (now (part .entry))) ⌝ }
+{
+    CONFIG_MARK + domain::config(part)
+}
+
+pub fn value_of(part: &[u32], wires: [u32; SOURCE_SET_SIZE], word: Word) -> u32
+    requires { ⌜ (length (now part) ≡ domainSize) × (configOf (domainOf (now part)) < configMark)
+        × Within word ⌝ }
+    ensures { λ r. ⌜ r ≡ registerValue (domainOf (now (part .entry))) wires word ⌝ }
+{
+    match word {
+        Word::Domaincfg => config_word(part),
+        Word::Sourcecfg(i) => source_word(part, i as usize),
+        Word::Setip(k) => domain::pending_word(part, k as usize),
+        Word::Setipnum => 0,
+        Word::InClrip(k) => domain_inputs::input_word(part, wires, k as usize),
+        Word::Clripnum => 0,
+        Word::Setie(k) => domain::enable_word(part, k as usize),
+        Word::Setienum => 0,
+        Word::Clrie(_) => 0,
+        Word::Clrienum => 0,
+        Word::SetipnumLe => 0,
+        Word::SetipnumBe => 0,
+        Word::Genmsi => domain_genmsi::read_generated(part),
+        Word::Target(i) => target_word(part, i as usize),
+        Word::Idelivery(h) => domain_direct::setting_of(part, h as usize, Setting::Idelivery),
+        Word::Iforce(h) => domain_direct::setting_of(part, h as usize, Setting::Iforce),
+        Word::Ithreshold(h) => domain_direct::setting_of(part, h as usize, Setting::Ithreshold),
+        Word::Topi(h) => domain_topi::topi(part, h as usize),
+        Word::Claimi(h) => domain_topi::topi(part, h as usize),
+        Word::Unused => 0,
+    }
+}

@@ -1,0 +1,74 @@
+// What a sourcecfg word says of a source: whether it is active, how its wire is read, what a write keeps.
+ghost use mathlib.Core.Path.{_≡_};
+ghost use Rattle.source_mode.specs.Mode.{isActive, isLevel, isRectified, keptMode, sourceWord};
+
+pub const DELEGATED_WORD: u32 = 1024;
+
+pub fn active(mode: u32) -> bool
+    ensures { λ r. ⌜ r ≡ isActive mode ⌝ }
+{
+    if mode == 0 {
+        return false;
+    }
+    mode < DELEGATED_WORD
+}
+
+pub fn level(mode: u32) -> bool
+    ensures { λ r. ⌜ r ≡ isLevel mode ⌝ }
+{
+    if mode == 6 {
+        return true;
+    }
+    mode == 7
+}
+
+// The wire for Edge1 and Level1, its opposite for Edge0 and Level0, low for the rest.
+pub fn rectified(mode: u32, wire: bool) -> bool
+    ensures { λ r. ⌜ r ≡ isRectified mode wire ⌝ }
+{
+    if mode == 4 {
+        return wire;
+    }
+    if mode == 6 {
+        return wire;
+    }
+    if mode == 5 {
+        return !wire;
+    }
+    if mode == 7 {
+        return !wire;
+    }
+    false
+}
+
+pub fn kept_mode(value: u32) -> u32
+    ensures { λ r. ⌜ r ≡ keptMode value ⌝ }
+{
+    let mode = words::field32(value, 0, 3);
+    if mode == 2 {
+        return 0;
+    }
+    if mode == 3 {
+        return 0;
+    }
+    mode
+}
+
+// What a sourcecfg write stores. `has` says that the child has the source.
+pub fn source_word(child: bool, has: bool, value: u32) -> u32
+    ensures { λ r. ⌜ r ≡ sourceWord child has value ⌝ }
+{
+    if words::has_bit(value, 10) {
+        if child {
+            return 0;
+        }
+        return DELEGATED_WORD;
+    }
+    if child {
+        if has {
+            return kept_mode(value);
+        }
+        return 0;
+    }
+    kept_mode(value)
+}

@@ -1,0 +1,2 @@
+-- The laws of the wired controller. Assumes nothing.
+pub mod WiredLaws
