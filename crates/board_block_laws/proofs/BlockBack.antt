@@ -19,7 +19,8 @@ use Rattle.wired_state.proofs.WiresLaws.{root-long, child-long}
 use Rattle.board_block.specs.Block.{Board, boardOf, blockOf, wiredWords}
 use Rattle.board_block.proofs.BlockLaws.{board-path, files-long, wired-long}
 use Rattle.board_block_laws.specs.Shape.{BoardShaped}
-use Rattle.board_block_laws.proofs.DomainBack.{stretch-at, wired-words-back, length-wiredWords, wired-back}
+use Rattle.board_block_laws.proofs.DomainBack.{stretch-at, wired-words-back, length-wiredWords}
+use Rattle.board_block_laws.proofs.DomainBack.{wired-back}
 
 -- ---- from the block to the board and back
 

@@ -22,7 +22,8 @@ use Rattle.domain_config.specs.Config.{keptConfig}
 use Rattle.wired_state.specs.Wires.{isDelegated}
 use Rattle.source_rules.specs.SourceRules.{modeRange, targetRange, inactiveRule, levelRule, sourceSteady}
 use Rattle.source_rules.specs.SourceRules.{sentRule, sourceSound}
-use Rattle.wired_rules.specs.Rules.{configRange, generatedRange, structureRange, sourceZeroRule, generatedRule}
+use Rattle.wired_rules.specs.Rules.{configRange, generatedRange, structureRange, sourceZeroRule}
+use Rattle.wired_rules.specs.Rules.{generatedRule}
 use Rattle.wired_rules.specs.Rules.{sourceRule, domainSound, delegatedRule, wiredSound}
 use Rattle.board_block.specs.Block.{boardSound}
 use Rattle.board_block.specs.Start.{startFile, startFilesFrom, startDomain, startBoard}

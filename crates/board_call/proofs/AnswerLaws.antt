@@ -9,7 +9,8 @@ use native.Mathlib.Omega.{arith}
 use denote.Enum.Declared.{tagOf}
 use types.Run.{OneOf, miss}
 use Rattle.board_call.specs.declared.Answer.{Answer}
-use Rattle.board_call.specs.declared.Answer.the-variants.{Done, StateLength, LogLength, BrokenRule, NoSuch}
+use Rattle.board_call.specs.declared.Answer.the-variants.{Done, StateLength, LogLength, BrokenRule}
+use Rattle.board_call.specs.declared.Answer.the-variants.{NoSuch}
 use Rattle.board_call.specs.declared.Answer.the-variants.{BadAddress, IllegalSelect}
 use Rattle.board_call.specs.Answer.{refusalNumber, Refuses}
 use Rattle.board_call.proofs.Answer.{the-type}

@@ -2,26 +2,23 @@
 -- contract cites this file. Assumes nothing.
 use Prim.Native.Nat.{ℕ}
 use mathlib.Core.Path.{_≡_, refl, sym, _∙_}
-use mathlib.Core.Bool.{Bool, true, false, cond, not, _&&_, false≢true}
+use mathlib.Core.Bool.{Bool, true, false, cond, not, _&&_}
 use mathlib.Core.List.{List, [], _∷_, _++_}
 use mathlib.Core.Logic.{_≢_}
 use native.Mathlib.Decide.{ℕ-discrete}
 use native.Mathlib.Omega.{arith}
 use lib.Dec.{eqb}
 use lib.ListN.{length}
-use borrow.Author.Tests.{eq-eqb, ne-eqb}
+use borrow.Author.Tests.{eq-eqb, ne-eqb, not-true}
 use Rattle.words.proofs.TestsLaws.{tested, and-first, and-second, or-right}
 use Rattle.board_block.specs.Block.{Board, boardOf, boardSound}
 use Rattle.board_call.specs.declared.Answer.{Answer}
 use Rattle.board_call.specs.declared.Call.{Call}
 use Rattle.board_call.specs.Answer.{Refuses}
-use Rattle.board_call.specs.Refusal.{testsRules, present, addressed, selected, Test, firstFailed, blockTests}
+use Rattle.board_call.specs.Refusal.{testsRules, present, addressed, selected, Test, firstFailed}
+use Rattle.board_call.specs.Refusal.{blockTests}
 use Rattle.board_call.specs.Refusal.{nameTests, blockRefusal, nameRefusal, refusalOf}
 use Rattle.board_call.proofs.AnswerLaws.{NotDone, refused-case}
-
-not-true : (t : Bool) → not t ≡ true → t ≡ false
-not-true true e = absurd (false≢true e)
-not-true false e = refl
 
 -- ---- of lists of tests
 
@@ -71,13 +68,14 @@ module _ (t : Bool) (l g : List ℕ) where
 pub refused-lengths : (t : Bool) (l g : List ℕ) (r : Answer) → Refuses r (blockRefusal false l g) → NotDone r
     → Refuses r (blockRefusal t l g)
 unfolding blockRefusal blockTests firstFailed
-refused-lengths t l g r e d =
-    let same : blockRefusal false l g ≡ blockRefusal t l g =
-    tested (eqb (length l) 650)
-    (λ a. tested (eqb (length g) 63) (λ b. absurd (refused-case r d (e .number ∙ simp (a, b))))
-    (λ b. simp (a, b)))
-    (λ a. simp a) in
-    record { number = e .number ∙ same; value = e .value; count = e .count }
+refused-lengths t l g r e d = record { number = e .number ∙ same; value = e .value; count = e .count }
+  where
+    same : blockRefusal false l g ≡ blockRefusal t l g
+    same =
+        tested (eqb (length l) 650)
+        (λ a. tested (eqb (length g) 63) (λ b. absurd (refused-case r d (e .number ∙ simp (a, b))))
+        (λ b. simp (a, b)))
+        (λ a. simp a)
 
 -- where no test fails
 module _ (t : Bool) (l g : List ℕ) (z : blockRefusal t l g ≡ 0) where

@@ -1,12 +1,13 @@
 -- The paper's numbers for what a call answers. 01, "Calls and their refusals". Assumes nothing.
---   refusalNumber r       the refusal, 0 if it is done
---   answerValue r        the value, 0 if it is refused
---   answerCount r        the number of messages, 0 if it is refused
---   Refuses r n      r is the refusal n, with 0 and 0; with the number 0 it is done, and no test fails
+--   refusalNumber r   the refusal, 0 if it is done
+--   answerValue r     the value, 0 if it is refused
+--   answerCount r     the number of messages, 0 if it is refused
+--   Refuses r n       r is the refusal n, with 0 and 0; with the number 0 it is done, and no test fails
 use Prim.Native.Nat.{ℕ}
 use mathlib.Core.Path.{_≡_}
 use Rattle.board_call.specs.declared.Answer.{Answer}
-use Rattle.board_call.specs.declared.Answer.the-variants.{Done, StateLength, LogLength, BrokenRule, NoSuch}
+use Rattle.board_call.specs.declared.Answer.the-variants.{Done, StateLength, LogLength, BrokenRule}
+use Rattle.board_call.specs.declared.Answer.the-variants.{NoSuch}
 use Rattle.board_call.specs.declared.Answer.the-variants.{BadAddress, IllegalSelect}
 
 abbrev pub refusalNumber : Answer → ℕ

@@ -1,7 +1,7 @@
 -- What a call does, all in all. 01, "Calls and their refusals", "The wired controller". Assumes nothing.
 --   Stepped           the board after a call, its value, the messages that it sent, in order, and the record
---   thenSent x         x, then each domain sends what is to be sent, and every message reaches its file
---   step c b s        what an accepted call does: its change, thenSent; s is the record of a move
+--   thenSent x        x, then each domain sends what is to be sent, and every message reaches its file
+--   step c b s        what an accepted call does: its change, then what is sent; s is the record of a move
 --   Outcome           refusal, value and count, the block, the log and the record after the call
 --   outcome c l g s   what the call c does with the block l, the log g and the record s: refused, it answers
 --                     0 and 0 and changes nothing

@@ -6,9 +6,9 @@
 --                        access n, 1 to 89
 --   isPageAddress a      a is a multiple of 4 in a page of 4,096 bytes
 --   testsRules c         the call tests the state rules: every one but reset
---   present c b            every hart, file, domain, wire, wire level and kind of access that c names is
---                          there;
---                        and an access of a move is not barred, as each is while the child domain of the
+--   present c b          every hart, file, domain, wire, wire level and kind of access that c names is
+--                        there; and an access of a move is not barred, as each is while the child domain of
+--                        the
 --                        board b is in direct mode
 --   addressed c          its address is a multiple of 4 in its region or page
 --   selected c           its select number is legal

@@ -20,7 +20,8 @@ use Rattle.board_call.specs.Refusal.{testsRules, present, addressed, selected, 
 use Rattle.board_call.specs.Outcome.{Stepped, step, outcome, Gives, Does}
 use Rattle.board_call.proofs.AnswerLaws.{NotDone}
 use Rattle.board_call.proofs.RefusalLaws.{passed-state, passed-rules, numbers-name}
-use Rattle.board_call_laws.proofs.OutcomeEffects.{gives-blocks, gives-name, gives-address, gives-select}
+use Rattle.board_call_laws.proofs.OutcomeEffects.{gives-blocks, gives-name, gives-address}
+use Rattle.board_call_laws.proofs.OutcomeEffects.{gives-select}
 use Rattle.board_call_laws.proofs.OutcomeEffects.{gives-done}
 use Rattle.board_call_laws.proofs.StepEffects.{wiredStep}
 

@@ -26,7 +26,8 @@ use Rattle.board_block.proofs.BlockLaws.{board-path, files-long, files-part, fi
 use Rattle.board_call.specs.declared.Answer.the-variants.{Done}
 use Rattle.board_call.specs.declared.Call.the-variants.{PageRead, PageWrite, Register, Top, Claim}
 use Rattle.board_call.specs.Change.{kindOf, change}
-use Rattle.board_call.specs.Refusal.{testsRules, present, addressed, selected, isFile, isPageAddress, blockRefusal}
+use Rattle.board_call.specs.Refusal.{testsRules, present, addressed, selected, isFile, isPageAddress}
+use Rattle.board_call.specs.Refusal.{blockRefusal}
 use Rattle.board_call.specs.Outcome.{step, Does}
 use Rattle.board_call_laws.proofs.StepEffects.{step-onFile, step-answering}
 use Rattle.board_call_laws.proofs.CallTests.{Tests, quiet, checked-long, checked-sound, tests-done}

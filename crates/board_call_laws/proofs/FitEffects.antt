@@ -91,7 +91,7 @@ module _ (b : Board) (fit : Fit b) where
   -- ---- what the wired controller did, with its messages
 
   pub fit-wired : (w : Wired) (ms : List ℕ) → wiredSound w ≡ true → length (w .wires) ≡ 2
-      → domain.Shaped (w .root) → domain.Shaped (w .child)
+      → domain.DomainShaped (w .root) → domain.DomainShaped (w .child)
       → Fit (record { files = allReached (b .files) ms; wired = w })
   unfolding boardSound
   fit-wired w ms sound wires root child =
@@ -119,7 +119,7 @@ module _ (b : Board) (fit : Fit b) where
   fit-rewired w s sound = fit-wired w [] sound (s .long) (s .root .shaped) (s .child .shaped)
 
 -- a pass of messages leaves the lengths
-sent-shaped : (c : Bool) (d : Domain) → domain.Shaped d → domain.Shaped (sent c d .domain)
+sent-shaped : (c : Bool) (d : Domain) → domain.DomainShaped d → domain.DomainShaped (sent c d .domain)
 sent-shaped c d s =
     let rest = sent-rest c d in
     record {

@@ -39,10 +39,12 @@ use Rattle.board_call.specs.Outcome.{Stepped, thenSent, step}
 use Rattle.board_call_laws.specs.Small.{Small}
 use Rattle.board_call_laws.specs.Fit.{Fit, SavedFit, Kept}
 use Rattle.board_call_laws.proofs.StepEffects.{sound-quiet, wiredStep, step-wire, step-domainRead}
-use Rattle.board_call_laws.proofs.StepEffects.{step-domainWrite, step-onFile, step-answering, step-reset}
+use Rattle.board_call_laws.proofs.StepEffects.{step-domainWrite, step-onFile, step-answering}
+use Rattle.board_call_laws.proofs.StepEffects.{step-reset}
 use Rattle.board_call_laws.proofs.FileCallEffects.{number-read, number-lt}
 use Rattle.board_call_laws.proofs.WiredCallEffects.{wire-low, wire-high}
-use Rattle.board_call_laws.proofs.FitEffects.{fit-start, fit-steady, fit-rules, fit-withFile, fit-flushed}
+use Rattle.board_call_laws.proofs.FitEffects.{fit-start, fit-steady, fit-rules, fit-withFile}
+use Rattle.board_call_laws.proofs.FitEffects.{fit-flushed}
 use Rattle.board_call_laws.proofs.MoveEffects.{move-old, move-new, move-low, move-high, acted-fit}
 use Rattle.board_call_laws.proofs.MoveEffects.{acted-saved}
 use Rattle.board_call_laws.proofs.MoveEffects.{step-move}

@@ -2,7 +2,8 @@
 --   Small c   the value of a register access has 64 bits; no other number of a call needs a bound
 use Prim.Native.Nat.{_^_, _<_}
 use Rattle.board_call.specs.declared.Call.{Call}
-use Rattle.board_call.specs.declared.Call.the-variants.{Reset, Wire, DomainRead, DomainWrite, PageRead, PageWrite}
+use Rattle.board_call.specs.declared.Call.the-variants.{Reset, Wire, DomainRead, DomainWrite, PageRead}
+use Rattle.board_call.specs.declared.Call.the-variants.{PageWrite}
 use Rattle.board_call.specs.declared.Call.the-variants.{Register, Top, Claim, Signals, Move}
 
 abbrev pub Small : Call → Type 0

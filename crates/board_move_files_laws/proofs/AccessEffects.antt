@@ -17,16 +17,20 @@ use Rattle.file.specs.Parts.{withDelivery, withThreshold}
 use Rattle.file.specs.Register.{written}
 use Rattle.file_laws.proofs.Keeps.{Rules}
 use Rattle.board_move_steps.specs.Steps.{deliveryAt, thresholdAt, pendingAt, enableAt, actOf}
-use Rattle.board_move_files_laws.specs.Related.{Three, actedOn, Untouched, Shared, Noted, Restored, Related}
-use Rattle.board_move_files_laws.proofs.ActedLaws.{withNew, acted-delivery, acted-threshold, acted-silence}
-use Rattle.board_move_files_laws.proofs.ActedLaws.{acted-hold, acted-clear, acted-target, acted-pending}
+use Rattle.board_move_files_laws.specs.Related.{Three, actedOn, Untouched, Shared, Noted, Restored}
+use Rattle.board_move_files_laws.specs.Related.{Related}
+use Rattle.board_move_files_laws.proofs.ActedLaws.{withNew, acted-delivery, acted-threshold}
+use Rattle.board_move_files_laws.proofs.ActedLaws.{acted-silence}
+use Rattle.board_move_files_laws.proofs.ActedLaws.{acted-hold, acted-clear, acted-target}
+use Rattle.board_move_files_laws.proofs.ActedLaws.{acted-pending}
 use Rattle.board_move_files_laws.proofs.ActedLaws.{acted-enable, acted-set, acted-write, acted-shut}
 use Rattle.board_move_files_laws.proofs.ActedLaws.{acted-open}
 use Rattle.board_move_files_laws.proofs.WrittenEffects.{member-stays}
 use Rattle.board_move_files_laws.proofs.SharedEffects.{shared-later, shared-clear, shared-set}
 use Rattle.board_move_files_laws.proofs.NotedEffects.{noted-later, noted-delivery, noted-threshold}
 use Rattle.board_move_files_laws.proofs.NotedEffects.{noted-pending, noted-enable}
-use Rattle.board_move_files_laws.proofs.RestoredEffects.{restored-early, restored-enable, restored-threshold}
+use Rattle.board_move_files_laws.proofs.RestoredEffects.{restored-early, restored-enable}
+use Rattle.board_move_files_laws.proofs.RestoredEffects.{restored-threshold}
 use Rattle.board_move_files_laws.proofs.RestoredEffects.{restored-delivery}
 
 module _ (n : ℕ) (x : Three) (c : File) (r : Related n x c) where

@@ -17,7 +17,8 @@ use Rattle.file_select.specs.Halves.{doubleword}
 use Rattle.file_select.specs.Deliveries.{deliveryLegal}
 use Rattle.file_select.proofs.DeliveriesLaws.{legal-switch}
 use Rattle.file_select.proofs.SelectLaws.{legal-named, legal-words, words-there}
-use Rattle.file_select.proofs.SelectLaws.{register-delivery, register-threshold, register-pending, register-enable}
+use Rattle.file_select.proofs.SelectLaws.{register-delivery, register-threshold, register-pending}
+use Rattle.file_select.proofs.SelectLaws.{register-enable}
 use Rattle.file.specs.declared.File.{File}
 use Rattle.file.specs.declared.register.Access.{Access}
 use Rattle.file.specs.declared.register.Access.the-variants.{Read, Write, Set}

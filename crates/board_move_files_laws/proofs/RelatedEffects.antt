@@ -28,7 +28,8 @@ use Rattle.board_move_files_laws.proofs.RestoredEffects.{restored-early
 use Rattle.board_move_files_laws.proofs.AccessEffects.{delivery-saved, threshold-saved, old-silenced}
 use Rattle.board_move_files_laws.proofs.AccessEffects.{new-held, new-cleared, target-rewritten}
 use Rattle.board_move_files_laws.proofs.AccessEffects.{pending-saved, enable-saved, pending-set}
-use Rattle.board_move_files_laws.proofs.AccessEffects.{enable-written, threshold-written, delivery-written}
+use Rattle.board_move_files_laws.proofs.AccessEffects.{enable-written, threshold-written}
+use Rattle.board_move_files_laws.proofs.AccessEffects.{delivery-written}
 
 -- ---- before the first access
 

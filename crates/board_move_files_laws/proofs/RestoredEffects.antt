@@ -15,7 +15,8 @@ use Rattle.file.specs.Shape.{Shaped}
 use Rattle.file.specs.Parts.{withDelivery, withThreshold}
 use Rattle.file.specs.Register.{written}
 use Rattle.board_move_files_laws.specs.Related.{Restored}
-use Rattle.board_move_files_laws.proofs.WrittenEffects.{stays, keptOf, kept-same, kept-other, member-written}
+use Rattle.board_move_files_laws.proofs.WrittenEffects.{stays, keptOf, kept-same, kept-other}
+use Rattle.board_move_files_laws.proofs.WrittenEffects.{member-written}
 use Rattle.board_move_files_laws.proofs.WrittenEffects.{hasBit-doubleword}
 
 -- nothing is written back before access 84

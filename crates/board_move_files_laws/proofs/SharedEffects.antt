@@ -17,7 +17,8 @@ use Rattle.file.specs.declared.File.{File}
 use Rattle.file.specs.Shape.{Shaped}
 use Rattle.file.specs.Register.{written}
 use Rattle.board_move_files_laws.specs.Related.{Shared}
-use Rattle.board_move_files_laws.proofs.WrittenEffects.{stays, keptOf, kept-same, kept-other, member-written}
+use Rattle.board_move_files_laws.proofs.WrittenEffects.{stays, keptOf, kept-same, kept-other}
+use Rattle.board_move_files_laws.proofs.WrittenEffects.{member-written}
 use Rattle.board_move_files_laws.proofs.WrittenEffects.{hasBit-doubleword}
 
 -- ---- messages: those that b names are added

@@ -21,7 +21,8 @@ use Rattle.board_call.specs.declared.Call.{Call}
 use Rattle.board_call.specs.Refusal.{testsRules, present, blockRefusal, nameRefusal, refusalOf}
 use Rattle.board_call.specs.Change.{signalAt}
 use Rattle.board_call.specs.Outcome.{outcome}
-use Rattle.board_call.proofs.RefusalLaws.{refused-state, refused-log, refused-rules, blocks-sound, blocks-untested}
+use Rattle.board_call.proofs.RefusalLaws.{refused-state, refused-log, refused-rules, blocks-sound}
+use Rattle.board_call.proofs.RefusalLaws.{blocks-untested}
 use Rattle.board_call.proofs.RefusalLaws.{refused-name, refused-address, refused-select, numbers-name}
 use Rattle.board_call.proofs.RefusalLaws.{refused-blocks, refused-numbers, passed-state}
 use Rattle.board_call_laws.proofs.GivesEffects.{gives-one}

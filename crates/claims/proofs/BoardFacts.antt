@@ -21,10 +21,12 @@ use Rattle.words.specs.Bits.{bitOf, hasBit}
 use Rattle.board_block_laws.proofs.BlockBack.{board-back, length-blockOf}
 use Rattle.board_block_laws.proofs.StartEffects.{start-sound, start-shaped}
 use Rattle.board_call.specs.declared.Call.{Call}
-use Rattle.board_call.specs.declared.Call.the-variants.{Reset, Wire, DomainRead, DomainWrite, PageRead, PageWrite}
+use Rattle.board_call.specs.declared.Call.the-variants.{Reset, Wire, DomainRead, DomainWrite, PageRead}
+use Rattle.board_call.specs.declared.Call.the-variants.{PageWrite}
 use Rattle.board_call.specs.declared.Call.the-variants.{Register, Top, Claim, Signals, Move}
 use Rattle.board_call.specs.Change.{onFile, answering, change}
-use Rattle.board_call.specs.Refusal.{testsRules, present, addressed, selected, isWire, isFile, isGuestFile, isMove}
+use Rattle.board_call.specs.Refusal.{testsRules, present, addressed, selected, isWire, isFile, isGuestFile}
+use Rattle.board_call.specs.Refusal.{isMove}
 use Rattle.board_call.specs.Refusal.{isPageAddress}
 use Rattle.board_call.proofs.RefusalLaws.{numbers-name}
 use Rattle.board_call.specs.Refusal.{refusalOf}

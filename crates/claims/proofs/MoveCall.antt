@@ -36,7 +36,8 @@ use Rattle.board_move_files_laws.proofs.TableLaws.{act-else}
 use Rattle.board_move_files_laws.specs.Related.{Three, actedOn}
 use Rattle.board_move_files_laws.proofs.ActedLaws.{withNew, withNumber, acted-delivery, acted-threshold}
 use Rattle.board_move_files_laws.proofs.ActedLaws.{acted-silence, acted-hold, acted-clear, acted-pending}
-use Rattle.board_move_files_laws.proofs.ActedLaws.{acted-enable, acted-set, acted-write, acted-shut, acted-open}
+use Rattle.board_move_files_laws.proofs.ActedLaws.{acted-enable, acted-set, acted-write, acted-shut}
+use Rattle.board_move_files_laws.proofs.ActedLaws.{acted-open}
 use Rattle.board_move_files_laws.proofs.ActedLaws as files
 use Rattle.board_move_files_laws.proofs.WrittenEffects.{stays}
 use Rattle.board_move_files_laws.proofs.WrittenEffects.{member-stays}
@@ -51,7 +52,8 @@ use Rattle.board_call.specs.Outcome.{Stepped, step}
 use Rattle.board_call_laws.specs.Fit.{Fit}
 use Rattle.board_call_laws.proofs.CallTests.{quiet}
 use Rattle.board_call_laws.proofs.FitEffects.{fit-steady, fit-rules}
-use Rattle.board_call_laws.proofs.MoveEffects.{guest-hart, guest-low, guest-high, guest-number, move-old, move-new}
+use Rattle.board_call_laws.proofs.MoveEffects.{guest-hart, guest-low, guest-high, guest-number, move-old}
+use Rattle.board_call_laws.proofs.MoveEffects.{move-new}
 use Rattle.board_call_laws.proofs.MoveEffects.{move-apart, move-low, move-high, step-move}
 use Rattle.transfer_laws.proofs.ArrivalEffects.{three}
 use Rattle.transfer_laws.proofs.ActedEffects.{acted-three, acted-others, acted-wired}

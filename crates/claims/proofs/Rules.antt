@@ -21,11 +21,13 @@ use Rattle.domain_laws.proofs.SlotEffects.{domainOf-shaped}
 use Rattle.wired_state.specs.Wires.{Wired, wiredOf, isDelegated}
 use Rattle.wired_state.proofs.WiresLaws.{root-long, child-long}
 use Rattle.source_laws.proofs.ModeEffects.{active-delegated}
-use Rattle.wired_rules.specs.Rules.{configRange, generatedRange, structureRange, sourceZeroRule, generatedRule}
+use Rattle.wired_rules.specs.Rules.{configRange, generatedRange, structureRange, sourceZeroRule}
+use Rattle.wired_rules.specs.Rules.{generatedRule}
 use Rattle.wired_rules.specs.Rules.{delegatedRule, wiredSound}
 use Rattle.wired_rules_laws.specs.Steady.{Steady, Quiet, WiredSteady, passed}
 use Rattle.wired_rules_laws.proofs.SoundParts.{wired-sound-steady, wired-sound-quiet, wired-sound-joined}
-use Rattle.wired_rules_laws.proofs.WiredEffects.{delegated-yes, delegated-zero, steady-wireSet, steady-claimedIn}
+use Rattle.wired_rules_laws.proofs.WiredEffects.{delegated-yes, delegated-zero, steady-wireSet}
+use Rattle.wired_rules_laws.proofs.WiredEffects.{steady-claimedIn}
 use Rattle.wired_rules_laws.proofs.WiredEffects.{steady-passed, sound-passed}
 use Rattle.wired_rules_laws.proofs.DelegationEffects.{steady-writtenIn}
 use Rattle.wired_rules_laws.proofs.WiredSameEffects.{delegated-word}

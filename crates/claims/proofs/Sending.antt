@@ -5,7 +5,8 @@ use Rattle.domain_genmsi.specs.Genmsi.{generatedOf}
 use Rattle.domain_sending.specs.Sending.{Sent}
 use Rattle.domain_sending.proofs.SendingLaws.{sent-off}
 use Rattle.domain_genmsi.proofs.GenmsiLaws.{generated-on, generated-off}
-use Rattle.domain_sending_laws.proofs.SendingEffects.{sent-count, sent-rest, sent-quiet, sent-pending, sent-messages}
+use Rattle.domain_sending_laws.proofs.SendingEffects.{sent-count, sent-rest, sent-quiet, sent-pending}
+use Rattle.domain_sending_laws.proofs.SendingEffects.{sent-messages}
 use Rattle.domain_sending_laws.proofs.MessageEffects.{sent-named}
 use Rattle.claims.specs.Sending.{Claim-50, Claim-51, Claim-52, Claim-53, Claim-54}
 

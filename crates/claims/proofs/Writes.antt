@@ -12,7 +12,8 @@ use Rattle.words.specs.Parts.{fieldOf, packed}
 use Rattle.words.specs.Sets.{member}
 use Rattle.words.proofs.TestsLaws.{tested, beq-same, beq-differs, not-same}
 use Rattle.source_mode.specs.Mode.{isActive}
-use Rattle.source_target.specs.Target.{hartOf, guestOf, numberOf, startTarget, priorityOf, receiverOf, keptTarget}
+use Rattle.source_target.specs.Target.{hartOf, guestOf, numberOf, startTarget, priorityOf, receiverOf}
+use Rattle.source_target.specs.Target.{keptTarget}
 use Rattle.domain_region.specs.declared.Word.the-variants.{Sourcecfg}
 use Rattle.source_target.proofs.TargetLaws.{hartOf-lt, guestOf-lt, numberOf-lt}
 use Rattle.source.specs.declared.Source.{Source}

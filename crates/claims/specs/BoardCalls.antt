@@ -24,7 +24,8 @@ use Rattle.board_block.specs.Start.{startBoard}
 use Rattle.board_block_laws.specs.Shape.{BoardShaped}
 use Rattle.board_call.specs.declared.Answer.{Answer}
 use Rattle.board_call.specs.declared.Call.{Call}
-use Rattle.board_call.specs.declared.Call.the-variants.{Reset, Wire, DomainRead, DomainWrite, PageRead, PageWrite}
+use Rattle.board_call.specs.declared.Call.the-variants.{Reset, Wire, DomainRead, DomainWrite, PageRead}
+use Rattle.board_call.specs.declared.Call.the-variants.{PageWrite}
 use Rattle.board_call.specs.declared.Call.the-variants.{Register, Top, Claim, Signals}
 use Rattle.board_call.specs.Refusal.{testsRules, present, addressed, selected, refusalOf}
 use Rattle.board_call.specs.Change.{signalsTo}

@@ -13,7 +13,8 @@ use denote.Ref.{RefT, now}
 use Rattle.files.specs.Files.{fileNumber, theFile}
 use Rattle.board_block.specs.Block.{Board, boardSound}
 use Rattle.board_call.specs.declared.Call.{Call}
-use Rattle.board_call.specs.declared.Call.the-variants.{Reset, Wire, DomainRead, DomainWrite, PageRead, PageWrite}
+use Rattle.board_call.specs.declared.Call.the-variants.{Reset, Wire, DomainRead, DomainWrite, PageRead}
+use Rattle.board_call.specs.declared.Call.the-variants.{PageWrite}
 use Rattle.board_call.specs.declared.Call.the-variants.{Register, Top, Claim, Signals, Move}
 use Rattle.board_call.specs.Refusal.{testsRules, refusalOf}
 use Rattle.board_call.specs.Outcome.{step}

@@ -10,7 +10,8 @@ use Rattle.words.specs.Parts.{reversed}
 use Rattle.words.specs.Sets.{member}
 use Rattle.source_mode.specs.Mode.{sourceWord}
 use Rattle.domain_region.specs.declared.Word.{Word}
-use Rattle.domain_region.specs.declared.Word.the-variants.{Sourcecfg, Setip, Setipnum, InClrip, Clripnum, SetipnumLe}
+use Rattle.domain_region.specs.declared.Word.the-variants.{Sourcecfg, Setip, Setipnum, InClrip, Clripnum}
+use Rattle.domain_region.specs.declared.Word.the-variants.{SetipnumLe}
 use Rattle.domain_region.specs.declared.Word.the-variants.{SetipnumBe, Claimi}
 use Rattle.source.specs.Pending.{moded}
 use Rattle.domain.specs.Domain.{Domain, isEnabled, byMessages}

@@ -1,6 +1,6 @@
 // A source's slot: its mode and target words, its pending and enable bits.
 ghost use mathlib.Core.Path.{_≡_};
-ghost use Prim.Native.Nat.{_≤_, _<_};
+ghost use Prim.Native.Nat.{_<_};
 ghost use lib.ListN.{length};
 ghost use Rattle.sizes.specs.Sizes.{slotCount, domainSize};
 ghost use Rattle.domain.specs.Domain.{domainOf};

@@ -1,6 +1,6 @@
 // What a write to domaincfg does to its domain, before anything is sent.
 ghost use mathlib.Core.Path.{_≡_};
-ghost use Prim.Native.Nat.{_-_, _≤_, _<_};
+ghost use Prim.Native.Nat.{_-_, _<_};
 ghost use lib.ListN.{length};
 ghost use Rattle.sizes.specs.Sizes.{sourceCount, slotCount, domainSize};
 ghost use Rattle.domain.specs.Domain.{domainOf};

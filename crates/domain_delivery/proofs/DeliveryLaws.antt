@@ -10,7 +10,8 @@ use borrow.Author.Tests.{eqb-true, eqb-false, leb-true, ltb-true, not-true}
 use borrow.Author.Tests.{lt-ltb, le-ltb, le-leb, lt-leb, eq-eqb, ne-eqb}
 use Rattle.words.proofs.TestsLaws.{tested, and-first, and-second, and-both, or-cases}
 use Rattle.domain_delivery.specs.declared.Delivery.{Delivery}
-use Rattle.domain_delivery.specs.Delivery.{switchOf, withIdelivery, withIforce, withIthreshold, withoutForce}
+use Rattle.domain_delivery.specs.Delivery.{switchOf, withIdelivery, withIforce, withIthreshold}
+use Rattle.domain_delivery.specs.Delivery.{withoutForce}
 use Rattle.domain_delivery.specs.Delivery.{deliverySound, lets, structureSignals}
 
 -- ---- writes

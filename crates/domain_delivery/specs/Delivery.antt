@@ -7,7 +7,7 @@
 --   withoutForce d        d after a claimi that answered 0 (4.8.1.5)
 --   deliverySound d       the numbers lie in their ranges: the first two 0 or 1, the threshold below 256
 --   lets d p              the threshold lets priority p through: it is 0, or p is below it (4.8.1.3)
---   structureSignals d e t         the signal to the hart, with IE e and topi t, in direct mode (4.8.2)
+--   structureSignals d e t   the signal to the hart, with IE e and topi t, in direct mode (4.8.2)
 -- All 32 bits of a written v count for the first two. A threshold P shuts out P itself.
 use Prim.Native.Nat.{ℕ, _%_}
 use mathlib.Core.Bool.{Bool, cond, not, _&&_, _||_}

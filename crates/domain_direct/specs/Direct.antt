@@ -2,7 +2,7 @@
 -- "Direct delivery and signals"; the standard 4.8.1, 4.8.2.
 --   unforced d h              d with iforce of hart h cleared
 --   released d i              d with the pending bit of source i cleared as 4.7 allows in direct mode
---   hartClaimed d h               d after a claimi: the top released; with no top, iforce cleared (4.8.1.5)
+--   hartClaimed d h           d after a claimi: the top released; with no top, iforce cleared (4.8.1.5)
 --   signalOf d h              the signal of d to hart h (4.8.2)
 --   numberAt x g              the settable number g of a structure x
 --   writtenAt x g v           x after v was written to its number g
@@ -15,7 +15,8 @@ use mathlib.Core.Bool.{Bool, false, cond, not, _&&_}
 use lib.Dec.{eqb}
 use Rattle.source.specs.Pending.{cleared}
 use Rattle.domain_delivery.specs.declared.Delivery.{Delivery}
-use Rattle.domain_delivery.specs.Delivery.{withIdelivery, withIforce, withIthreshold, withoutForce, structureSignals}
+use Rattle.domain_delivery.specs.Delivery.{withIdelivery, withIforce, withIthreshold, withoutForce}
+use Rattle.domain_delivery.specs.Delivery.{structureSignals}
 use Rattle.domain.specs.Domain.{Domain, isEnabled, byMessages}
 use Rattle.domain.specs.Slot.{sourceAt, withSource}
 use Rattle.domain.specs.Structure.{structureAt, withStructure}

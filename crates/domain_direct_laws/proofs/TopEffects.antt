@@ -13,7 +13,8 @@ use Rattle.source_target.proofs.TargetLaws.{numberOf-lt}
 use Rattle.domain.specs.Domain.{Domain, byMessages}
 use Rattle.domain.specs.Slot.{sourceAt}
 use Rattle.domain_direct.specs.Direct.{eligible, precedes, topFrom, topSource, topiOf, hartClaimed}
-use Rattle.domain_topi.proofs.TopLaws.{better, precedes-none, precedes-some, better-new, better-late, better-other}
+use Rattle.domain_topi.proofs.TopLaws.{better, precedes-none, precedes-some, better-new, better-late}
+use Rattle.domain_topi.proofs.TopLaws.{better-other}
 use Rattle.domain_topi.proofs.TopLaws.{topFrom-end, topFrom-next, topSource-lt}
 use Rattle.domain_topi.proofs.WordLaws as word
 use Rattle.domain_direct.proofs.DirectLaws as direct

@@ -1,7 +1,6 @@
 -- A domain whose lists have their lengths, as that of 144 words has. Assumes nothing.
 --   DomainShaped d    64 sourcecfg and target words, two words each of pending and enable bits, three
---                     numbers of
---               each of four harts
+--                     numbers of each of four harts
 use mathlib.Core.Path.{_≡_}
 use lib.ListN.{length}
 use Rattle.sizes.specs.Sizes.{slotCount, sourceSetSize, structuresSize}

@@ -11,9 +11,11 @@ use lib.ListN.{take, drop}
 use borrow.Author.Tests.{eqb-true, leb-true, ltb-true, le-leb, le-ltb, lt-ltb, eq-eqb}
 use Rattle.words.proofs.TestsLaws.{and-first, and-second, and-both}
 use Rattle.domain_region.specs.declared.Word.{Word}
-use Rattle.domain_region.specs.declared.Word.the-variants.{Domaincfg, Sourcecfg, Setip, Setipnum, InClrip}
+use Rattle.domain_region.specs.declared.Word.the-variants.{Domaincfg, Sourcecfg, Setip, Setipnum}
+use Rattle.domain_region.specs.declared.Word.the-variants.{InClrip}
 use Rattle.domain_region.specs.declared.Word.the-variants.{Clripnum, Setie, Setienum, Clrie, Clrienum}
-use Rattle.domain_region.specs.declared.Word.the-variants.{SetipnumLe, SetipnumBe, Genmsi, Target, Idelivery}
+use Rattle.domain_region.specs.declared.Word.the-variants.{SetipnumLe, SetipnumBe, Genmsi, Target}
+use Rattle.domain_region.specs.declared.Word.the-variants.{Idelivery}
 use Rattle.domain_region.specs.declared.Word.the-variants.{Iforce, Ithreshold, Topi, Claimi, Unused}
 use Rattle.domain_region.specs.Region.{addressLegal, Row, wordsFrom, registers, nameIn, wordIn}
 use Rattle.domain_region.specs.Region.{wordAt, Within}

@@ -10,9 +10,11 @@ use lib.Dec.{T}
 use mir.Val.{hasKey}
 use types.Run.{OneOf, miss}
 use Rattle.domain_region.specs.declared.Word.{Word}
-use Rattle.domain_region.specs.declared.Word.the-variants.{Domaincfg, Sourcecfg, Setip, Setipnum, InClrip}
+use Rattle.domain_region.specs.declared.Word.the-variants.{Domaincfg, Sourcecfg, Setip, Setipnum}
+use Rattle.domain_region.specs.declared.Word.the-variants.{InClrip}
 use Rattle.domain_region.specs.declared.Word.the-variants.{Clripnum, Setie, Setienum, Clrie, Clrienum}
-use Rattle.domain_region.specs.declared.Word.the-variants.{SetipnumLe, SetipnumBe, Genmsi, Target, Idelivery}
+use Rattle.domain_region.specs.declared.Word.the-variants.{SetipnumLe, SetipnumBe, Genmsi, Target}
+use Rattle.domain_region.specs.declared.Word.the-variants.{Idelivery}
 use Rattle.domain_region.specs.declared.Word.the-variants.{Iforce, Ithreshold, Topi, Claimi, Unused}
 use Rattle.domain_region.specs.declared.role.Role.{Role}
 use Rattle.domain_region.specs.declared.role.Role.the-variants.{Claims, Configures, Generates, Plain}

@@ -16,9 +16,11 @@ use mathlib.Core.List.{List, [], _∷_}
 use lib.Dec.{eqb, leb, ltb}
 use Rattle.sizes.specs.Sizes.{hartCount, sourceCount, sourceSetSize}
 use Rattle.domain_region.specs.declared.Word.{Word}
-use Rattle.domain_region.specs.declared.Word.the-variants.{Domaincfg, Sourcecfg, Setip, Setipnum, InClrip}
+use Rattle.domain_region.specs.declared.Word.the-variants.{Domaincfg, Sourcecfg, Setip, Setipnum}
+use Rattle.domain_region.specs.declared.Word.the-variants.{InClrip}
 use Rattle.domain_region.specs.declared.Word.the-variants.{Clripnum, Setie, Setienum, Clrie, Clrienum}
-use Rattle.domain_region.specs.declared.Word.the-variants.{SetipnumLe, SetipnumBe, Genmsi, Target, Idelivery}
+use Rattle.domain_region.specs.declared.Word.the-variants.{SetipnumLe, SetipnumBe, Genmsi, Target}
+use Rattle.domain_region.specs.declared.Word.the-variants.{Idelivery}
 use Rattle.domain_region.specs.declared.Word.the-variants.{Iforce, Ithreshold, Topi, Claimi, Unused}
 
 unfoldable pub addressLegal : ℕ → Bool

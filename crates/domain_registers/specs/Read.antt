@@ -1,4 +1,5 @@
--- What a read of a register does besides; what it gives is in Rattle.domain_values. 01, "The wired controller",
+-- What a read of a register does besides; what it gives is in Rattle.domain_values. 01, "The wired
+-- controller",
 -- "Direct delivery and signals". Assumes nothing.
 --   registerValue d ws w           what a register reads: Rattle.domain_values
 --   claimedAs d r            d after a register of role r was read: a claimi claims, the others do nothing

@@ -8,9 +8,12 @@ use mathlib.Core.Bool.{Bool}
 use mathlib.Core.List.{List}
 use Rattle.words.specs.Parts.{reversed}
 use Rattle.domain_region.specs.declared.Word.{Word}
-use Rattle.domain_region.specs.declared.Word.the-variants.{Domaincfg, Sourcecfg, Setip, Setipnum, InClrip, Clripnum}
-use Rattle.domain_region.specs.declared.Word.the-variants.{Setie, Setienum, Clrie, Clrienum, SetipnumLe, SetipnumBe}
-use Rattle.domain_region.specs.declared.Word.the-variants.{Genmsi, Target, Idelivery, Iforce, Ithreshold, Topi}
+use Rattle.domain_region.specs.declared.Word.the-variants.{Domaincfg, Sourcecfg, Setip, Setipnum, InClrip}
+use Rattle.domain_region.specs.declared.Word.the-variants.{Clripnum}
+use Rattle.domain_region.specs.declared.Word.the-variants.{Setie, Setienum, Clrie, Clrienum, SetipnumLe}
+use Rattle.domain_region.specs.declared.Word.the-variants.{SetipnumBe}
+use Rattle.domain_region.specs.declared.Word.the-variants.{Genmsi, Target, Idelivery, Iforce, Ithreshold}
+use Rattle.domain_region.specs.declared.Word.the-variants.{Topi}
 use Rattle.domain_region.specs.declared.Word.the-variants.{Claimi}
 use Rattle.domain_region.specs.declared.Word.the-variants.{Unused}
 use Rattle.source.specs.declared.Change.the-variants.{Pend, Clear, Enable, Disable}

@@ -12,7 +12,8 @@ use Rattle.source_target.specs.Target.{messageOf}
 use Rattle.source.specs.Pending.{withPending}
 use Rattle.domain.specs.Domain.{Domain, isEnabled, byMessages}
 use Rattle.domain.specs.Slot.{sourceAt, withSource}
-use Rattle.domain_sending.specs.Sending.{Sent, candidate, sentNothing, servedAt, messagesAt, sentFrom, sent}
+use Rattle.domain_sending.specs.Sending.{Sent, candidate, sentNothing, servedAt, messagesAt, sentFrom}
+use Rattle.domain_sending.specs.Sending.{sent}
 use Rattle.domain_sending.specs.Sending.{logged}
 
 -- ---- the turn of one source

@@ -12,7 +12,8 @@ use Rattle.words.proofs.TestsLaws.{tested, not-same}
 use Rattle.file_message.specs.Message.{logWord, fileIn}
 use Rattle.source_target.specs.Target.{hartOf, guestOf, numberOf, messageOf}
 use Rattle.domain_genmsi.specs.Genmsi.{generatedOf}
-use Rattle.source_target.proofs.TargetLaws.{hartOf-lt, guestOf-lt, numberOf-lt, message-child, message-machine}
+use Rattle.source_target.proofs.TargetLaws.{hartOf-lt, guestOf-lt, numberOf-lt, message-child}
+use Rattle.source_target.proofs.TargetLaws.{message-machine}
 use Rattle.file_message.proofs.MessageLaws.{fileIn-logWord}
 use Rattle.domain_genmsi.proofs.GenmsiLaws.{generated-child, generated-machine}
 use Rattle.domain.specs.Domain.{Domain, isEnabled, byMessages}

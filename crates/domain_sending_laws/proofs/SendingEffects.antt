@@ -22,7 +22,8 @@ use Rattle.domain.proofs.SlotLaws.{source-path}
 use Rattle.domain_laws.proofs.SetsBack.{member-within}
 use Rattle.domain_laws.proofs.SlotEffects.{withSource-unpended}
 use Rattle.domain_sending.specs.Sending.{candidate, Sent, sentNothing, servedAt, messagesAt, sentFrom, sent}
-use Rattle.domain_sending.proofs.SendingLaws.{served-hit, served-miss, messages-hit, messages-miss, messages-le}
+use Rattle.domain_sending.proofs.SendingLaws.{served-hit, served-miss, messages-hit, messages-miss}
+use Rattle.domain_sending.proofs.SendingLaws.{messages-le}
 use Rattle.domain_sending.proofs.SendingLaws.{from-none, sent-on, sent-off}
 use Rattle.domain_sending_laws.specs.Candidates.{numbersFrom, thoseWith, candidates, messageAt, spent}
 use Rattle.domain_sending_laws.specs.Candidates.{DomainPendingOnly}

@@ -5,7 +5,7 @@
 --   candidates d          the sources of 1 to 63 that are active, pending and enabled, ascending
 --   messageAt c d i       the message that source i would send, in the child (c) or the machine domain
 --   spent s               a source after its turn: if it was to be sent, its pending bit is clear
---   DomainPendingOnly d d′      d′ is d in all but its pending bits
+--   DomainPendingOnly d d′   d′ is d in all but its pending bits
 --   Names c m             the log word m names a file that the domain sends to: file 0 for the machine
 --                         domain, a file of 1 to 4 for the child
 use Prim.Native.Nat.{ℕ, zero, suc, _≤_, _<_}

@@ -20,7 +20,8 @@ use Rattle.words.proofs.ZerosLaws.{bitOf-below, bitOf-lowest, bitOf-shr, bitOf-
 use Rattle.domain.specs.Domain.{Domain}
 use Rattle.domain.proofs.SlotLaws.{pending-word, enable-word}
 use Rattle.domain_topi.specs.Top.{standing, eligible, topFrom, topSource}
-use Rattle.domain_topi.proofs.TopLaws.{better, better-lt, eligible-unstanding, topFrom-none, topFrom-skip}
+use Rattle.domain_topi.proofs.TopLaws.{better, better-lt, eligible-unstanding, topFrom-none}
+use Rattle.domain_topi.proofs.TopLaws.{topFrom-skip}
 use Rattle.domain_topi.proofs.TopLaws.{topFrom-next-to}
 
 -- ---- two words as one

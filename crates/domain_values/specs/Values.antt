@@ -1,14 +1,18 @@
 -- What a read of a register gives. 01, "The wired controller", "Direct delivery and signals". Assumes
 -- nothing.
---   registerValue d ws w     what register w of d reads; ws are the wires
+--   configMark            what domaincfg reads above the stored word
+--   registerValue d ws w  what register w of d reads; ws are the wires
 -- domaincfg reads 0x80 in bits 31:24. clrie and the number registers read 0, and so does what is not named.
 use Prim.Native.Nat.{ℕ, _+_}
 use mathlib.Core.List.{List}
 use lib.ListN.{getD}
 use Rattle.domain_region.specs.declared.Word.{Word}
-use Rattle.domain_region.specs.declared.Word.the-variants.{Domaincfg, Sourcecfg, Setip, Setipnum, InClrip, Clripnum}
-use Rattle.domain_region.specs.declared.Word.the-variants.{Setie, Setienum, Clrie, Clrienum, SetipnumLe, SetipnumBe}
-use Rattle.domain_region.specs.declared.Word.the-variants.{Genmsi, Target, Idelivery, Iforce, Ithreshold, Topi}
+use Rattle.domain_region.specs.declared.Word.the-variants.{Domaincfg, Sourcecfg, Setip, Setipnum, InClrip}
+use Rattle.domain_region.specs.declared.Word.the-variants.{Clripnum}
+use Rattle.domain_region.specs.declared.Word.the-variants.{Setie, Setienum, Clrie, Clrienum, SetipnumLe}
+use Rattle.domain_region.specs.declared.Word.the-variants.{SetipnumBe}
+use Rattle.domain_region.specs.declared.Word.the-variants.{Genmsi, Target, Idelivery, Iforce, Ithreshold}
+use Rattle.domain_region.specs.declared.Word.the-variants.{Topi}
 use Rattle.domain_region.specs.declared.Word.the-variants.{Claimi, Unused}
 use Rattle.domain.specs.Domain.{Domain, configOf}
 use Rattle.domain.specs.Slot.{sourceAt}
@@ -17,7 +21,6 @@ use Rattle.domain_inputs.specs.Inputs.{inputWord}
 use Rattle.domain_direct.specs.declared.Setting.the-variants as setting
 use Rattle.domain_direct.specs.Direct.{topiOf, settingOf}
 
--- what domaincfg reads above the stored word
 abbrev pub configMark : ℕ
 configMark = 0x80000000
 

@@ -26,7 +26,8 @@ use Rattle.domain_laws.proofs.OwnEffects.{byMessages-withSource}
 use Rattle.domain_laws.proofs.SlotEffects.{withSource-back}
 use Rattle.domain_laws.proofs.SlotEffects.{sourceAt-withSource-same, sourceAt-withSource-other}
 use Rattle.domain_laws.proofs.BecameEffects.{touched-none, touched-as, touched-withSource}
-use Rattle.domain_writes.specs.Writes.{changedAt, changedBit, changedFrom, wordChanged, numberChanged, targetWritten}
+use Rattle.domain_writes.specs.Writes.{changedAt, changedBit, changedFrom, wordChanged, numberChanged}
+use Rattle.domain_writes.specs.Writes.{targetWritten}
 use Rattle.domain_writes.proofs.WritesLaws.{bit-set, bit-clear, word-first, word-second}
 use Rattle.domain_writes.proofs.WritesLaws.{number-below, number-above, number-within}
 use Rattle.domain_writes_laws.specs.Named.{named, changing}

@@ -1,8 +1,8 @@
 -- Select numbers: which are legal, and which register each names. 01, "One message file"; the standard 3.8.
 -- Assumes nothing.
---   eidelivery, eithreshold, eip0, eie0    the select numbers of these registers
+--   eidelivery, eithreshold, eip0, eie0   the select numbers of these registers
 --   selectLegal s           0x70 to 0xFF, but no odd number from 0x80 on
---   registersFrom n base r s    r j if s is base + 2j and a file of n identities has 64j; else reads 0
+--   registersFrom n base r s   r j if s is base + 2j and a file of n identities has 64j; else reads 0
 --   registerOf n s          the register that a legal s names in a file of n identities
 use Prim.Native.Nat.{ℕ, _-_, _/_, _%_}
 use mathlib.Core.Bool.{Bool, cond, not, _&&_}

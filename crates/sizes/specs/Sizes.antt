@@ -7,10 +7,8 @@
 --   sourceCount                         a domain has the sources 1 to 63
 --   fileSetSize, sourceSetSize          the words of a set of identities, and of a set of sources
 --   ..Size                              how many words something takes: a file, the files, a delivery
---                                       structure,
---                                       the four of a domain, a domain, the wired controller, the block, the
---                                       log;
---                                       recordSize: the 64-bit numbers that a move saves
+--                                       structure, the four of a domain, a domain, the wired controller,
+--                                       the block, the log; recordSize: the 64-bit numbers that a move saves
 --   slotCount                           a domain has a word at each number 0 to 63, twice: number 0 is the
 --                                       domain's own, the others are the sources'
 --   ..Place                             the first word of a part in what holds it

@@ -7,7 +7,8 @@ use lib.Dec.{eqb}
 use Rattle.words.specs.Parts.{fieldOf, packed}
 use Rattle.words.proofs.PartsLaws.{fieldOf-packed}
 use Rattle.words.proofs.TestsLaws.{tested}
-use Rattle.source_target.specs.Target.{hartOf, guestOf, numberOf, startTarget, priorityOf, receiverOf, keptTarget}
+use Rattle.source_target.specs.Target.{hartOf, guestOf, numberOf, startTarget, priorityOf, receiverOf}
+use Rattle.source_target.specs.Target.{keptTarget}
 use Rattle.source_target.proofs.TargetLaws.{hartOf-lt, guestOf-lt, numberOf-lt, receiver-lt}
 
 -- ---- what stands below a hart

@@ -1,4 +1,5 @@
 -- The sourcecfg word of a source. 01, "The wired controller"; the standard 4.5.2. Assumes nothing.
+--   delegatedWord         what is stored for a delegated source: bit 10
 --   isActive m            the domain has the source, with a mode other than 0; 1024 says that it is delegated
 --   isLevel m             Level1 or Level0
 --   isRectified m wire    the wire for Edge1 and Level1, its opposite for Edge0 and Level0, low for the rest
@@ -12,7 +13,6 @@ use lib.Dec.{eqb, ltb}
 use Rattle.words.specs.Bits.{hasBit}
 use Rattle.words.specs.Parts.{fieldOf}
 
--- what is stored for a delegated source: bit 10
 abbrev pub delegatedWord : ℕ
 delegatedWord = 1024
 

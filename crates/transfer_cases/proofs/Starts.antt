@@ -37,7 +37,8 @@ use Rattle.domain_config.specs.Config.{keptConfig}
 use Rattle.wired_state.specs.Wires.{wiredOf, isDelegated}
 use Rattle.source_rules.specs.SourceRules.{modeRange, targetRange, inactiveRule, levelRule, sourceSteady}
 use Rattle.source_rules.specs.SourceRules.{sentRule, sourceSound}
-use Rattle.wired_rules.specs.Rules.{configRange, generatedRange, structureRange, sourceZeroRule, generatedRule}
+use Rattle.wired_rules.specs.Rules.{configRange, generatedRange, structureRange, sourceZeroRule}
+use Rattle.wired_rules.specs.Rules.{generatedRule}
 use Rattle.wired_rules.specs.Rules.{sourceRule, domainSound, delegatedRule, wiredSound}
 use Rattle.board_move_steps.specs.Names.{namesFile, renamed}
 use Rattle.sizes.specs.Sizes.{recordSize}
@@ -51,7 +52,7 @@ use Rattle.board_runs.specs.Ready.{boardIn, Ready, AllSmall}
 use Rattle.transfer_laws.specs.Shift.{Stations, Event, withMove, withoutMove}
 use Rattle.transfer_laws.specs.Premises.{Started, ByMessages, NoneNamesNew}
 use Rattle.transfer_laws.specs.Moved.{oldIn, newIn, Moved}
-use Rattle.transfer_cases.specs.Board.{held, machineDomain, childTo, wiredTo, boardWith, lent}
+use Rattle.transfer_cases.specs.Board.{station, machineDomain, childTo, wiredTo, boardWith, lent}
 use Rattle.transfer_cases.specs.Needed.{StartedNoLog}
 use Rattle.transfer_cases.proofs.BoardRun.{heldBy, boardRun, board-run, small-with, small-without}
 
@@ -74,7 +75,7 @@ unfolding allBelow every wordsOf fileWords domainWords wiredWords blockOf file.f
     sentRule sourceSound configRange generatedRange structureRange sourceZeroRule generatedRule sourceRule
     domainSound delegatedRule wiredSound boardSound sourceAt configOf isEnabled byMessages hartOf guestOf
     numberOf receiverOf keptTarget isActive isLevel isRectified isGuest theFile deliveryLegal fieldOf packed
-    member bitOf hasBit startFile startFilesFrom startDomain startBoard renamed fileNumber withFile held
+    member bitOf hasBit startFile startFilesFrom startDomain startBoard renamed fileNumber withFile station
     machineDomain childTo wiredTo boardWith boardOf filesOf filesFrom fileAt wiredOf domainOf
 blockTests b = eqb (length (blockOf b)) 650 && allBelow (2 ^ 32) (blockOf b) && boardSound b
 

@@ -1,10 +1,10 @@
 -- Where the shifts start that are given in full. 01, "The board", "The move, with its premises". Assumes
 -- nothing.
 --   stations         the station moves from file 2 of hart 0, old, to file 3 of hart 1, new
---   held             the file old at the start: it signals, 5 is pending, and 3, 4, 5, 7, 8 and 9 are enabled
+--   station          the file old at the start: it signals, 5 is pending, and 3, 4, 5, 7, 8 and 9 are enabled
 --   wiredTo h f      the child has IE and DM; source 1 is delegated to it, is enabled, and sends identity 7
 --                    to file f of hart h when its wire rises; no other source is active
---   boardWith w      the board after a reset, but with held as old and with the wired controller w
+--   boardWith w      the board after a reset, but with station as old and with the wired controller w
 --   lent b n         the block of b, a log of n zeros, and ten zeros as the record
 use Prim.Native.Nat.{ℕ}
 use mathlib.Core.List.{[], _∷_}
@@ -24,8 +24,13 @@ use Rattle.transfer_laws.specs.Moved.{oldNumber}
 abbrev pub stations : Stations
 stations = record { oldHart = 0; oldFile = 2; newHart = 1; newFile = 3 }
 
-unfoldable pub held : File
-held = record { delivery = 1; threshold = 0; pending = 0x20 ∷ replicate 7 0; enable = 0x3B8 ∷ replicate 7 0 }
+unfoldable pub station : File
+station = record {
+  delivery = 1;
+  threshold = 0;
+  pending = 0x20 ∷ replicate 7 0;
+  enable = 0x3B8 ∷ replicate 7 0;
+}
 
 -- it has delegated source 1
 unfoldable pub machineDomain : Domain
@@ -53,7 +58,7 @@ unfoldable pub wiredTo : ℕ → ℕ → Wired
 wiredTo h f = record { wires = replicate 2 0; root = machineDomain; child = childTo h f }
 
 unfoldable pub boardWith : Wired → Board
-boardWith w = record { files = withFile (startBoard .files) (oldNumber stations) held; wired = w }
+boardWith w = record { files = withFile (startBoard .files) (oldNumber stations) station; wired = w }
 
 unfoldable pub lent : Board → ℕ → Lent
 lent b n = record { block = blockOf b; log = replicate n 0; saved = replicate recordSize 0 }

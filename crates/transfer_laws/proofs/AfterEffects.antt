@@ -27,7 +27,8 @@ use Rattle.board_call.specs.Refusal.{nameTests, nameRefusal}
 use Rattle.board_call_laws.specs.Fit.{Fit}
 use Rattle.board_call_laws.specs.Small.{Small}
 use Rattle.board_call_laws.proofs.CallTests.{quiet}
-use Rattle.board_call_laws.proofs.FileCallEffects.{onlyFile, step-pageRead, step-pageWrite, step-register, step-top}
+use Rattle.board_call_laws.proofs.FileCallEffects.{onlyFile, step-pageRead, step-pageWrite, step-register}
+use Rattle.board_call_laws.proofs.FileCallEffects.{step-top}
 use Rattle.board_call_laws.proofs.FileCallEffects.{step-claim}
 use Rattle.board_call_laws.proofs.HartCallEffects.{signal-bit, signal-guest-own}
 use Rattle.board_call_laws.proofs.MoveEffects.{guest-low, guest-high, guest-number}

@@ -33,7 +33,8 @@ use Rattle.board_move_files_laws.proofs.TableLaws.{act-else}
 use Rattle.board_move_files_laws.specs.Related.{Three, Related}
 use Rattle.board_move_files_laws.proofs.RelatedEffects.{related-act}
 use Rattle.board_move_wired_laws.specs.Retargeted.{TargetsOnly, Same, Rewritten, TargetsMoved}
-use Rattle.board_move_wired_laws.proofs.TargetNames.{names-number, names-other, numberOf-renamed, hartOf-renamed}
+use Rattle.board_move_wired_laws.proofs.TargetNames.{names-number, names-other, numberOf-renamed}
+use Rattle.board_move_wired_laws.proofs.TargetNames.{hartOf-renamed}
 use Rattle.board_move_wired_laws.proofs.TargetNames.{guestOf-renamed, message-reaches}
 use Rattle.board_move_wired_laws.proofs.WireRelated.{only-messages, wire-frame, wire-related, targets-wire}
 use Rattle.board_move_wired_laws.proofs.WireRelated.{wire-moved}

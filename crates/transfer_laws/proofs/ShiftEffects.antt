@@ -31,7 +31,8 @@ use Rattle.board_call_laws.proofs.StepEffects.{step-wire}
 use Rattle.board_call_laws.proofs.WiredCallEffects.{wire-low, wire-high}
 use Rattle.board_runs.specs.Runs.{Lent, outcomeOn, after, ran}
 use Rattle.board_runs.specs.Ready.{boardIn, Ready}
-use Rattle.board_runs.proofs.RunsEffects.{after-refused, ready-refusal, accepted-named, after-board, after-saved}
+use Rattle.board_runs.proofs.RunsEffects.{after-refused, ready-refusal, accepted-named, after-board}
+use Rattle.board_runs.proofs.RunsEffects.{after-saved}
 use Rattle.board_runs.proofs.RunsEffects.{ready-after}
 use Rattle.transfer_laws.specs.Shift.{Stations, Event, accessOf, isOld, isNew, withMove, withoutMove}
 use Rattle.transfer_laws.specs.Premises.{Started, TwoGuests, ByMessages, NoneNamesNew, accessesIn}

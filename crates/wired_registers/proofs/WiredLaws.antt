@@ -2,7 +2,7 @@
 -- this file. Assumes nothing.
 use Prim.Native.Nat.{ℕ, _≤_, _<_}
 use mathlib.Core.Path.{_≡_, refl, ap}
-use mathlib.Core.Bool.{Bool, true, false}
+use mathlib.Core.Bool.{Bool}
 use mathlib.Core.Logic.{_≢_}
 use native.Mathlib.Omega.{arith}
 use Rattle.domain_region.specs.Region.{Within}
@@ -11,8 +11,7 @@ use Rattle.domain_region.specs.declared.role.Role.{Role}
 use Rattle.domain_region.specs.declared.role.Role.the-variants.{Claims, Configures, Generates, Plain}
 use Rattle.domain_region.specs.Role.{roleOf}
 use Rattle.domain_region.proofs.RoleLaws.{configures-range}
-use Rattle.domain.specs.Domain.{Domain}
-use Rattle.wired_state.specs.Wires.{Wired, domainIn, withDomain}
+use Rattle.wired_state.specs.Wires.{Wired}
 use Rattle.wired_sourcecfg.specs.Delegation.{sourceWritten}
 use Rattle.wired_registers.specs.Wired.{partWritten, writtenAs}
 use Rattle.wired_registers.specs.Wired.{writtenIn}

@@ -7,12 +7,11 @@
 --   writtenIn w c r v        w after v was written to register r of a domain
 -- Nothing is sent here: that comes after.
 use Prim.Native.Nat.{ℕ}
-use mathlib.Core.Bool.{Bool, cond}
+use mathlib.Core.Bool.{Bool}
 use Rattle.domain_region.specs.declared.Word.{Word}
 use Rattle.domain_region.specs.declared.role.Role.{Role}
 use Rattle.domain_region.specs.declared.role.Role.the-variants.{Claims, Configures, Generates, Plain}
 use Rattle.domain_region.specs.Role.{roleOf}
-use Rattle.domain.specs.Domain.{Domain}
 use Rattle.domain_registers.specs.Read.{registerValue, claimedBy}
 use Rattle.domain_registers.specs.Write.{registerWritten}
 use Rattle.wired_state.specs.Wires.{Wired, domainIn, withDomain}

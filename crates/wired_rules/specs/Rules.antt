@@ -3,7 +3,7 @@
 --   configRange d           the stored domaincfg has no bits but IE and DM
 --   generatedRange d        the stored genmsi has no bits but a hart and an identity
 --   structureRange d h      the numbers of the delivery structure of hart h lie in their ranges
---   sourceZeroRule ws             there is no number 0 in the set ws: no wire and no source has it
+--   sourceZeroRule ws       there is no number 0 in the set ws: no wire and no source has it
 --   generatedRule d         genmsi is 0 in direct mode
 --   sourceRule c ws d i     source i keeps the rules of a source; ws are the wires
 --   domainSound c ws d      all of these, for a domain

@@ -1,6 +1,5 @@
 // The rules of the sources and of the delivery structures of one domain.
 ghost use mathlib.Core.Path.{_≡_};
-ghost use mathlib.Core.Bool.{_&&_};
 ghost use Prim.Native.Nat.{_<_};
 ghost use lib.ListN.{length};
 ghost use Rattle.sizes.specs.Sizes.{hartCount, sourceCount, slotCount, domainSize};

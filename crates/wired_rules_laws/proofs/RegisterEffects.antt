@@ -10,9 +10,12 @@ use Rattle.words.specs.Sets.{member}
 use Rattle.words.proofs.TestsLaws.{tested}
 use Rattle.domain_region.specs.Region.{Within}
 use Rattle.domain_region.specs.declared.Word.{Word}
-use Rattle.domain_region.specs.declared.Word.the-variants.{Domaincfg, Sourcecfg, Setip, Setipnum, InClrip, Clripnum}
-use Rattle.domain_region.specs.declared.Word.the-variants.{Setie, Setienum, Clrie, Clrienum, SetipnumLe, SetipnumBe}
-use Rattle.domain_region.specs.declared.Word.the-variants.{Genmsi, Target, Idelivery, Iforce, Ithreshold, Topi}
+use Rattle.domain_region.specs.declared.Word.the-variants.{Domaincfg, Sourcecfg, Setip, Setipnum, InClrip}
+use Rattle.domain_region.specs.declared.Word.the-variants.{Clripnum}
+use Rattle.domain_region.specs.declared.Word.the-variants.{Setie, Setienum, Clrie, Clrienum, SetipnumLe}
+use Rattle.domain_region.specs.declared.Word.the-variants.{SetipnumBe}
+use Rattle.domain_region.specs.declared.Word.the-variants.{Genmsi, Target, Idelivery, Iforce, Ithreshold}
+use Rattle.domain_region.specs.declared.Word.the-variants.{Topi}
 use Rattle.domain_region.specs.declared.Word.the-variants.{Claimi, Unused}
 use Rattle.source.specs.declared.Change.{Change}
 use Rattle.source.specs.declared.Change.the-variants.{Pend, Clear, Enable, Disable}
@@ -28,7 +31,8 @@ use Rattle.domain_registers.specs.Write.{registerWritten}
 use Rattle.source_laws.proofs.SteadyEffects.{steady-changed, steady-retargeted}
 use Rattle.wired_rules_laws.specs.Steady.{Steady, DomainKept}
 use Rattle.wired_rules_laws.proofs.ModeEffects.{changed-mode, retargeted-mode}
-use Rattle.wired_rules_laws.proofs.SteadyEffects.{steady-touched, became-modes, kept-none, kept-withSource}
+use Rattle.wired_rules_laws.proofs.SteadyEffects.{steady-touched, became-modes, kept-none}
+use Rattle.wired_rules_laws.proofs.SteadyEffects.{kept-withSource}
 use Rattle.wired_rules_laws.proofs.ConfigEffects.{kept-configWritten, kept-generatedWritten}
 use Rattle.wired_rules_laws.proofs.ConfigEffects.{kept-settingWritten}
 

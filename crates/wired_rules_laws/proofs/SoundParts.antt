@@ -14,7 +14,8 @@ use Rattle.domain_laws.specs.Shape.{DomainShaped}
 use Rattle.wired_state.specs.Wires.{Wired}
 use Rattle.source_rules.specs.SourceRules.{sourceSteady, sentRule, sourceSound}
 use Rattle.words.specs.Every.{every}
-use Rattle.wired_rules.specs.Rules.{configRange, generatedRange, structureRange, sourceZeroRule, generatedRule}
+use Rattle.wired_rules.specs.Rules.{configRange, generatedRange, structureRange, sourceZeroRule}
+use Rattle.wired_rules.specs.Rules.{generatedRule}
 use Rattle.wired_rules.specs.Rules.{sourceRule, domainSound, delegatedRule, wiredSound}
 use Rattle.words.proofs.EveryLaws.{every-each, every-of}
 use Rattle.wired_rules_laws.specs.Steady.{Steady, sends, Quiet, WiredSteady, WiredQuiet}

@@ -28,7 +28,8 @@ use Rattle.domain_laws.proofs.StructureEffects.{structureAt-withStructure-other
 use Rattle.domain_laws.proofs.StructureEffects.{shaped-withStructure}
 use Rattle.domain_config.specs.Config.{keptConfig}
 use Rattle.source_rules.specs.SourceRules.{sourceSteady}
-use Rattle.wired_rules.specs.Rules.{configRange, generatedRange, structureRange, sourceZeroRule, generatedRule}
+use Rattle.wired_rules.specs.Rules.{configRange, generatedRange, structureRange, sourceZeroRule}
+use Rattle.wired_rules.specs.Rules.{generatedRule}
 use Rattle.wired_rules_laws.specs.Steady.{Steady, DomainKept}
 
 -- ---- the rules of a steady domain, as facts on numbers

@@ -1,7 +1,7 @@
 -- The state rules in two halves: those that hold also in the middle of a call, before anything is sent, and
 -- that everything has been sent. 01, "State rules". Assumes nothing.
 --   Steady c ws d       every rule of a domain but the one that it has sent all; ws are the wires
---   DomainKept c ws d d′      d′ is steady and has the sourcecfg words of d
+--   DomainKept c ws d d′   d′ is steady and has the sourcecfg words of d
 --   Quiet d             the domain has sent all
 --   WiredSteady w       every rule of the controller but that its domains have sent all
 --   WiredQuiet w        both domains have sent all
@@ -20,7 +20,8 @@ use Rattle.domain_laws.specs.Shape.{DomainShaped}
 use Rattle.domain_sending.specs.Sending.{sent}
 use Rattle.wired_state.specs.Wires.{Wired}
 use Rattle.source_rules.specs.SourceRules.{sourceSteady, sentRule}
-use Rattle.wired_rules.specs.Rules.{configRange, generatedRange, structureRange, sourceZeroRule, generatedRule}
+use Rattle.wired_rules.specs.Rules.{configRange, generatedRange, structureRange, sourceZeroRule}
+use Rattle.wired_rules.specs.Rules.{generatedRule}
 use Rattle.wired_rules.specs.Rules.{delegatedRule}
 
 pub record Steady (c : Bool) (ws : List ℕ) (d : Domain) : Type 0 where

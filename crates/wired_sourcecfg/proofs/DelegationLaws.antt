@@ -1,13 +1,13 @@
 -- Laws of specs/Delegation.antt: what a written sourcecfg leaves, case by case. No contract cites this file.
 -- Assumes nothing.
 use Prim.Native.Nat.{ℕ}
-use mathlib.Core.Path.{_≡_, refl}
+use mathlib.Core.Path.{_≡_}
 use mathlib.Core.Bool.{Bool, true, false, Bool·beq}
 use lib.Dec.{leb}
 use Rattle.words.specs.Sets.{member}
 use Rattle.source_mode.specs.Mode.{sourceWord}
 use Rattle.source.specs.Pending.{inactive}
-use Rattle.domain.specs.Slot.{sourceAt, withSource}
+use Rattle.domain.specs.Slot.{withSource}
 use Rattle.wired_state.specs.Wires.{Wired}
 use Rattle.wired_state.specs.Wires.{isDelegated}
 use Rattle.wired_sourcecfg.specs.Delegation.{sourceModed, childWritten, rootWritten, sourceWritten}

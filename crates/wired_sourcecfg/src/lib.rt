@@ -9,7 +9,6 @@ ghost use Rattle.source.specs.Pending.{inactive};
 ghost use Rattle.domain.specs.Domain.{domainOf};
 ghost use Rattle.domain.specs.Slot.{withSource};
 ghost use Rattle.wired_state.specs.Wires.{wiredOf};
-ghost use Rattle.wired_state.specs.Wires.{isDelegated};
 ghost use Rattle.wired_sourcecfg.specs.Delegation.{sourceModed, childWritten, rootWritten};
 ghost use Rattle.wired_sourcecfg.specs.Delegation.{sourceWritten};
 use sizes::CHILD_PLACE;

@@ -1,6 +1,6 @@
 // The bytes of a 32-bit word, the halves of a 64-bit one, and fields by shifts and masks.
 ghost use mathlib.Core.Path.{_≡_};
-ghost use Prim.Native.Nat.{_<_, _≤_, _+_, _^_, _*_};
+ghost use Prim.Native.Nat.{_<_, _^_, _*_};
 ghost use Rattle.words.specs.Parts.{reversed, low, high, joined, fieldOf, packed};
 
 pub fn reversed32(w: u32) -> u32

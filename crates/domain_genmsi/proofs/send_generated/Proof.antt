@@ -1,4 +1,5 @@
--- `domain_genmsi::send_generated` meets its contract: nothing in direct mode, else one message. Assumes nothing.
+-- `domain_genmsi::send_generated` meets its contract: nothing in direct mode, else one message. Assumes
+-- nothing.
 use mathlib.Core.Path.{sym, _∙_}
 use borrow.Author.Tests.{not-true, not-false}
 use Rattle.domain.specs.Domain.{domainOf}

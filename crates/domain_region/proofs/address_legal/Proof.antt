@@ -1,4 +1,5 @@
--- `domain_region::address_legal` meets its contract: inside the region the alignment decides. Assumes nothing.
+-- `domain_region::address_legal` meets its contract: inside the region the alignment decides. Assumes
+-- nothing.
 use mathlib.Core.Path.{sym}
 use native.Mathlib.Omega.{arith}
 use Rattle.domain_region.proofs.RegionLaws.{legal-past, legal-inside}

@@ -1,4 +1,5 @@
--- `domain_region::bits_word` meets its contract: block and offset make up the address again, and no row has the
+-- `domain_region::bits_word` meets its contract: block and offset make up the address again, and no row has
+-- the
 -- addresses that they leave. Assumes nothing.
 use mathlib.Core.Path.{ap, sym, _∙_}
 use borrow.Author.Needs.{needs}

@@ -1,4 +1,5 @@
--- `domain_region::config_word` meets its contract: 0 is domaincfg's, and below 0x100 each source has its word.
+-- `domain_region::config_word` meets its contract: 0 is domaincfg's, and below 0x100 each source has its
+-- word.
 -- Assumes nothing.
 use mathlib.Core.Path.{ap, sym, _∙_}
 use native.Mathlib.Omega.{arith}

@@ -1,4 +1,5 @@
--- `domain_region::target_word` meets its contract: 0x3000 is genmsi's, and below 0x3100 each source has its word.
+-- `domain_region::target_word` meets its contract: 0x3000 is genmsi's, and below 0x3100 each source has its
+-- word.
 -- Assumes nothing.
 use mathlib.Core.Path.{ap, sym, _∙_}
 use borrow.Author.Needs.{needs}

@@ -1,4 +1,5 @@
--- `domain_region::word_at` meets its contract: no row has what is no multiple of 4, and each page has its function.
+-- `domain_region::word_at` meets its contract: no row has what is no multiple of 4, and each page has its
+-- function.
 -- Assumes nothing.
 use mathlib.Core.Path.{sym}
 use native.Mathlib.Omega.{arith}

@@ -4,7 +4,8 @@ use Prim.Native.Nat.{_-_}
 use mathlib.Core.Path.{sym}
 use native.Mathlib.Omega.{arith}
 use Rattle.domain.specs.Domain.{domainOf}
-use Rattle.domain_topi.proofs.StandingLaws.{Left, left-start, left-lt, left-standing, left-next, left-end}
+use Rattle.domain_topi.proofs.StandingLaws.{Left, left-start, left-lt, left-standing, left-next}
+use Rattle.domain_topi.proofs.StandingLaws.{left-end}
 use borrow.Author.Needs.{needs}
 use Rattle.domain_topi.proofs.top_source.Statement.{statement}
 use Rattle.domain_topi.proofs.top_source.Tie as tie

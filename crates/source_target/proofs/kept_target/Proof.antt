@@ -5,7 +5,8 @@ use mathlib.Core.Path.{ap, ap₂, sym, _∙_}
 use native.Mathlib.Omega.{arith}
 use borrow.Author.Tests.{not-true, not-false}
 use Rattle.words.specs.Parts.{packed}
-use Rattle.source_target.proofs.TargetLaws.{kept-first, kept-priority, kept-child, kept-machine, receiver-lt}
+use Rattle.source_target.proofs.TargetLaws.{kept-first, kept-priority, kept-child, kept-machine}
+use Rattle.source_target.proofs.TargetLaws.{receiver-lt}
 use borrow.Author.Needs.{needs}
 use Rattle.source_target.proofs.kept_target.Statement.{statement}
 use Rattle.source_target.proofs.kept_target.Tie as tie

@@ -1,4 +1,5 @@
--- `board_call::numbers::is_guest_file` meets its contract: the tests are those of its definition. Assumes nothing.
+-- `board_call::numbers::is_guest_file` meets its contract: the tests are those of its definition. Assumes
+-- nothing.
 use mathlib.Core.Path.{refl}
 use Rattle.board_call.specs.Refusal.{isGuestFile}
 use Rattle.board_call.proofs.numbers.is_guest_file.Statement.{statement}

@@ -1,4 +1,5 @@
--- `board_file_calls::accesses::register` meets its contract: refused, or its file accessed and stored. The file
+-- `board_file_calls::accesses::register` meets its contract: refused, or its file accessed and stored. The
+-- file
 -- is long because each of four ways out asks for the lengths of both blocks. Assumes nothing.
 use mathlib.Core.Path.{refl, sym, _∙_}
 use borrow.Author.Tests.{not-true, not-false}

@@ -1,4 +1,5 @@
--- `board_file_calls::claims::claim` meets its contract: refused, or its file claimed and stored. Assumes nothing.
+-- `board_file_calls::claims::claim` meets its contract: refused, or its file claimed and stored. Assumes
+-- nothing.
 use mathlib.Core.Path.{sym, _∙_}
 use borrow.Author.Tests.{not-true, not-false}
 use Rattle.board_call.proofs.AnswerLaws.{done-case}

@@ -1,4 +1,5 @@
--- `board_file_calls::page_writes::page_write` meets its contract: refused, or its page written. The file is long
+-- `board_file_calls::page_writes::page_write` meets its contract: refused, or its page written. The file is
+-- long
 -- because each of four ways out asks for the lengths of both blocks. Assumes nothing.
 use mathlib.Core.Path.{sym, _∙_}
 use borrow.Author.Tests.{not-true, not-false}

@@ -1,4 +1,5 @@
--- `board_hart_calls::calls::signals` meets its contract: refused, or the signals of its hart. Assumes nothing.
+-- `board_hart_calls::calls::signals` meets its contract: refused, or the signals of its hart. Assumes
+-- nothing.
 use borrow.Author.Tests.{le-ltb}
 use Rattle.board_call.proofs.AnswerLaws.{done-case}
 use Rattle.board_call_laws.proofs.CallTests.{checked-long, tests-blocks, tests-name}

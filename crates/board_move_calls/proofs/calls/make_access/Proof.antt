@@ -1,4 +1,5 @@
--- `board_move_calls::calls::make_access` meets its contract: refused, or its act done. The file is long because each
+-- `board_move_calls::calls::make_access` meets its contract: refused, or its act done. The file is long
+-- because each
 -- of four ways out asks for the lengths of both blocks. Assumes nothing.
 use mathlib.Core.Path.{sym, ap, _∙_}
 use borrow.Author.Tests.{not-true, not-false}

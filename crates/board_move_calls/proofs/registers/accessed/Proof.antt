@@ -1,4 +1,5 @@
--- `board_move_calls::registers::accessed` meets its contract: a guest's file is one of the 20. Assumes nothing.
+-- `board_move_calls::registers::accessed` meets its contract: a guest's file is one of the 20. Assumes
+-- nothing.
 use Rattle.board_block.specs.Block.{boardOf}
 use Rattle.board_call_laws.proofs.MoveCallEffects.{guest-there, register-made}
 use borrow.Author.Needs.{needs}

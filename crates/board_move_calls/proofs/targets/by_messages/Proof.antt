@@ -1,4 +1,5 @@
--- `board_move_calls::targets::by_messages` meets its contract: the child stands last in the block. Assumes nothing.
+-- `board_move_calls::targets::by_messages` meets its contract: the child stands last in the block. Assumes
+-- nothing.
 use mathlib.Core.Path.{ap, _∙_}
 use lib.ListN.{take, drop}
 use Rattle.domain.specs.Domain.{byMessages}

@@ -1,4 +1,5 @@
--- `board_move_calls::targets::rewrite` meets its contract: read, and written if it names old. Assumes nothing.
+-- `board_move_calls::targets::rewrite` meets its contract: read, and written if it names old. Assumes
+-- nothing.
 use mathlib.Core.Path.{sym, _∙_}
 use native.Mathlib.Omega.{arith}
 use Rattle.wired_state.specs.Wires.{wiredOf}

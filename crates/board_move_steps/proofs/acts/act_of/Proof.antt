@@ -1,4 +1,5 @@
--- `board_move_steps::acts::act_of` meets its contract: the tests that led to each answer say which line of the
+-- `board_move_steps::acts::act_of` meets its contract: the tests that led to each answer say which line of
+-- the
 -- table holds. Assumes nothing.
 use mathlib.Core.Path.{sym}
 use native.Mathlib.Omega.{arith}

@@ -1,4 +1,5 @@
--- `board_wired_calls::calls::domain_write` meets its contract: refusal by refusal, and the call. Assumes nothing.
+-- `board_wired_calls::calls::domain_write` meets its contract: refusal by refusal, and the call. Assumes
+-- nothing.
 use mathlib.Core.Path.{refl, sym, _∙_}
 use mathlib.Core.Bool.{true}
 use native.Mathlib.Omega.{arith}

@@ -3,7 +3,8 @@
 use mathlib.Core.Path.{sym}
 use native.Mathlib.Omega.{arith}
 use borrow.Author.Tests.{not-true, not-false}
-use Rattle.domain_delivery.proofs.DeliveryLaws.{signals-disabled, signals-off, signals-forced, signals-top}
+use Rattle.domain_delivery.proofs.DeliveryLaws.{signals-disabled, signals-off, signals-forced}
+use Rattle.domain_delivery.proofs.DeliveryLaws.{signals-top}
 use Rattle.domain_delivery.proofs.Delivery.signals.Statement.{statement}
 use Rattle.domain_delivery.proofs.Delivery.signals.Tie as tie
 

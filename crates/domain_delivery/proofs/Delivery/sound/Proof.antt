@@ -1,4 +1,5 @@
--- `domain_delivery::Delivery::sound` meets its contract: a number out of its range settles it; else the threshold
+-- `domain_delivery::Delivery::sound` meets its contract: a number out of its range settles it; else the
+-- threshold
 -- does. Assumes nothing.
 use mathlib.Core.Path.{sym}
 use native.Mathlib.Omega.{arith}

@@ -1,4 +1,5 @@
--- `domain_delivery::Delivery::with_idelivery` meets its contract: `switch_of` gives the number. Assumes nothing.
+-- `domain_delivery::Delivery::with_idelivery` meets its contract: `switch_of` gives the number. Assumes
+-- nothing.
 use borrow.Author.Needs.{needs}
 use mathlib.Core.Path.{sym}
 use Rattle.domain_delivery.proofs.DeliveryLaws.{idelivery-written}

@@ -1,4 +1,5 @@
--- `domain_delivery::Delivery::with_ithreshold` meets its contract: its numbers are those of the definition. Assumes
+-- `domain_delivery::Delivery::with_ithreshold` meets its contract: its numbers are those of the definition.
+-- Assumes
 -- nothing.
 use mathlib.Core.Path.{sym}
 use Rattle.domain_delivery.proofs.DeliveryLaws.{ithreshold-written}

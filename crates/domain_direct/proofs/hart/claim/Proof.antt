@@ -1,4 +1,5 @@
--- `domain_direct::hart::claim` meets its contract: nothing by messages, iforce with no top, else the top. Assumes
+-- `domain_direct::hart::claim` meets its contract: nothing by messages, iforce with no top, else the top.
+-- Assumes
 -- nothing.
 use mathlib.Core.Path.{ap, sym, _∙_}
 use Rattle.domain.specs.Domain.{domainOf}

@@ -1,4 +1,5 @@
--- `domain_direct::hart::signal` meets its contract: by messages it is low, and where no top raises it too. Assumes
+-- `domain_direct::hart::signal` meets its contract: by messages it is low, and where no top raises it too.
+-- Assumes
 -- nothing.
 use mathlib.Core.Path.{ap, ap₂, sym, _∙_}
 use mathlib.Core.Bool.{Bool}

@@ -1,4 +1,5 @@
--- `domain_direct::hart::unforce` meets its contract: the structure is read, changed and stored. Assumes nothing.
+-- `domain_direct::hart::unforce` meets its contract: the structure is read, changed and stored. Assumes
+-- nothing.
 use mathlib.Core.Path.{ap, _∙_}
 use Rattle.domain_delivery.specs.Delivery.{withoutForce}
 use Rattle.domain.specs.Domain.{domainOf}

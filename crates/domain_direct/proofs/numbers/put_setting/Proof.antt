@@ -1,4 +1,5 @@
--- `domain_direct::numbers::put_setting` meets its contract: nothing by messages, else the structure written. Assumes
+-- `domain_direct::numbers::put_setting` meets its contract: nothing by messages, else the structure written.
+-- Assumes
 -- nothing.
 use mathlib.Core.Path.{ap, sym, _∙_}
 use Rattle.domain_delivery.specs.declared.Delivery.{Delivery}

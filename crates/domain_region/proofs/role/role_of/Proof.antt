@@ -1,4 +1,5 @@
--- `domain_region::role::role_of` meets its contract: in the last arm the register's tag is none of the three named.
+-- `domain_region::role::role_of` meets its contract: in the last arm the register's tag is none of the three
+-- named.
 -- Assumes nothing.
 use Prim.Native.Nat.{ℕ}
 use mathlib.Core.Path.{ap, sym}

@@ -1,4 +1,5 @@
--- `domain_registers::access::read` meets its contract: a claimi is claimed, any other register only read. Assumes
+-- `domain_registers::access::read` meets its contract: a claimi is claimed, any other register only read.
+-- Assumes
 -- nothing.
 use mathlib.Core.Path.{ap, sym, _∙_}
 use mathlib.Core.List.{[], _∷_}

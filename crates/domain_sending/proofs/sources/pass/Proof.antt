@@ -1,4 +1,5 @@
--- `domain_sending::sources::pass` meets its contract: the sources from i on still send what is left to be sent.
+-- `domain_sending::sources::pass` meets its contract: the sources from i on still send what is left to be
+-- sent.
 -- Assumes nothing.
 use Prim.Native.Nat.{_-_}
 use mathlib.Core.Path.{_≡_, sym, _∙_}

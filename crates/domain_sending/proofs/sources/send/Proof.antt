@@ -1,4 +1,5 @@
--- `domain_sending::sources::send` meets its contract: a domain that does not send, one with nothing to send, and the
+-- `domain_sending::sources::send` meets its contract: a domain that does not send, one with nothing to send,
+-- and the
 -- pass. Assumes nothing.
 use mathlib.Core.Path.{sym, _∙_}
 use borrow.Author.Tests.{not-true, not-false}

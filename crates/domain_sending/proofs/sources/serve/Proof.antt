@@ -1,4 +1,5 @@
--- `domain_sending::sources::serve` meets its contract: a candidate's message is logged and its pending bit cleared.
+-- `domain_sending::sources::serve` meets its contract: a candidate's message is logged and its pending bit
+-- cleared.
 -- Assumes nothing.
 use mathlib.Core.Path.{sym, _∙_}
 use borrow.Author.Tests.{not-true, not-false}

@@ -1,4 +1,5 @@
--- `domain_writes::change::change_bits` meets its contract: the sources from i on are still to be changed. Assumes
+-- `domain_writes::change::change_bits` meets its contract: the sources from i on are still to be changed.
+-- Assumes
 -- nothing.
 use Prim.Native.Nat.{_-_, _≤_, _+_}
 use mathlib.Core.Path.{_≡_, refl, sym, ap, _∙_}

@@ -1,4 +1,5 @@
--- `domain_writes::change::write_target` meets its contract: the source is read, changed and stored. Assumes nothing.
+-- `domain_writes::change::write_target` meets its contract: the source is read, changed and stored. Assumes
+-- nothing.
 use mathlib.Core.Path.{ap, _∙_}
 use Rattle.domain.specs.Slot.{withSource}
 use Rattle.domain_writes.specs.Writes.{targetWritten}

@@ -1,4 +1,5 @@
--- `file_select::deliveries::delivery_legal` meets its contract: 0 and 1 are, and for no guest the third. Assumes
+-- `file_select::deliveries::delivery_legal` meets its contract: 0 and 1 are, and for no guest the third.
+-- Assumes
 -- nothing.
 use mathlib.Core.Path.{ap, sym, _∙_}
 use mathlib.Core.Bool.{Bool, not, _&&_}

@@ -1,4 +1,5 @@
--- `file_select::halves::put_halves` meets its contract: two words replaced, and nothing past the last. Assumes
+-- `file_select::halves::put_halves` meets its contract: two words replaced, and nothing past the last.
+-- Assumes
 -- nothing.
 use Prim.Native.Nat.{ℕ, _+_, _*_}
 use mathlib.Core.Path.{ap, sym, _∙_, ap₂}

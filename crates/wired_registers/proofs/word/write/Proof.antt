@@ -1,4 +1,5 @@
--- `wired_registers::word::write` meets its contract: the register's role says which of the two writes it is. Assumes
+-- `wired_registers::word::write` meets its contract: the register's role says which of the two writes it is.
+-- Assumes
 -- nothing.
 use mathlib.Core.Path.{sym, ap, _∙_}
 use mathlib.Core.List.{[], _∷_}

@@ -7,7 +7,8 @@ use lib.ListN.{take, drop}
 use Rattle.words.specs.Sets.{member}
 use Rattle.domain.specs.Domain.{Domain}
 use Rattle.wired_state.specs.Wires.{Wired, wiredOf, sourceWired, wireSet}
-use Rattle.wired_state.proofs.WiresLaws.{wired-path, both-put, put-long, second-part, root-long, child-long}
+use Rattle.wired_state.proofs.WiresLaws.{wired-path, both-put, put-long, second-part, root-long}
+use Rattle.wired_state.proofs.WiresLaws.{child-long}
 use Rattle.wired_state.proofs.WiresLaws.{root-part}
 use borrow.Author.Needs.{needs}
 use Rattle.wired_state.proofs.wire.set_wire.Statement.{statement}

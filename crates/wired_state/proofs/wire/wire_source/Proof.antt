@@ -1,4 +1,5 @@
--- `wired_state::wire::wire_source` meets its contract: the source is read, changed and stored. Assumes nothing.
+-- `wired_state::wire::wire_source` meets its contract: the source is read, changed and stored. Assumes
+-- nothing.
 use mathlib.Core.Path.{ap, _∙_}
 use Rattle.domain.specs.Slot.{withSource}
 use Rattle.wired_state.specs.Wires.{sourceWired}
