@@ -1,7 +1,7 @@
 # make proves and builds what there is, runs the example in C and prints the table cases; make test is the whole
 # gate; see make help.
 .DEFAULT_GOAL := all
-.PHONY: all test check example tools fmt style clean help toolchain
+.PHONY: all test check example tools fmt style numbers layers clean help toolchain
 
 # rt check runs each program once it is proved, and keeps what it wrote
 all: check
@@ -31,6 +31,12 @@ fmt: toolchain
 style:
 	@scripts/style
 
+numbers:
+	@scripts/numbers
+
+layers:
+	@scripts/layers
+
 clean:
 	@rm -rf target
 
@@ -41,9 +47,11 @@ help:
 	@echo "make example  prove what the C functions need, build the examples in C on them, run and compare them"
 	@echo "make tools    install what the example needs (Debian, as root): a C compiler, an emulator off x86-64"
 	@echo "make fmt      bring every source file under crates/ into the layout"
-	@echo "make style    what the checker does not see: width, headers, holes, contracts, edits, names, paths"
+	@echo "make style    what the checker does not see: sizes, layers, width, headers, holes, contracts, names, paths"
+	@echo "make numbers  the numbers that README.md states"
+	@echo "make layers   the picture of the layers, from crates.txt"
 	@echo "make clean    remove target/, where all that is built lies"
-	@echo "All but tools, style, clean and help need rt, the command of the Rattle toolchain, on PATH."
+	@echo "All but tools, style, numbers, layers, clean and help need rt, the command of the Rattle toolchain, on PATH."
 
 toolchain:
 	@command -v rt >/dev/null 2>&1 || { \
