@@ -1,0 +1,4 @@
+-- The claims on the calls of the board, by topic: each a statement written out in full. Assumes nothing.
+pub mod OneSource
+pub mod BoardCalls
+pub mod BoardFacts

@@ -1,0 +1,3 @@
+-- The claims on one message file, by topic: each a statement written out in full. Assumes nothing.
+pub mod FileCalls
+pub mod FileFacts

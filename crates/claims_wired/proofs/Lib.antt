@@ -1,0 +1,11 @@
+-- The proofs of these claims, each by citing the crates below. Assumes nothing.
+pub mod Causes
+pub mod Sending
+pub mod WiredCalls
+pub mod Direct
+pub mod SourceRules
+pub mod Rules
+pub mod Writes
+pub mod Operations
+pub mod Controller
+pub mod Modes

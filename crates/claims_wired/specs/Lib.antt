@@ -1,0 +1,10 @@
+-- The claims on the wired controller, by topic: each a statement written out in full. Assumes nothing.
+pub mod Causes
+pub mod Sending
+pub mod WiredCalls
+pub mod Direct
+pub mod Rules
+pub mod Writes
+pub mod Operations
+pub mod Controller
+pub mod Modes
