@@ -2,3 +2,4 @@
 pub mod OneSource
 pub mod BoardCalls
 pub mod BoardFacts
+pub mod Accepted

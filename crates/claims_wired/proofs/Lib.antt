@@ -9,3 +9,4 @@ pub mod Writes
 pub mod Operations
 pub mod Controller
 pub mod Modes
+pub mod Fields
