@@ -25,9 +25,9 @@ use Rattle.file_laws.proofs.RegisterEffects.{delivery-back, delivery-kept, thre
 use Rattle.file_laws.proofs.RegisterEffects.{enable-back, member-put, member-put-other}
 use Rattle.file_laws.proofs.Keeps.{rules-of, sound-of, page-rules, claimed-rules, accessed-rules}
 use Rattle.file_laws.proofs.Stored.{file-back, block-back, file-apart, loaded-shaped}
-use Rattle.claims_file.specs.FileFacts.{Stands, Claim-20, Claim-21, Claim-22, Claim-23, Claim-24, Claim-25}
-use Rattle.claims_file.specs.FileFacts.{Claim-26, Claim-27, Claim-28, Claim-29, Claim-30, Claim-31}
-use Rattle.claims_file.specs.FileFacts.{Claim-32, Claim-33, Claim-34}
+use Rattle.claims_file.specs.FileFacts.{Stands, Claim-20, Claim-21, Claim-22, Claim-23, Claim-24}
+use Rattle.claims_file.specs.FileFacts.{Claim-25, Claim-26, Claim-27, Claim-28, Claim-29, Claim-30}
+use Rattle.claims_file.specs.FileFacts.{Claim-31, Claim-32, Claim-33, Claim-34}
 
 -- ---- what qualifies, in the claim's words
 

@@ -1,9 +1,12 @@
--- Claims 1 to 14, on the calls of one message file: whatever a contract lets a method give back is what the
--- definition says and nothing else.
--- So two answers that a contract allows are equal, and a contract that says less breaks its claim. Assumes
--- nothing.
--- `Learnt l a r a` is what a caller learns of a call with the arguments a that answered r. 01, "One message
--- file".
+-- Claims 1 to 14, on the methods of one message file, and on the functions beside them: select numbers,
+-- deliveries, a file's words in a block. 01, "One message file".
+-- What they fix: whatever a contract lets a method give back is what the definition says, and nothing else.
+-- So two answers that a contract allows are equal, and a contract that says less breaks its claim. That the
+-- code meets its contract is no claim here: the checks of the crates `file`, `file_select` and `file_words`
+-- prove it. That the definitions mean what 01 says is in FileFacts, FileState and FileRegisters.
+-- `Learnt l a r a` is what a caller learns of a method with the arguments a that answered r.
+-- Premises: none but `Learnt`.
+-- No axioms.
 use Prim.Native.Nat.{ℕ}
 use mathlib.Core.Path.{_≡_}
 use mathlib.Core.Bool.{Bool}

@@ -1,7 +1,12 @@
--- Claims 20 to 34, on what the definitions of one message file mean: the paper's sentences as theorems.
+-- Claims 20 to 34, on what the definitions of one message file mean: the paper's sentences as theorems. 01,
+-- "One message file", "State rules".
 -- `Stands f i` is the paper's rule for a candidate, `member ws i` is bit i of a set's words, n the number of
--- identities, 255 where a claim is about a file's own words. 01, "One message file", "State rules".
--- Assumes nothing.
+-- identities, 255 where a claim is about a file's own words. The registers by their select numbers are in
+-- FileRegisters, the page and the state rules in plain numbers in FileState.
+-- Premises: `Shaped f` (eight words of 32 bits in each set, as every file of a block has) where a claim says
+-- what single bits or stored words become; in Claim 32 a file that keeps its state rules, and numbers of 64
+-- bits for its registers; in Claim 34 a file that lies within the block.
+-- No axioms.
 use Prim.Native.Nat.{ℕ, _+_, _*_, _/_, _%_, _^_, _≤_, _<_}
 use mathlib.Core.Path.{_≡_}
 use mathlib.Core.Bool.{Bool, true, false, not, cond, _&&_, _||_}
@@ -75,7 +80,8 @@ Claim-25 =
 unfoldable pub Claim-26 : Type 0
 Claim-26 = (n : ℕ) (f : File) (i d : ℕ) → arrived n (withDelivery f d) i ≡ withDelivery (arrived n f i) d
 
--- delivery: a legal number reads back, any other keeps the old one; the threshold keeps the low 8 bits
+-- delivery: a legal number reads back, any other keeps the old one; the threshold keeps the low 8 bits.
+-- Claims 120 and 121 have the select numbers, the legal numbers and what else stays
 unfoldable pub Claim-27 : Type 0
 Claim-27 =
     (g : Bool) (f : File) (v : ℕ)
@@ -83,8 +89,8 @@ Claim-27 =
     × (deliveryLegal g v ≡ false → written 255 g f Delivery v ≡ f)
     × (held (written 255 g f Threshold v) Threshold ≡ v % 2 ^ 8)
 
--- select 0x80 + 2j: what is written reads back, but for identity 0; bit k is identity 64j + k; the other
--- identities stay
+-- the j-th pending register: what is written reads back, but for identity 0; bit k is identity 64j + k; the
+-- other identities stay. Claims 122 and 124 have its select number 0x80 + 2j
 unfoldable pub Claim-28 : Type 0
 Claim-28 =
     (g : Bool) (f : File) (j v : ℕ) → Shaped f → j < 4
@@ -93,7 +99,7 @@ Claim-28 =
     → member (written 255 g f (Pending j) v .pending) (64 * j + k) ≡ hasBit v k)
     × ((i : ℕ) → i / 64 ≢ j → member (written 255 g f (Pending j) v .pending) i ≡ member (f .pending) i)
 
--- select 0xC0 + 2j: the same for the enable bits
+-- the j-th enable register: the same for the enable bits. Claims 123 and 124 have its select number 0xC0 + 2j
 unfoldable pub Claim-29 : Type 0
 Claim-29 =
     (g : Bool) (f : File) (j v : ℕ) → Shaped f → j < 4
@@ -120,7 +126,8 @@ pub record KeepsRules (g : Bool) (f : File) : Type 0 where
 unfoldable pub Claim-32 : Type 0
 Claim-32 = (g : Bool) (f : File) → Shaped f → fileSound 255 g f ≡ true → KeepsRules g f
 
--- a file signals exactly if its delivery is 1 and its top is not 0
+-- a file signals by itself exactly if its delivery is 1 and its top is not 0; a file 0 or 1 with delivery
+-- 0x40000000 may also signal for the wired controller: Claim 89
 unfoldable pub Claim-33 : Type 0
 Claim-33 = (n : ℕ) (f : File) → (signals n f ≡ true) ↔ ((f .delivery ≡ 1) × (topOf n f ≢ 0))
 
