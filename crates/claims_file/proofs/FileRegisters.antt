@@ -81,6 +81,7 @@ pub claim-120 : Claim-120
 unfolding Claim-120 accessedAt held
 claim-120 g f v =
     record {
+      alone = refl;
       read = at-delivery g f Read v;
       write = λ l. at-delivery g f Write v
           ∙ ap (λ (h : File). record { answer = Value 0; file = h })
@@ -93,7 +94,7 @@ claim-120 g f v =
 
 pub claim-121 : Claim-121
 unfolding Claim-121 accessedAt held written
-claim-121 g f v = record { read = at-threshold g f Read v; write = at-threshold g f Write v }
+claim-121 g f v = record { alone = refl; read = at-threshold g f Read v; write = at-threshold g f Write v }
 
 -- ---- the two words behind a number
 
@@ -267,29 +268,35 @@ unused-at g f Write v = refl
 unused-at g f Set v = refl
 unused-at g f Clear v = refl
 
+-- a number that names no register
+module _ (g : Bool) (f : File) (k : Access) (s v : ℕ) where
+  unused : selectLegal s ≡ true → registerOf 255 s ≡ Unused
+      → accessed 255 g f k s v ≡ record { answer = Value 0; file = f }
+  unused legal named = at-register g f k s v Unused legal named ∙ unused-at g f k v
+
+  past-named : 0x70 < s → s < 0x80 → s ≢ 0x72 → accessed 255 g f k s v ≡ record { answer = Value 0; file = f }
+  past-named l h d = unused (legal-named s (omega arith) h) (register-named 255 s (λ q. omega arith) d h)
+
+  past-pending : 0x88 ≤ s → s ≤ 0xBE → s % 2 ≡ 0
+      → accessed 255 g f k s v ≡ record { answer = Value 0; file = f }
+  past-pending l h e =
+      unused (even-legal s (omega arith) (omega arith) e)
+      (register-pending 255 s (omega arith) (omega arith) ∙ words-past 255 0x80 Pending s (omega arith))
+
+  past-enable : 0xC8 ≤ s → s ≤ 0xFE → s % 2 ≡ 0
+      → accessed 255 g f k s v ≡ record { answer = Value 0; file = f }
+  past-enable l h e =
+      unused (even-legal s (omega arith) (omega arith) e)
+      (register-enable 255 s (omega arith) ∙ words-past 255 0xC0 Enable s (omega arith))
+
 pub claim-125 : Claim-125
 unfolding Claim-125
-claim-125 g f k s v =
-    ⊎-elim (λ e. named (omega arith) (omega arith) (λ q. omega arith))
-    (⊎-elim (λ n. named (omega (arith, n .0)) (omega (arith, n .1)) (λ q. omega (arith, n .0)))
-    (λ w. ⊎-elim (λ p. past-pending (p .0) (p .1) (w .0)) (λ e. past-enable (e .0) (e .1) (w .0)) (w .1)))
-  where
-    none : selectLegal s ≡ true → registerOf 255 s ≡ Unused
-        → accessed 255 g f k s v ≡ record { answer = Value 0; file = f }
-    none legal named = at-register g f k s v Unused legal named ∙ unused-at g f k v
-
-    named : 0x70 < s → s < 0x80 → s ≢ 0x72 → accessed 255 g f k s v ≡ record { answer = Value 0; file = f }
-    named l h d =
-        none (legal-named s (omega arith) h) (register-named 255 s (λ q. omega arith) d h)
-
-    past-pending : 0x88 ≤ s → s ≤ 0xBE → s % 2 ≡ 0
-        → accessed 255 g f k s v ≡ record { answer = Value 0; file = f }
-    past-pending l h e =
-        none (even-legal s (omega arith) (omega arith) e)
-        (register-pending 255 s (omega arith) (omega arith) ∙ words-past 255 0x80 Pending s (omega arith))
-
-    past-enable : 0xC8 ≤ s → s ≤ 0xFE → s % 2 ≡ 0
-        → accessed 255 g f k s v ≡ record { answer = Value 0; file = f }
-    past-enable l h e =
-        none (even-legal s (omega arith) (omega arith) e)
-        (register-enable 255 s (omega arith) ∙ words-past 255 0xC0 Enable s (omega arith))
+claim-125 = (
+  (λ g f k s v. ⊎-elim (λ e. past-named g f k s v (omega arith) (omega arith) (λ q. omega arith))
+      (⊎-elim
+      (λ n. past-named g f k s v (omega (arith, n .0)) (omega (arith, n .1)) (λ q. omega (arith, n .0)))
+      (λ w. ⊎-elim (λ p. past-pending g f k s v (p .0) (p .1) (w .0))
+      (λ e. past-enable g f k s v (e .0) (e .1) (w .0)) (w .1)))),
+  (λ u. (refl, refl)),
+  (refl, refl),
+)

@@ -12,7 +12,7 @@ use lib.ListN.{length}
 use borrow.Author.Tests.{eq-eqb, ne-eqb, eqb-true, not-true, lt-leb}
 use Rattle.words.specs.Bits.{bitOf, hasBit}
 use Rattle.words.specs.Parts.{reversed}
-use Rattle.words.specs.Sets.{member}
+use Rattle.words.specs.Sets.{member, WordsFit}
 use Rattle.words.proofs.PartsLaws.{reversed-lt, reversed-bytes, reversed-back}
 use Rattle.words.proofs.SetsLaws.{member-ext}
 use Rattle.words.proofs.TestsLaws.{tested, and-first, and-second, or-cases}
@@ -210,7 +210,6 @@ claim-128 f d =
     let same = top-apart f 1 in
     let signal = claim-33 255 (withDelivery f 1) in
     record {
-      alone = refl;
       top = top-apart f d;
       claim = claim-apart f d;
       on = ((λ e z. signal .0 e .1 (same ∙ z)), (λ n. signal .1 (refl, (λ z. n (sym same ∙ z)))));
@@ -220,11 +219,26 @@ claim-128 f d =
 -- ---- bit by bit
 
 pub claim-129 : Claim-129
-unfolding Claim-129 hasBit bitOf member
+unfolding Claim-129 hasBit bitOf member WordsFit
 claim-129 = (
   (λ w k. (eqb-true (w / 2 ^ k % 2) 1, eq-eqb (w / 2 ^ k % 2) 1)),
   (λ ws i. refl),
-  (λ f s. (s .pendingLong, s .enableLong)),
+  (λ f. (
+    (λ s. (
+      s .deliveryFit,
+      s .thresholdFit,
+      record { long = s .pendingLong; fit = s .pendingFit },
+      record { long = s .enableLong; fit = s .enableFit },
+    )),
+    (λ h. record {
+      deliveryFit = h .0;
+      thresholdFit = h .1;
+      pendingLong = h .2 .long;
+      pendingFit = h .2 .fit;
+      enableLong = h .3 .long;
+      enableFit = h .3 .fit;
+    }),
+  )),
   (λ f f′ s s′ d t p e. file-path d t
       (member-ext (f .pending) (f′ .pending) (s .pendingLong ∙ sym (s′ .pendingLong)) (s .pendingFit)
       (s′ .pendingFit) (λ i h. p i (omega (arith, s .pendingLong))))

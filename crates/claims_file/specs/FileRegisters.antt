@@ -19,8 +19,10 @@ use Rattle.file_select.specs.Deliveries.{deliveryLegal}
 use Rattle.file.specs.declared.File.{File}
 use Rattle.file.specs.declared.register.Access.{Access}
 use Rattle.file.specs.declared.register.Access.the-variants.{Read, Write, Set, Clear}
-use Rattle.file.specs.declared.register.Reply.the-variants.{Value}
+use Rattle.file.specs.declared.register.Reply.the-variants.{Value, Illegal}
 use Rattle.file.specs.Shape.{Shaped}
+use Rattle.file.specs.Parts.{withDelivery, withThreshold}
+use Rattle.file.specs.Reply.{replyNumber, replyValue}
 use Rattle.file.specs.Register.{accessed}
 use Rattle.claims_file.specs.FileState.{LegalDelivery}
 
@@ -29,13 +31,11 @@ use Rattle.claims_file.specs.FileState.{LegalDelivery}
 -- select 0x70: a write of a legal number replaces the delivery and nothing else, one of any other number
 -- nothing at all
 pub record DeliveryRegister (g : Bool) (f : File) (v : ℕ) : Type 0 where
+  pub alone : withDelivery f v
+      ≡ record { delivery = v; threshold = f .threshold; pending = f .pending; enable = f .enable }
   pub read : accessed 255 g f Read 0x70 v ≡ record { answer = Value (f .delivery); file = f }
   pub write : LegalDelivery g v
-      → accessed 255 g f Write 0x70 v
-      ≡ record {
-        answer = Value 0;
-        file = record { delivery = v; threshold = f .threshold; pending = f .pending; enable = f .enable };
-      }
+      → accessed 255 g f Write 0x70 v ≡ record { answer = Value 0; file = withDelivery f v }
   pub ignored : (LegalDelivery g v → ⊥)
       → accessed 255 g f Write 0x70 v ≡ record { answer = Value 0; file = f }
   pub legal : (deliveryLegal g v ≡ true) ↔ LegalDelivery g v
@@ -45,17 +45,11 @@ Claim-120 = (g : Bool) (f : File) (v : ℕ) → DeliveryRegister g f v
 
 -- select 0x72: a write keeps the low 8 bits, and replaces nothing else
 pub record ThresholdRegister (g : Bool) (f : File) (v : ℕ) : Type 0 where
+  pub alone : withThreshold f v
+      ≡ record { delivery = f .delivery; threshold = v; pending = f .pending; enable = f .enable }
   pub read : accessed 255 g f Read 0x72 v ≡ record { answer = Value (f .threshold); file = f }
   pub write : accessed 255 g f Write 0x72 v
-      ≡ record {
-        answer = Value 0;
-        file = record {
-          delivery = f .delivery;
-          threshold = v % 256;
-          pending = f .pending;
-          enable = f .enable;
-        };
-      }
+      ≡ record { answer = Value 0; file = withThreshold f (v % 256) }
 
 unfoldable pub Claim-121 : Type 0
 Claim-121 = (g : Bool) (f : File) (v : ℕ) → ThresholdRegister g f v
@@ -144,10 +138,13 @@ Claim-124 =
 -- ---- the numbers with no register
 
 -- 0x71, 0x73 to 0x7F, and the even numbers after 0x80 + 2 * 3 and after 0xC0 + 2 * 3: every kind of access
--- answers 0 and changes nothing
+-- answers 0 and changes nothing. In the paper's numbers an answer is 0 and the value, an illegal select
+-- number 6 and 0
 unfoldable pub Claim-125 : Type 0
 Claim-125 =
-    (g : Bool) (f : File) (k : Access) (s v : ℕ)
+    ((g : Bool) (f : File) (k : Access) (s v : ℕ)
     → (s ≡ 0x71) ⊎ (((0x73 ≤ s) × (s ≤ 0x7F))
     ⊎ ((s % 2 ≡ 0) × (((0x88 ≤ s) × (s ≤ 0xBE)) ⊎ ((0xC8 ≤ s) × (s ≤ 0xFE)))))
-    → accessed 255 g f k s v ≡ record { answer = Value 0; file = f }
+    → accessed 255 g f k s v ≡ record { answer = Value 0; file = f })
+    × ((u : ℕ) → (replyNumber (Value u) ≡ 0) × (replyValue (Value u) ≡ u))
+    × ((replyNumber Illegal ≡ 6) × (replyValue Illegal ≡ 0))

@@ -2,8 +2,9 @@
 -- in, and what its words say bit by bit. 01, "One message file", "State rules".
 --   LegalDelivery g d    d is a delivery: 0, 1, and 0x40000000 in files 0 and 1; g: the file is a guest's
 --   FileRules g f        the state rules of one file, a field for each
--- Premises: `Shaped f` (eight words of 32 bits in each set, as every file of a block has) where a claim says
--- what the pending bits become; a number that is written at offset 4 or reversed has 32 bits.
+-- Premises: `Shaped f` (eight words of 32 bits in each set, as every file of a block has; Claim 129 has it in
+-- numbers) where a claim speaks of bits; a number that is written at offset 4 or reversed has 32 bits, one
+-- for a register 64.
 -- No axioms.
 use Prim.Native.Nat.{ℕ, _-_, _*_, _/_, _%_, _^_, _≤_, _<_}
 use mathlib.Core.Path.{_≡_}
@@ -70,11 +71,9 @@ Claim-127 = (g : Bool) (f : File) → (fileSound 255 g f ≡ true) ↔ FileRules
 
 -- ---- delivery
 
--- the top does not depend on delivery, nor does what a claim takes; the signal is the top's with delivery 1,
--- and low with any other
+-- the top does not depend on delivery, nor does what a claim takes; the file's own signal is the top's with
+-- delivery 1, and low with any other (Claim 120 has withDelivery part by part)
 pub record DeliveryApart (f : File) (d : ℕ) : Type 0 where
-  pub alone : withDelivery f d
-      ≡ record { delivery = d; threshold = f .threshold; pending = f .pending; enable = f .enable }
   pub top : topOf 255 (withDelivery f d) ≡ topOf 255 f
   pub claim : claimed 255 (withDelivery f d) ≡ withDelivery (claimed 255 f) d
   pub on : (signals 255 (withDelivery f 1) ≡ true) ↔ (topOf 255 f ≢ 0)
@@ -84,6 +83,10 @@ unfoldable pub Claim-128 : Type 0
 Claim-128 = (f : File) (d : ℕ) → DeliveryApart f d
 
 -- ---- bit by bit
+
+pub record EightWords (ws : List ℕ) : Type 0 where
+  pub long : length ws ≡ 8
+  pub fit : (k : ℕ) → getD ws k 0 < 2 ^ 32
 
 -- every operation keeps eight words of 32 bits in each set
 pub record KeepsShape (g : Bool) (f : File) : Type 0 where
@@ -97,7 +100,8 @@ unfoldable pub Claim-129 : Type 0
 Claim-129 =
     ((w k : ℕ) → (hasBit w k ≡ true) ↔ (w / 2 ^ k % 2 ≡ 1))
     × ((ws : List ℕ) (i : ℕ) → member ws i ≡ hasBit (getD ws (i / 32) 0) (i % 32))
-    × ((f : File) → Shaped f → (length (f .pending) ≡ 8) × (length (f .enable) ≡ 8))
+    × ((f : File) → Shaped f ↔
+    ((f .delivery < 2 ^ 32) × (f .threshold < 2 ^ 32) × EightWords (f .pending) × EightWords (f .enable)))
     × ((f f′ : File) → Shaped f → Shaped f′ → f .delivery ≡ f′ .delivery → f .threshold ≡ f′ .threshold
     → ((i : ℕ) → i ≤ 255 → member (f .pending) i ≡ member (f′ .pending) i)
     → ((i : ℕ) → i ≤ 255 → member (f .enable) i ≡ member (f′ .enable) i) → f ≡ f′)
