@@ -53,10 +53,11 @@ Claim-2 = (f r : File) (a v : ℕ) → page-write.Learnt tt (f, (a, (v, tt))) r 
 unfoldable pub Claim-3 : Type 0
 Claim-3 = (f : File) (a r : ℕ) → page-read.Learnt tt (f, (a, tt)) r (f, (a, tt)) → r ≡ pageRead f a
 
--- the top's identity, and the top
+-- the top's identity, or 0
 unfoldable pub Claim-4 : Type 0
 Claim-4 = (f : File) (r : ℕ) → top-identity.Learnt tt (f, tt) r (f, tt) → r ≡ topIdentity 255 f
 
+-- the top: that identity twice
 unfoldable pub Claim-5 : Type 0
 Claim-5 = (f : File) (r : ℕ) → top.Learnt tt (f, tt) r (f, tt) → r ≡ topOf 255 f
 
@@ -69,10 +70,11 @@ Claim-6 = (f : File) (r : Claimed) → claim.Learnt tt (f, tt) r (f, tt)
 unfoldable pub Claim-7 : Type 0
 Claim-7 = (f : File) (r : Bool) → signals-of.Learnt tt (f, tt) r (f, tt) → r ≡ signals 255 f
 
--- which select numbers are legal, and what each names
+-- which select numbers are legal
 unfoldable pub Claim-8 : Type 0
 Claim-8 = (s : ℕ) (r : Bool) → select-legal.Learnt tt (s, tt) r (s, tt) → r ≡ selectLegal s
 
+-- which register a select number names
 unfoldable pub Claim-9 : Type 0
 Claim-9 = (s : ℕ) (r : Register) → register-of.Learnt tt (s, tt) r (s, tt) → r ≡ registerOf 255 s
 

@@ -51,8 +51,7 @@ Claim-21 =
 unfoldable pub Claim-22 : Type 0
 Claim-22 = (n : ℕ) (f : File) → f .threshold ≢ 0 → (i : ℕ) → f .threshold ≤ i → topOf n f ≢ i * 65536 + i
 
--- a claim clears the pending bit of the top and no other, and nothing else of the file; with no top it
--- changes nothing
+-- a claim clears the pending bit of the top and no other, and nothing else of the file
 unfoldable pub Claim-23 : Type 0
 Claim-23 =
     (f : File) → Shaped f
@@ -62,6 +61,7 @@ Claim-23 =
     × (claimed 255 f .delivery ≡ f .delivery) × (claimed 255 f .threshold ≡ f .threshold)
     × (claimed 255 f .enable ≡ f .enable)
 
+-- with no top a claim changes nothing
 unfoldable pub Claim-24 : Type 0
 Claim-24 = (n : ℕ) (f : File) → topOf n f ≡ 0 → claimed n f ≡ f
 
@@ -108,21 +108,23 @@ Claim-29 =
     → member (written 255 g f (Enable j) v .enable) (64 * j + k) ≡ hasBit v k)
     × ((i : ℕ) → i / 64 ≢ j → member (written 255 g f (Enable j) v .enable) i ≡ member (f .enable) i)
 
--- the illegal select numbers, exactly; an access to one answers so and changes nothing
+-- the illegal select numbers are those below 0x70, those above 0xFF, and the odd ones from 0x80 on
 unfoldable pub Claim-30 : Type 0
 Claim-30 = (s : ℕ) → (selectLegal s ≡ false) ↔ ((s < 0x70) ⊎ ((0xFF < s) ⊎ ((0x80 ≤ s) × (s % 2 ≡ 1))))
 
+-- an access by an illegal select number answers so and changes nothing
 unfoldable pub Claim-31 : Type 0
 Claim-31 =
     (n : ℕ) (g : Bool) (f : File) (k : Access) (s v : ℕ) → selectLegal s ≡ false
     → accessed n g f k s v ≡ record { answer = Illegal; file = f }
 
--- every operation keeps the state rules, and with them identity 0 clear
+-- a message, a claim and any access leave a file that keeps the rules
 pub record KeepsRules (g : Bool) (f : File) : Type 0 where
   pub message : (a v : ℕ) → fileSound 255 g (pageWritten 255 f a v) ≡ true
   pub claim : fileSound 255 g (claimed 255 f) ≡ true
   pub access : (k : Access) (s v : ℕ) → v < 2 ^ 64 → fileSound 255 g (accessed 255 g f k s v .file) ≡ true
 
+-- every operation on a file keeps its state rules, and with them identity 0 clear
 unfoldable pub Claim-32 : Type 0
 Claim-32 = (g : Bool) (f : File) → Shaped f → fileSound 255 g f ≡ true → KeepsRules g f
 
@@ -139,5 +141,7 @@ pub record RoundTrips (l : List ℕ) (at : ℕ) : Type 0 where
       → fileAt (putFile l at f) i ≡ fileAt l i
   pub shape : WordsFit l → Shaped (fileAt l at)
 
+-- a file's words in a block: what is stored is loaded, what is loaded is stored as it was, and what stands
+-- apart stays
 unfoldable pub Claim-34 : Type 0
 Claim-34 = (l : List ℕ) (at : ℕ) → at + 18 ≤ length l → RoundTrips l at

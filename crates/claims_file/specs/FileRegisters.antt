@@ -40,6 +40,8 @@ pub record DeliveryRegister (g : Bool) (f : File) (v : ℕ) : Type 0 where
       → accessed 255 g f Write 0x70 v ≡ record { answer = Value 0; file = f }
   pub legal : (deliveryLegal g v ≡ true) ↔ LegalDelivery g v
 
+-- select 0x70, delivery: a read answers it; a write stores 0, 1, and for files 0 and 1 also 0x40000000, and
+-- any other value keeps the old one; nothing else of the file changes
 unfoldable pub Claim-120 : Type 0
 Claim-120 = (g : Bool) (f : File) (v : ℕ) → DeliveryRegister g f v
 
@@ -51,6 +53,7 @@ pub record ThresholdRegister (g : Bool) (f : File) (v : ℕ) : Type 0 where
   pub write : accessed 255 g f Write 0x72 v
       ≡ record { answer = Value 0; file = withThreshold f (v % 256) }
 
+-- select 0x72, threshold: a read answers it; a write keeps the low 8 bits and changes nothing else
 unfoldable pub Claim-121 : Type 0
 Claim-121 = (g : Bool) (f : File) (v : ℕ) → ThresholdRegister g f v
 
@@ -129,6 +132,7 @@ pub record SetOrCleared (g : Bool) (f : File) (j v : ℕ) : Type 0 where
   pub setEnableRest : EnableAlone f (accessed 255 g f Set (0xC0 + 2 * j) v .file)
   pub clearEnableRest : EnableAlone f (accessed 255 g f Clear (0xC0 + 2 * j) v .file)
 
+-- a set or clear answers the old value and writes old-or-value, or old without value, bit by bit
 unfoldable pub Claim-124 : Type 0
 Claim-124 =
     (g : Bool) (f : File) (v : ℕ)

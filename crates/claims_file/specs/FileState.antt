@@ -48,6 +48,8 @@ pub record BytesReversed (v : ℕ) : Type 0 where
   pub fits : reversed v < 2 ^ 32
   pub back : reversed (reversed v) ≡ v
 
+-- a page write reaches identity j at offset 0 exactly with j, and at offset 4 with j in the top byte alone;
+-- all other offsets do nothing, and all reads give 0
 unfoldable pub Claim-126 : Type 0
 Claim-126 =
     ((f : File) (a v : ℕ) → Shaped f → PageWords f a v) × ((v : ℕ) → v < 2 ^ 32 → BytesReversed v)
@@ -79,6 +81,7 @@ pub record DeliveryApart (f : File) (d : ℕ) : Type 0 where
   pub on : (signals 255 (withDelivery f 1) ≡ true) ↔ (topOf 255 f ≢ 0)
   pub off : d ≢ 1 → signals 255 (withDelivery f d) ≡ false
 
+-- the top, and what a claim takes, do not depend on delivery; a file's own signal does
 unfoldable pub Claim-128 : Type 0
 Claim-128 = (f : File) (d : ℕ) → DeliveryApart f d
 
