@@ -1,22 +1,36 @@
--- The proof of Claim-171. Assumes nothing.
-use Prim.Native.Nat.{ℕ, _+_, _-_, _≤_, _<_}
+-- The proofs of claims 171 to 173. Assumes nothing.
+use Prim.Native.Nat.{ℕ, _+_, _-_, _*_, _%_, _≤_, _<_}
 use mathlib.Core.Path.{_≡_, refl, sym, ap, subst, _∙_}
+use mathlib.Core.Bool.{Bool, true}
 use mathlib.Core.List.{List, _++_}
 use native.Mathlib.Omega.{arith}
+use lib.Dec.{leb}
 use lib.ListN.{length, getD, drop, List·getD-append}
 use lib.Seq.{getD-append-add, getD-drop}
+use Rattle.file.specs.declared.File.{File}
+use Rattle.file.specs.declared.register.Access.{Access}
+use Rattle.file.specs.declared.register.Access.the-variants.{Read, Write, Set, Clear}
+use Rattle.file.specs.Page.{pageWritten, pageRead}
+use Rattle.file.specs.Register.{accessed}
+use Rattle.file.specs.Reply.{replyValue}
+use Rattle.files.specs.Files.{fileNumber, isGuest, theFile}
+use Rattle.files.proofs.FilesLaws.{theFile-withFile-same}
 use Rattle.domain_sending.specs.Sending.{logged}
+use Rattle.wired.specs.Controller.{Out}
+use Rattle.board_block.specs.Block.{Board, boardSound}
+use Rattle.board_call.specs.Change.{kindOf, onFile, change}
 use Rattle.board_call.specs.declared.Call.{Call}
-use Rattle.board_call.specs.Outcome.{Outcome, Stepped, step, doneAs}
+use Rattle.board_call.specs.Outcome.{Outcome, Stepped, thenSent, step, doneAs}
 use Rattle.board_call.specs.Refusal.{nameRefusal}
 use Rattle.board_call_laws.specs.Small.{Small}
 use Rattle.board_call_laws.proofs.OutcomeEffects.{outcome-done}
+use Rattle.board_call_laws.proofs.StepEffects.{wiredStep, step-wire, step-domainRead, step-domainWrite, step-onFile}
 use Rattle.board_runs.specs.Runs.{Lent, outcomeOn, after}
 use Rattle.board_runs.specs.Ready.{boardIn, Ready}
 use Rattle.board_runs.proofs.RunsEffects.{ready-refusal, accepted-named, after-board, ready-after}
 use Rattle.board_call_laws.specs.Fit.{Kept}
 use Rattle.board_call_laws.proofs.KeepsEffects.{kept-step}
-use Rattle.claims_board.specs.Accepted.{Claim-171}
+use Rattle.claims_board.specs.Accepted.{AccessedBy, Claim-171, Claim-172, Claim-173}
 
 module _ (g ms : List ℕ) where
   -- the messages come first, and past them the log is as it was
@@ -52,3 +66,72 @@ claim-171 c x ready small e =
       rw done (logged-later (x .log) (y .messages)),
       next .full,
     )
+
+pub claim-172 : Claim-172
+unfolding Claim-172 step thenSent change fileNumber pageRead
+claim-172 b s = (
+  refl,
+  (λ i level. refl),
+  (λ d a v. refl),
+  (λ h f a. refl),
+  (λ h f a v. refl),
+  (λ oh of nh nf n. refl),
+  (λ h f. refl),
+  (λ h f. refl),
+  (λ h. refl),
+)
+
+module _ (b : Board) (many : length (b .files) ≡ 20) (sound : boardSound b ≡ true) (s : List ℕ) where
+  module _ (h f : ℕ) (p : h < 4) (q : f < 5) where
+    -- a call on one file leaves there what it makes of it
+    on-file : (g : File) (v : ℕ)
+        → theFile (thenSent (onFile b (5 * h + f) g v s) .board .files) (5 * h + f) ≡ g
+    on-file g v =
+        ap (λ (x : Stepped). theFile (x .board .files) (5 * h + f)) (step-onFile b sound (5 * h + f) g v s)
+        ∙ theFile-withFile-same (b .files) (5 * h + f) g (omega (arith, many, p, q))
+
+    guest : isGuest (5 * h + f) ≡ leb 2 f
+    unfolding isGuest
+    guest =
+        let rest : (5 * h + f) % 5 ≡ f = omega (arith, q) in
+        rw rest refl
+
+    by : (k : Access) (select v : ℕ)
+        → let r = accessed 255 (isGuest (5 * h + f)) (theFile (b .files) (5 * h + f)) k select v in
+        AccessedBy k h f b (thenSent (onFile b (5 * h + f) (r .file) (replyValue (r .answer)) s)) select v
+        (5 * h + f)
+    unfolding thenSent
+    by k select v =
+        let x = theFile (b .files) (5 * h + f) in (
+          ap (λ (g : Bool). replyValue (accessed 255 g x k select v .answer)) guest,
+          on-file _ (replyValue (accessed 255 (isGuest (5 * h + f)) x k select v .answer))
+              ∙ ap (λ (g : Bool). accessed 255 g x k select v .file) guest,
+        )
+
+-- a step that is one of the wired controller
+as-wired : (b : Board) (s : List ℕ) (o : Out) (v : ℕ) (x : Stepped) → x ≡ wiredStep b o v s
+    → (x .board .wired ≡ o .wired) × (x .messages ≡ o .messages)
+as-wired b s o v x e = (ap (λ (x : Stepped). x .board .wired) e, ap (λ (x : Stepped). x .messages) e)
+
+pub claim-173 : Claim-173
+unfolding Claim-173 step change fileNumber kindOf
+claim-173 b many sound s = (
+  (λ h f p q. (
+    (λ a v. on-file b many sound s h f p q (pageWritten 255 (theFile (b .files) (5 * h + f)) a v) 0),
+    on-file b many sound s h f p q _ _,
+    (λ select v. (
+      by b many sound s h f p q Read select v,
+      by b many sound s h f p q Write select v,
+      by b many sound s h f p q Set select v,
+      by b many sound s h f p q Clear select v,
+    )),
+  )),
+  (λ i. (as-wired b s _ _ _ (step-wire b i 0 s), as-wired b s _ _ _ (step-wire b i 1 s))),
+  (λ a. (
+    ap (λ (x : Stepped). x .value) (step-domainRead b 0 a s),
+    ap (λ (x : Stepped). x .value) (step-domainRead b 1 a s),
+    as-wired b s _ _ _ (step-domainRead b 0 a s),
+    as-wired b s _ _ _ (step-domainRead b 1 a s),
+  )),
+  (λ a v. (as-wired b s _ _ _ (step-domainWrite b 0 a v s), as-wired b s _ _ _ (step-domainWrite b 1 a v s))),
+)
