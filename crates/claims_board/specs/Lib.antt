@@ -3,3 +3,4 @@ pub mod OneSource
 pub mod BoardCalls
 pub mod BoardFacts
 pub mod Accepted
+pub mod Closure

@@ -1,0 +1,378 @@
+-- Claims 152 to 154, by the laws of the calls and of the files. Assumes nothing.
+use Prim.Native.Nat.{ℕ, zero, suc, _+_, _*_, _/_, _%_, _≤_, _<_}
+use mathlib.Core.Path.{_≡_, refl, sym, ap, ap₂, subst, _∙_}
+use mathlib.Core.Bool.{Bool, true, false, Bool·beq, not, _&&_, _||_, or-false, true≢false}
+use mathlib.Core.List.{List, [], _∷_, map, _++_}
+use native.Mathlib.Decide.{ℕ-discrete}
+use native.Mathlib.Omega.{arith}
+use lib.Dec.{eqb, leb}
+use lib.ListN.{length}
+use borrow.Author.Tests.{eq-eqb, ne-eqb, eqb-true, eqb-false}
+use Rattle.words.specs.Every.{every}
+use Rattle.words.proofs.EveryLaws.{every-each}
+use Rattle.words.specs.Sets.{member}
+use Rattle.words.proofs.TestsLaws.{tested, and-first, beq-true}
+use Rattle.file_message.specs.Message.{logWord, hartIn, fileIn, identityIn}
+use Rattle.source_target.specs.Target.{messageOf}
+use Rattle.source_target.proofs.TargetLaws.{hartOf-lt, guestOf-lt, numberOf-lt}
+use Rattle.domain_region.specs.declared.Word.{Word}
+use Rattle.domain_region.specs.declared.role.Role.{Role}
+use Rattle.domain_region.specs.declared.role.Role.the-variants.{Claims, Configures, Generates, Plain}
+use Rattle.domain_region.specs.Role.{roleOf}
+use Rattle.domain_region.specs.Region.{wordAt}
+use Rattle.domain.specs.Domain.{Domain, isEnabled, byMessages}
+use Rattle.domain.specs.Slot.{sourceAt}
+use Rattle.domain_genmsi.specs.Genmsi.{generatedOf, generatedSent}
+use Rattle.domain_sending.specs.Sending.{sent}
+use Rattle.domain_sending.proofs.SendingLaws.{sent-off}
+use Rattle.domain_sending_laws.specs.Candidates.{candidates, messageAt}
+use Rattle.domain_sending_laws.proofs.SendingEffects.{sent-messages}
+use Rattle.domain_sending_laws.proofs.MessageEffects.{Every, every-none, every-one, every-append}
+use Rattle.domain_sending_laws.proofs.MessageEffects.{message-names, generated-names}
+use Rattle.wired_state.specs.Wires.{Wired, domainIn}
+use Rattle.wired_rules_laws.specs.Steady.{WiredQuiet}
+use Rattle.wired_rules_laws.proofs.WiredQuietEffects.{quiet-claimedIn}
+use Rattle.wired.specs.Controller.{flushed, generatedAs, generatedBy}
+use Rattle.file_select.specs.Select.{selectLegal}
+use Rattle.file.specs.declared.File.{File}
+use Rattle.file.specs.Register.{accessed, accessedAt}
+use Rattle.file_laws.proofs.Stored.{Long}
+use Rattle.files.specs.Files.{fileNumber, isGuest, theFile, withFile, namedBy}
+use Rattle.files.proofs.FilesLaws.{theFile-withFile-other}
+use Rattle.files_laws.specs.Messages
+use Rattle.files_laws.specs.Messages.{brings, anyOf, PendingOnly}
+use Rattle.files_laws.proofs.ReachedEffects.{pending-allReached, pending-allReached-zero, rest-allReached}
+use Rattle.files_laws.proofs.ReachedEffects.{withFile-theFile}
+use Rattle.files_laws.proofs.AnyLaws.{or-first}
+use Rattle.board_move_steps.specs.declared.Act.{Act}
+use Rattle.board_move_steps.specs.declared.Act.the-variants.{Save, Zero, Target, Put}
+use Rattle.board_move_steps.specs.Steps.{actOf}
+use Rattle.board_block.specs.Block.{Board}
+use Rattle.board_block.specs.Start.{startBoard}
+use Rattle.board_block_laws.proofs.StartEffects.{start-sound}
+use Rattle.board_call.specs.declared.Call.{Call}
+use Rattle.board_call.specs.declared.Call.the-variants.{Reset, Wire, DomainRead, DomainWrite, PageRead}
+use Rattle.board_call.specs.declared.Call.the-variants.{PageWrite}
+use Rattle.board_call.specs.declared.Call.the-variants.{Register, Top, Claim, Signals, Move}
+use Rattle.board_call.specs.Refusal.{present, nameRefusal, isMove}
+use Rattle.board_call.proofs.RefusalLaws.{refused-name}
+use Rattle.board_call.specs.Change.{kindOf, change}
+use Rattle.board_call.specs.Move.{acted}
+use Rattle.board_call.specs.Outcome.{Stepped, thenSent, step}
+use Rattle.board_call_laws.specs.Fit.{Fit}
+use Rattle.board_call_laws.proofs.StepEffects.{sound-quiet, settled-quiet}
+use Rattle.board_call_laws.proofs.MoveEffects.{move-low, move-high, step-move}
+use Rattle.board_call_laws.proofs.FileCallEffects.{number-read}
+use Rattle.claims_board.specs.Closure.{maySend, oldAccess, newAccess, touchesFile}
+use Rattle.claims_board.specs.Closure.{Claim-152, Claim-153, Claim-154}
+
+-- what an accepted call names is there
+pub names : (c : Call) (b : Board) → nameRefusal c b ≡ 0 → present c b ≡ true
+names c b e = tested (present c b) (λ y. y) (λ n. absurd (omega (arith, refused-name c b n, e)))
+
+-- ---- what sends nothing
+
+module _ (b : Board) (fit : Fit b) (s : List ℕ) where
+  -- the step leaves what the change left, and sends nothing
+  abbrev Silent : Call → Type 0
+  Silent c = (step c b s .messages ≡ []) × (step c b s .board ≡ change c b s .board)
+
+  -- nothing is sent at once, and nothing is to be sent
+  silent : (c : Call) → WiredQuiet (change c b s .board .wired) → change c b s .own ≡ [] → Silent c
+  unfolding step
+  silent c q none =
+      let e = settled-quiet (change c b s) q none in
+      (ap (λ (y : Stepped). y .messages) e, ap (λ (y : Stepped). y .board) e)
+
+  abbrev quiet : WiredQuiet (b .wired)
+  quiet = sound-quiet b (fit .sound)
+
+  silent-step : (c : Call) → present c b ≡ true → maySend c ≡ false → Silent c
+  silent-step Reset n q = unfold change in silent Reset (sound-quiet startBoard start-sound) refl
+  silent-step (Wire i level) n q = absurd (true≢false q)
+  silent-step (DomainRead d a) n q =
+      unfold change in silent (DomainRead d a) (quiet-claimedIn (b .wired) quiet (eqb d 1) (wordAt a)) refl
+  silent-step (DomainWrite d a v) n q = absurd (true≢false q)
+  silent-step (PageRead h f a) n q = unfold change in silent (PageRead h f a) quiet refl
+  silent-step (PageWrite h f a v) n q = unfold change in silent (PageWrite h f a v) quiet refl
+  silent-step (Register h f kind x v) n q = unfold change in silent (Register h f kind x v) quiet refl
+  silent-step (Top h f) n q = unfold change in silent (Top h f) quiet refl
+  silent-step (Claim h f) n q = unfold change in silent (Claim h f) quiet refl
+  silent-step (Signals h) n q = unfold change in silent (Signals h) quiet refl
+  silent-step (Move oh of nh nf k) n q =
+      unfold change present in
+      let e = step-move b fit oh of nh nf k
+      (and-first (isMove oh of nh nf k) (byMessages (b .wired .child)) n) s in
+      (ap (λ (y : Stepped). y .messages) e, ap (λ (y : Stepped). y .board) e)
+
+pub claim-154 : Claim-154
+unfolding Claim-154
+claim-154 b fit c e q s = silent-step b fit s c (names c b e) q
+
+-- ---- the messages of a call
+
+-- a log word of a hart and a file that there are
+abbrev Addressed : ℕ → Type 0
+Addressed m = (m < 8192) × (fileIn m < 5)
+
+module _ (c : Bool) (t : ℕ) where
+  message-addressed : Addressed (messageOf c t)
+  unfolding messageOf logWord
+  message-addressed = (
+    tested c (λ y. rw y (omega (arith, hartOf-lt t, guestOf-lt t, numberOf-lt t)))
+        (λ n. rw n (omega (arith, hartOf-lt t, numberOf-lt t))),
+    message-names c t .exists,
+  )
+
+  generated-addressed : Addressed (generatedOf c t)
+  unfolding generatedOf logWord
+  generated-addressed = (
+    tested c (λ y. rw y (omega (arith, hartOf-lt t, numberOf-lt t)))
+        (λ n. rw n (omega (arith, hartOf-lt t, numberOf-lt t))),
+    generated-names c t .exists,
+  )
+
+all-map : (P : ℕ → Type 0) (g : ℕ → ℕ) (l : List ℕ) → ((i : ℕ) → P (g i)) → Every P (map g l)
+all-map P g [] p = every-none P
+all-map P g (i ∷ l) p = every-append P (g i ∷ []) (map g l) (every-one P (g i) (p i)) (all-map P g l p)
+
+sent-addressed : (c : Bool) (d : Domain) → Every Addressed (sent c d .messages)
+sent-addressed c d =
+    tested (isEnabled d && byMessages d)
+    (λ t. rw (sent-messages c d t)
+    (all-map Addressed (messageAt c d) (candidates d) (λ i. message-addressed c (sourceAt d i .target))))
+    (λ f. rw (sent-off c d f) (every-none Addressed))
+
+flushed-addressed : (w : Wired) → Every Addressed (flushed w .messages)
+unfolding flushed
+flushed-addressed w =
+    every-append Addressed (sent false (w .root) .messages) (sent true (w .child) .messages)
+    (sent-addressed false (w .root)) (sent-addressed true (w .child))
+
+generatedBy-addressed : (c : Bool) (d : Domain) (r : Word) (v : ℕ) → Every Addressed (generatedBy c d r v)
+unfolding generatedBy
+generatedBy-addressed c d r v = at (roleOf r)
+  where
+    one : Every Addressed (generatedSent c d v)
+    one =
+        unfold generatedSent in
+        tested (byMessages d) (λ t. rw t (every-one Addressed _ (generated-addressed c v)))
+        (λ f. rw f (every-none Addressed))
+
+    at : (x : Role) → Every Addressed (generatedAs c d v x)
+    at (Claims h) = unfold generatedAs in every-none Addressed
+    at (Configures i) = unfold generatedAs in every-none Addressed
+    at Generates = unfold generatedAs in one
+    at Plain = unfold generatedAs in every-none Addressed
+
+step-addressed : (c : Call) (b : Board) (s : List ℕ) → Every Addressed (change c b s .own)
+    → Every Addressed (step c b s .messages)
+unfolding step thenSent
+step-addressed c b s own =
+    let w = change c b s .board .wired in
+    every-append Addressed (change c b s .own) (flushed w .messages) own (flushed-addressed w)
+
+-- ---- the file and the identity that a message names
+
+one-hart : (a c h f : ℕ) → c < 5 → f < 5 → 5 * a + c ≡ 5 * h + f → (a ≡ h) × (c ≡ f)
+one-hart a c h f lc lf e = (omega arith, omega arith)
+
+joined : (m : ℕ) → m < 8192 → 2048 * (m / 2048 % 4) + 256 * (m / 256 % 8) + m % 256 ≡ m
+joined m l = omega arith
+
+-- as numbers
+module _ (h f i m : ℕ) (lf : f < 5) (li : i ≤ 255) (small : m < 8192) where
+  parts : 2048 * h + 256 * f + i ≡ m → (m / 2048 % 4 ≡ h) × (m / 256 % 8 ≡ f) × (m % 256 ≡ i)
+  parts e = (omega arith, omega arith, omega arith)
+
+  whole : m / 256 % 8 < 5 → 5 * (m / 2048 % 4) + m / 256 % 8 ≡ 5 * h + f → m % 256 ≡ i
+      → 2048 * h + 256 * f + i ≡ m
+  whole l e r =
+      let p = one-hart (m / 2048 % 4) (m / 256 % 8) h f l lf e in
+      rw (sym (p .0), sym (p .1), sym r) (joined m small)
+
+  named : m / 256 % 8 < 5
+      → (eqb (5 * (m / 2048 % 4) + m / 256 % 8) (5 * h + f) && eqb (m % 256) i)
+      ≡ eqb (2048 * h + 256 * f + i) m
+  named l = at (ℕ-discrete (2048 * h + 256 * f + i) m)
+    where
+      at : Dec (2048 * h + 256 * f + i ≡ m)
+          → (eqb (5 * (m / 2048 % 4) + m / 256 % 8) (5 * h + f) && eqb (m % 256) i)
+          ≡ eqb (2048 * h + 256 * f + i) m
+      at (yes e) =
+          let p = parts e in
+          simp (eq-eqb (5 * (m / 2048 % 4) + m / 256 % 8) (5 * h + f) (omega (arith, p)),
+          eq-eqb (m % 256) i (p .2), eq-eqb (2048 * h + 256 * f + i) m e)
+      at (no n) =
+          rw (ne-eqb (2048 * h + 256 * f + i) m n)
+          (tested (eqb (5 * (m / 2048 % 4) + m / 256 % 8) (5 * h + f))
+          (λ t. tested (eqb (m % 256) i)
+          (λ u. absurd (n (whole l (eqb-true _ _ t) (eqb-true _ _ u))))
+          (λ u. simp (t, u)))
+          (λ t. simp t))
+
+module _ (h f i : ℕ) (lf : f < 5) (li : i ≤ 255) where
+  brings-is : (m : ℕ) → Addressed m → brings (5 * h + f) i m ≡ eqb (2048 * h + 256 * f + i) m
+  unfolding brings Messages.names namedBy fileNumber fileIn hartIn identityIn
+  brings-is m p = named h f i m lf li (p .0) (p .1)
+
+  any-brings : (ms : List ℕ) → Every Addressed ms
+      → anyOf (brings (5 * h + f) i) ms ≡ anyOf (eqb (2048 * h + 256 * f + i)) ms
+  unfolding anyOf
+  any-brings [] p = refl
+  any-brings (m ∷ ms) p =
+      ap₂ _||_ (brings-is m (p 0 (omega arith))) (any-brings ms (λ k l. p (suc k) (omega arith)))
+
+-- ---- what reaches a file
+
+module _ (b : Board) (fit : Fit b) (s : List ℕ) (h f : ℕ) (lh : h < 4) (lf : f < 5) where
+  abbrev k : ℕ
+  k = 5 * h + f
+
+  abbrev Reached : Call → Type 0
+  Reached c =
+      let x = theFile (change c b s .board .files) k in
+      let x′ = theFile (step c b s .board .files) k in
+      PendingOnly x x′ × (member (x′ .pending) 0 ≡ member (x .pending) 0)
+      × ((i : ℕ) → 1 ≤ i → i ≤ 255
+      → member (x′ .pending) i
+      ≡ (member (x .pending) i || anyOf (eqb (2048 * h + 256 * f + i)) (step c b s .messages)))
+
+  -- a call that leaves the files to its messages
+  by-messages : (c : Call) → change c b s .board .files ≡ b .files → Every Addressed (change c b s .own)
+      → Reached c
+  unfolding step thenSent
+  by-messages c same own =
+      let fs = change c b s .board .files in
+      let ms = step c b s .messages in
+      let many : length fs ≡ 20 = ap length same ∙ fit .shaped .many in
+      let long : Long (theFile fs k) =
+      subst (λ (gs : List File). Long (theFile gs k)) (sym same) (fit .shaped .long k (omega arith)) in
+      (rest-allReached ms fs k, pending-allReached-zero ms fs k,
+      (λ i l u. pending-allReached ms fs k i (omega arith) long l
+      ∙ ap (λ (y : Bool). member (theFile fs k .pending) i || y)
+      (any-brings h f i lf u ms (step-addressed c b s own))))
+
+  -- a call that sends nothing
+  by-none : (c : Call) → Silent b fit s c → Reached c
+  unfolding anyOf
+  by-none c (none, same) = rw (none, same) (
+    record { delivery = refl; threshold = refl; enable = refl },
+    refl,
+    (λ i l u. sym (or-false _)),
+  )
+
+  reaches : (c : Call) → present c b ≡ true → Reached c
+  reaches Reset n = by-none Reset (silent-step b fit s Reset n refl)
+  reaches (Wire i level) n = by-messages (Wire i level) (unfold change in refl) (unfold change in every-none Addressed)
+  reaches (DomainRead d a) n = by-none (DomainRead d a) (silent-step b fit s (DomainRead d a) n refl)
+  reaches (DomainWrite d a v) n =
+      by-messages (DomainWrite d a v) (unfold change in refl)
+      (unfold change in generatedBy-addressed (eqb d 1) (domainIn (b .wired) (eqb d 1)) (wordAt a) v)
+  reaches (PageRead h f a) n = by-none (PageRead h f a) (silent-step b fit s (PageRead h f a) n refl)
+  reaches (PageWrite h f a v) n = by-none (PageWrite h f a v) (silent-step b fit s (PageWrite h f a v) n refl)
+  reaches (Register h f kind x v) n =
+      by-none (Register h f kind x v) (silent-step b fit s (Register h f kind x v) n refl)
+  reaches (Top h f) n = by-none (Top h f) (silent-step b fit s (Top h f) n refl)
+  reaches (Claim h f) n = by-none (Claim h f) (silent-step b fit s (Claim h f) n refl)
+  reaches (Signals h) n = by-none (Signals h) (silent-step b fit s (Signals h) n refl)
+  reaches (Move oh of nh nf m) n = by-none (Move oh of nh nf m) (silent-step b fit s (Move oh of nh nf m) n refl)
+
+pub claim-152 : Claim-152
+unfolding Claim-152
+claim-152 b fit c e s h f lh lf = reaches b fit s h f lh lf c (names c b e)
+
+-- ---- what a change leaves of a file
+
+-- the acts of a move that write to the old file, and to the new one
+unfoldable oldAct : Act → Bool
+oldAct (Save select place) = false
+oldAct (Zero new select) = not new
+oldAct (Target i) = false
+oldAct (Put kind select place) = false
+
+unfoldable newAct : Act → Bool
+newAct (Save select place) = false
+newAct (Zero new select) = new
+newAct (Target i) = false
+newAct (Put kind select place) = true
+
+old-table : every (λ n. Bool·beq (oldAct (actOf n)) (oldAccess n)) 1 89 ≡ true
+unfolding every oldAct actOf
+old-table = refl
+
+new-table : every (λ n. Bool·beq (newAct (actOf n)) (newAccess n)) 1 89 ≡ true
+unfolding every newAct actOf
+new-table = refl
+
+module _ (b : Board) (s : List ℕ) (k : ℕ) where
+  abbrev Left : Call → Type 0
+  Left c = theFile (change c b s .board .files) k ≡ theFile (b .files) k
+
+  -- file f of hart h replaced
+  other : (h f : ℕ) (x : File) → eqb k (5 * h + f) ≡ false
+      → theFile (withFile (b .files) (fileNumber h f) x) k ≡ theFile (b .files) k
+  other h f x e =
+      theFile-withFile-other (b .files) (fileNumber h f) x k
+      (λ q. eqb-false k (5 * h + f) e (q ∙ sym (number-read h f)))
+
+  -- a read of a register
+  read-same : (g : Bool) (x : File) (r v : ℕ) → accessed 255 g x (kindOf 0) r v .file ≡ x
+  unfolding accessed accessedAt kindOf
+  read-same g x r v = tested (selectLegal r) (λ t. simp t) (λ u. simp u)
+
+  left-register : (h f kind x v : ℕ) → (not (eqb kind 0) && eqb k (5 * h + f)) ≡ false
+      → Left (Register h f kind x v)
+  unfolding change
+  left-register h f kind x v e = at (ℕ-discrete kind 0)
+    where
+      at : Dec (kind ≡ 0) → Left (Register h f kind x v)
+      at (yes z) =
+          unfold change in
+          let n = fileNumber h f in
+          let y = theFile (b .files) n in
+          ap (λ (q : ℕ). theFile (withFile (b .files) n (accessed 255 (isGuest n) y (kindOf q) x v .file)) k) z
+          ∙ ap (λ (w : File). theFile (withFile (b .files) n w) k) (read-same (isGuest n) y x v)
+          ∙ ap (λ (fs : List File). theFile fs k) (withFile-theFile (b .files) n)
+      at (no n) = unfold change in other h f _ (rw (ne-eqb kind 0 n) at e)
+
+  left-acted : (oh of nh nf : ℕ) (a : Act)
+      → ((oldAct a && eqb k (5 * oh + of)) || (newAct a && eqb k (5 * nh + nf))) ≡ false
+      → theFile (acted a oh of nh nf b s .board .files) k ≡ theFile (b .files) k
+  unfolding acted oldAct newAct
+  left-acted oh of nh nf (Save select place) e = refl
+  left-acted oh of nh nf (Zero true select) e = other nh nf _ e
+  left-acted oh of nh nf (Zero false select) e = other oh of _ (or-first _ false e)
+  left-acted oh of nh nf (Target i) e = refl
+  left-acted oh of nh nf (Put kind select place) e = other nh nf _ e
+
+  left-move : (oh of nh nf n : ℕ) → isMove oh of nh nf n ≡ true
+      → touchesFile (Move oh of nh nf n) k ≡ false → Left (Move oh of nh nf n)
+  unfolding change
+  left-move oh of nh nf n there e =
+      let l = move-low oh of nh nf n there in
+      let u = move-high oh of nh nf n there in
+      let o : oldAct (actOf n) ≡ oldAccess n = beq-true (oldAct (actOf n)) (oldAccess n)
+      (every-each (λ (m : ℕ). Bool·beq (oldAct (actOf m)) (oldAccess m)) 1 89 old-table n l (omega arith)) in
+      let w : newAct (actOf n) ≡ newAccess n = beq-true (newAct (actOf n)) (newAccess n)
+      (every-each (λ (m : ℕ). Bool·beq (newAct (actOf m)) (newAccess m)) 1 89 new-table n l (omega arith)) in
+      left-acted oh of nh nf (actOf n) (rw (o, w) e)
+
+  left-change : (c : Call) → present c b ≡ true → touchesFile c k ≡ false → Left c
+  left-change Reset n e = absurd (true≢false e)
+  left-change (Wire i level) n e = unfold change in refl
+  left-change (DomainRead d a) n e = unfold change in refl
+  left-change (DomainWrite d a v) n e = unfold change in refl
+  left-change (PageRead h f a) n e = unfold change in refl
+  left-change (PageWrite h f a v) n e = unfold change in other h f _ e
+  left-change (Register h f kind x v) n e = left-register h f kind x v e
+  left-change (Top h f) n e = unfold change in refl
+  left-change (Claim h f) n e = unfold change in other h f _ e
+  left-change (Signals h) n e = unfold change in refl
+  left-change (Move oh of nh nf m) n e =
+      unfold present in
+      left-move oh of nh nf m (and-first (isMove oh of nh nf m) (byMessages (b .wired .child)) n) e
+
+pub claim-153 : Claim-153
+unfolding Claim-153
+claim-153 b fit c e s k l q = left-change b s k c (names c b e) q
