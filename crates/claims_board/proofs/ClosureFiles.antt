@@ -375,4 +375,4 @@ module _ (b : Board) (s : List ℕ) (k : ℕ) where
 
 pub claim-153 : Claim-153
 unfolding Claim-153
-claim-153 b fit c e s k l q = left-change b s k c (names c b e) q
+claim-153 b c e s k q = left-change b s k c (names c b e) q

@@ -3,4 +3,5 @@ pub mod OneSource
 pub mod BoardCalls
 pub mod BoardFacts
 pub mod Accepted
+pub mod ClosureSent
 pub mod ClosureFiles

@@ -1,21 +1,23 @@
 -- Claims 151 to 154, on every call of the board: what is sent, and what is left of each file. The standard
 -- 4.7 counts up all that changes a pending bit; 01, "The wired controller", "The board".
 --   maySend c            the call c may send: only a wire that is set and a word that is written to a domain do
---   touchesFile c k      the call c may change file number k of 0 to 19, before its messages arrive
+--   touchesFile c k      the call c may change file number k, 5 h + f for file f of hart h, before its messages arrive
 --   oldAccess, newAccess n   access n of a move writes the old file, or the new one
 -- Premises: `Fit b`, a board that calls can be made on, as every accepted call leaves it (Claim-86), and that
--- the call c is not refused, `nameRefusal c b ≡ 0`. Claim-151 has neither. No axioms.
+-- the call c is not refused, `nameRefusal c b ≡ 0`. Claim-151 has neither, and Claim-153 the second alone. No
+-- axioms.
 use Prim.Native.Nat.{ℕ, _+_, _*_, _≤_, _<_}
 use mathlib.Core.Path.{_≡_}
-use mathlib.Core.Bool.{Bool, true, false, not, _&&_, _||_}
+use mathlib.Core.Bool.{Bool, true, false, cond, not, _&&_, _||_}
 use mathlib.Core.List.{List, []}
 use lib.Dec.{eqb, leb}
 use Rattle.words.specs.Sets.{member}
 use Rattle.source_mode.specs.Mode.{isActive}
+use Rattle.source_target.specs.Target.{hartOf, guestOf, numberOf}
 use Rattle.domain.specs.Domain.{isEnabled, byMessages}
 use Rattle.domain.specs.Slot.{sourceAt}
 use Rattle.wired_state.specs.Wires.{domainIn}
-use Rattle.domain_sending_laws.specs.Candidates.{messageAt, DomainPendingOnly}
+use Rattle.domain_sending_laws.specs.Candidates.{DomainPendingOnly}
 use Rattle.files.specs.Files.{theFile}
 use Rattle.files_laws.specs.Messages.{anyOf, PendingOnly}
 use Rattle.board_block.specs.Block.{Board}
@@ -32,7 +34,7 @@ use Rattle.board_call_laws.specs.Fit.{Fit}
 
 -- the pass of messages after a change, in each domain (c says that it is the child): nothing but pending bits
 -- changes, and no wire. A pending bit stays unless the domain has IE and DM and the source is active, pending
--- and enabled: then it is cleared, and the message that the source's target names is one of those sent
+-- and enabled: then it is cleared, and a message with the hart, the file and the identity of its target is sent
 unfoldable pub Claim-151 : Type 0
 Claim-151 =
     (call : Call) (b : Board) (s : List ℕ)
@@ -44,9 +46,12 @@ Claim-151 =
     DomainPendingOnly d d′
     × ((i : ℕ) → 1 ≤ i → i ≤ 63
     → let x = sourceAt d i in
+    let t = x .target in
     let goes = isEnabled d && byMessages d && (isActive (x .mode) && x .pending && x .enabled) in
     (sourceAt d′ i .pending ≡ (x .pending && not goes))
-    × (goes ≡ true → anyOf (eqb (messageAt c d i)) (step call b s .messages) ≡ true)))
+    × (goes ≡ true
+    → anyOf (eqb (hartOf t * 2048 + cond c (guestOf t + 1) 0 * 256 + numberOf t)) (step call b s .messages)
+    ≡ true)))
 
 abbrev pub maySend : Call → Bool
 maySend Reset = false
@@ -107,5 +112,5 @@ touchesFile (Move oh of nh nf n) k =
 -- before its messages arrive, a call leaves each file that it does not name
 unfoldable pub Claim-153 : Type 0
 Claim-153 =
-    (b : Board) → Fit b → (c : Call) → nameRefusal c b ≡ 0 → (s : List ℕ) (k : ℕ) → k < 20
+    (b : Board) (c : Call) → nameRefusal c b ≡ 0 → (s : List ℕ) (k : ℕ)
     → touchesFile c k ≡ false → theFile (change c b s .board .files) k ≡ theFile (b .files) k
