@@ -6,6 +6,8 @@ pub mod Direct
 pub mod SourceRules
 pub mod Rules
 pub mod Writes
+pub mod Kept
+pub mod KeptWired
 pub mod Operations
 pub mod Controller
 pub mod Modes

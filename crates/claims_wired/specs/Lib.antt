@@ -5,6 +5,7 @@ pub mod WiredCalls
 pub mod Direct
 pub mod Rules
 pub mod Writes
+pub mod Kept
 pub mod Operations
 pub mod Controller
 pub mod Modes
