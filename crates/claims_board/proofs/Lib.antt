@@ -5,3 +5,4 @@ pub mod BoardFacts
 pub mod Accepted
 pub mod ClosureSent
 pub mod ClosureFiles
+pub mod Closure

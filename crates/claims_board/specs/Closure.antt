@@ -1,10 +1,16 @@
--- Claims 151 to 154, on every call of the board: what is sent, and what is left of each file. The standard
--- 4.7 counts up all that changes a pending bit; 01, "The wired controller", "The board".
+-- Claims 150 to 154 and 156, on every call of the board: what it may change of each domain, what it sends, and
+-- what it leaves of each file. The standard's 4.7 counts up all that changes a pending bit; 01, "The board",
+-- "The wired controller".
+--   touches call w c     what the call may change of the domain c of the wired controller w, before anything
+--                        is sent: the tables of Claim-155; c says that the domain is the child
+--   retargets .. w i     access n of a move is that of source i, and the child's target of it names old
+--   touchesWire call j   the call may change wire j
 --   maySend c            the call c may send: only a wire that is set and a word that is written to a domain do
 --   touchesFile c k      the call c may change file number k, 5 h + f for file f of hart h, before its messages arrive
 --   oldAccess, newAccess n   access n of a move writes the old file, or the new one
--- Premises: `Fit b`, a board that calls can be made on, as every accepted call leaves it (Claim-86), and that
--- the call c is not refused, `nameRefusal c b ≡ 0`. Claim-151 has neither, and Claim-153 the second alone. No
+-- Premises: the call is not refused, `nameRefusal call b ≡ 0`, but in Claim-151, which has none. Claims 150
+-- and 156 have `BoardShaped b`, the lists have their lengths, as those of every block of 650 words have; claims
+-- 152 and 154 have `Fit b`, a board that calls can be made on, as every accepted call leaves it (Claim-86). No
 -- axioms.
 use Prim.Native.Nat.{ℕ, _+_, _*_, _≤_, _<_}
 use mathlib.Core.Path.{_≡_}
@@ -16,11 +22,13 @@ use Rattle.source_mode.specs.Mode.{isActive}
 use Rattle.source_target.specs.Target.{hartOf, guestOf, numberOf}
 use Rattle.domain.specs.Domain.{isEnabled, byMessages}
 use Rattle.domain.specs.Slot.{sourceAt}
-use Rattle.wired_state.specs.Wires.{domainIn}
+use Rattle.domain_region.specs.Region.{wordAt}
+use Rattle.wired_state.specs.Wires.{Wired, domainIn}
 use Rattle.domain_sending_laws.specs.Candidates.{DomainPendingOnly}
 use Rattle.files.specs.Files.{theFile}
 use Rattle.files_laws.specs.Messages.{anyOf, PendingOnly}
 use Rattle.board_block.specs.Block.{Board}
+use Rattle.board_block_laws.specs.Shape.{BoardShaped}
 use Rattle.board_call.specs.declared.Call.{Call}
 use Rattle.board_call.specs.declared.Call.the-variants.{Reset, Wire, DomainRead, DomainWrite, PageRead}
 use Rattle.board_call.specs.declared.Call.the-variants.{PageWrite}
@@ -29,6 +37,66 @@ use Rattle.board_call.specs.Refusal.{nameRefusal}
 use Rattle.board_call.specs.Change.{change}
 use Rattle.board_call.specs.Outcome.{step}
 use Rattle.board_call_laws.specs.Fit.{Fit}
+use Rattle.claims_wired.specs.Kept.{Touch, none, sources, nothing, writesIn, readsIn, Kept}
+
+-- ---- the wired controller, before anything is sent
+
+abbrev pub all : ℕ → Bool
+all i = true
+
+abbrev pub everything : Touch
+everything =
+    record {
+      pending = all;
+      enabled = all;
+      target = all;
+      mode = all;
+      config = true;
+      generated = true;
+      idelivery = all;
+      iforce = all;
+      ithreshold = all;
+    }
+
+abbrev pub retargets : ℕ → ℕ → ℕ → Wired → ℕ → Bool
+retargets oh of n w i =
+    let t = sourceAt (w .child) i .target in
+    eqb n (8 + i) && (eqb (hartOf t) oh && eqb (guestOf t + 1) of)
+
+unfoldable pub touches : Call → Wired → Bool → Touch
+touches Reset w c = everything
+touches (Wire i level) w c = sources (eqb i) none none none
+touches (DomainRead d a) w c = readsIn w (eqb d 1) (wordAt a) c
+touches (DomainWrite d a v) w c = writesIn w (eqb d 1) (wordAt a) v c
+touches (PageRead h f a) w c = nothing
+touches (PageWrite h f a v) w c = nothing
+touches (Register h f kind x v) w c = nothing
+touches (Top h f) w c = nothing
+touches (Claim h f) w c = nothing
+touches (Signals h) w c = nothing
+touches (Move oh of nh nf n) w c = cond c (sources none none (retargets oh of n w) none) nothing
+
+unfoldable pub touchesWire : Call → ℕ → Bool
+touchesWire Reset j = true
+touchesWire (Wire i level) j = eqb i j
+touchesWire (DomainRead d a) j = false
+touchesWire (DomainWrite d a v) j = false
+touchesWire (PageRead h f a) j = false
+touchesWire (PageWrite h f a v) j = false
+touchesWire (Register h f kind x v) j = false
+touchesWire (Top h f) j = false
+touchesWire (Claim h f) j = false
+touchesWire (Signals h) j = false
+touchesWire (Move oh of nh nf n) j = false
+
+-- before anything is sent, a call leaves of each domain all that the table does not name, and every other wire
+unfoldable pub Claim-150 : Type 0
+Claim-150 =
+    (b : Board) → BoardShaped b → (call : Call) → nameRefusal call b ≡ 0 → (s : List ℕ)
+    → let w = b .wired in
+    let w′ = change call b s .board .wired in
+    ((c : Bool) → Kept (touches call w c) (domainIn w c) (domainIn w′ c))
+    × ((j : ℕ) → touchesWire call j ≡ false → member (w′ .wires) j ≡ member (w .wires) j)
 
 -- ---- what is sent
 
