@@ -6,3 +6,4 @@ pub mod Accepted
 pub mod ClosureSent
 pub mod ClosureFiles
 pub mod Closure
+pub mod ClosureCall

@@ -16,6 +16,7 @@ use Prim.Native.Nat.{ℕ, _+_, _*_, _≤_, _<_}
 use mathlib.Core.Path.{_≡_}
 use mathlib.Core.Bool.{Bool, true, false, cond, not, _&&_, _||_}
 use mathlib.Core.List.{List, []}
+use mathlib.Core.Logic.{_≢_}
 use lib.Dec.{eqb, leb}
 use Rattle.words.specs.Sets.{member}
 use Rattle.source_mode.specs.Mode.{isActive}
@@ -120,6 +121,39 @@ Claim-151 =
     × (goes ≡ true
     → anyOf (eqb (hartOf t * 2048 + cond c (guestOf t + 1) 0 * 256 + numberOf t)) (step call b s .messages)
     ≡ true)))
+
+-- the same parts, and every pending bit
+abbrev pub withPendings : Touch → Touch
+withPendings t =
+    record {
+      pending = all;
+      enabled = t .enabled;
+      target = t .target;
+      mode = t .mode;
+      config = t .config;
+      generated = t .generated;
+      idelivery = t .idelivery;
+      iforce = t .iforce;
+      ithreshold = t .ithreshold;
+    }
+
+-- the whole call, with what it sends: a pending bit that the table does not name stays, unless its domain has IE
+-- and DM and a message with the hart, the file and the identity of its target is sent, which clears it; and
+-- every other part of a domain that the table does not name stays
+unfoldable pub Claim-156 : Type 0
+Claim-156 =
+    (b : Board) → BoardShaped b → (call : Call) → nameRefusal call b ≡ 0 → (s : List ℕ) (c : Bool)
+    → let touched = touches call (b .wired) c in
+    let d = domainIn (b .wired) c in
+    let d′ = domainIn (step call b s .board .wired) c in
+    Kept (withPendings touched) d d′
+    × ((i : ℕ) → 1 ≤ i → i ≤ 63 → touched .pending i ≡ false
+    → sourceAt d′ i .pending ≢ sourceAt d i .pending
+    → let t = sourceAt d′ i .target in
+    (sourceAt d i .pending ≡ true) × (sourceAt d′ i .pending ≡ false)
+    × (isEnabled d′ ≡ true) × (byMessages d′ ≡ true)
+    × (anyOf (eqb (hartOf t * 2048 + cond c (guestOf t + 1) 0 * 256 + numberOf t)) (step call b s .messages)
+    ≡ true))
 
 abbrev pub maySend : Call → Bool
 maySend Reset = false
