@@ -1,17 +1,16 @@
 -- Claim-150, call by call from Claim-155. Assumes nothing.
 use Prim.Native.Nat.{ℕ, _+_, _≤_}
 use mathlib.Core.Path.{_≡_, refl, sym, ap, subst, _∙_}
-use mathlib.Core.Bool.{Bool, true, false, _&&_, _||_, true≢false}
+use mathlib.Core.Bool.{Bool, true, false, _||_, true≢false}
 use mathlib.Core.List.{List}
 use mathlib.Core.Logic.{⊎-elim}
 use native.Mathlib.Omega.{arith}
 use lib.Dec.{eqb, leb}
-use borrow.Author.Tests.{eq-eqb, ne-eqb, eqb-true, eqb-false, leb-true}
+use borrow.Author.Tests.{eq-eqb, eqb-true, eqb-false, leb-true}
 use Rattle.words.specs.Every.{every}
 use Rattle.words.specs.Sets.{member}
 use Rattle.words.proofs.EveryLaws.{every-each}
 use Rattle.words.proofs.TestsLaws.{tested, and-first, and-second, and-both, or-cases, not-same}
-use Rattle.source_target.specs.Target.{hartOf, guestOf}
 use Rattle.domain_region.specs.Region.{wordAt}
 use Rattle.domain_region.specs.declared.Word.the-variants as word
 use Rattle.domain_region.proofs.RegionLaws.{word-within}
@@ -24,24 +23,23 @@ use Rattle.board_move_steps.specs.declared.Act.the-variants.{Save, Zero, Target
 use Rattle.board_move_steps.specs.Names.{namesFile, renamed}
 use Rattle.board_move_steps.specs.Steps.{actOf, actWithin}
 use Rattle.board_move_files_laws.proofs.TableLaws.{act-within}
-use Rattle.board_move_wired_laws.proofs.StepThree.{next-hit, next-miss}
 use Rattle.board_block.specs.Block.{Board}
 use Rattle.board_block_laws.specs.Shape.{BoardShaped}
 use Rattle.board_call.specs.declared.Call.{Call}
 use Rattle.board_call.specs.declared.Call.the-variants.{Reset, Wire, DomainRead, DomainWrite, PageRead}
-use Rattle.board_call.specs.declared.Call.the-variants.{PageWrite}
-use Rattle.board_call.specs.declared.Call.the-variants.{Register, Top, Claim, Signals, Move}
+use Rattle.board_call.specs.declared.Call.the-variants.{PageWrite, Register, Top, Claim, Signals, Move}
 use Rattle.board_call.specs.Refusal.{present, isWire, isMove}
 use Rattle.board_call.specs.Change.{change}
 use Rattle.board_call.specs.Move.{retargetedIn, acted}
+use Rattle.board_move_wired_laws.proofs.StepThree.{next-hit, next-miss}
 use Rattle.board_call_laws.proofs.WiredCallEffects.{wire-low, wire-high}
 use Rattle.board_call_laws.proofs.MoveEffects.{move-low, move-high}
 use Rattle.claims_wired.specs.Rules.{Long}
-use Rattle.claims_wired.specs.Kept.{Touch, none, sources, nothing, writes, writesIn, Kept, Claim-155}
+use Rattle.claims_wired.specs.Kept.{none, sources, writes, writesIn, Untouched, Claim-155}
 use Rattle.claims_wired.proofs.Kept.{kept-same}
 use Rattle.claims_wired.proofs.KeptWired.{claim-155}
-use Rattle.claims_board.specs.Closure.{everything, retargets, touches, touchesWire, Claim-150}
-use Rattle.claims_board.proofs.ClosureFiles.{names}
+use Rattle.claims_board.specs.Closure.{retargets, touches, touchesWire, Claim-150}
+use Rattle.claims_board.proofs.ClosureSent.{accepted-present}
 
 -- ---- a move: access 8 + i is that of source i
 
@@ -66,7 +64,7 @@ access-source n i l h li e =
 
 -- what may change besides what does
 kept-targets-more : {d d′ : Domain} (q q′ : ℕ → Bool) → ((j : ℕ) → q′ j ≡ false → q j ≡ false)
-    → Kept (sources none none q none) d d′ → Kept (sources none none q′ none) d d′
+    → Untouched (sources none none q none) d d′ → Untouched (sources none none q′ none) d d′
 kept-targets-more q q′ more x =
     record {
       pending = x .pending;
@@ -102,14 +100,15 @@ module _ (w : Wired) (long : Long w) (oh of nh nf i : ℕ) (l : 1 ≤ i) (h : i 
         (λ f. f)
 
     kept-wrote : namesFile target oh of ≡ true → (c : Bool)
-        → Kept (touches (Move oh of nh nf n) w c) (domainIn w c) (domainIn wrote c)
+        → Untouched (touches (Move oh of nh nf n) w c) (domainIn w c) (domainIn wrote c)
     unfolding Claim-155 touches writesIn writes
     kept-wrote y true =
         kept-targets-more (eqb i) (retargets oh of n w) (own y)
         (claim-155 w long true .1 true (word.Target i) (l, h) (renamed target nh nf) .0)
     kept-wrote y false = claim-155 w long false .1 true (word.Target i) (l, h) (renamed target nh nf) .0
 
-    kept-retargeted : (c : Bool) → Kept (touches (Move oh of nh nf n) w c) (domainIn w c) (domainIn next c)
+    kept-retargeted : (c : Bool)
+        → Untouched (touches (Move oh of nh nf n) w c) (domainIn w c) (domainIn next c)
     kept-retargeted c =
         tested (namesFile target oh of) (λ y. rw (next-hit oh of nh nf w i y) (kept-wrote y c))
         (λ f. rw (next-miss oh of nh nf w i f) (kept-same _ (domainIn w c)))
@@ -133,7 +132,7 @@ module _ (b : Board) (shaped : BoardShaped b) (s : List ℕ) where
 
   abbrev Leaves : Call → Wired → Type 0
   Leaves call w′ =
-      ((c : Bool) → Kept (touches call w c) (domainIn w c) (domainIn w′ c))
+      ((c : Bool) → Untouched (touches call w c) (domainIn w c) (domainIn w′ c))
       × ((j : ℕ) → touchesWire call j ≡ false → member (w′ .wires) j ≡ member (w .wires) j)
 
   leaves-same : (call : Call) → Leaves call w
@@ -224,4 +223,4 @@ module _ (b : Board) (shaped : BoardShaped b) (s : List ℕ) where
 
 pub claim-150 : Claim-150
 unfolding Claim-150
-claim-150 b shaped call e s = leaves b shaped s call (names call b e)
+claim-150 b shaped call e s = leaves b shaped s call (accepted-present call b e)

@@ -1,30 +1,25 @@
 -- Claim-156, from claims 150 and 151. Assumes nothing.
-use Prim.Native.Nat.{ℕ, _+_, _*_, _≤_}
-use mathlib.Core.Path.{_≡_, refl, sym, ap, subst, _∙_}
+use Prim.Native.Nat.{ℕ, _+_, _*_}
+use mathlib.Core.Path.{_≡_, sym, ap, subst, _∙_}
 use mathlib.Core.Bool.{Bool, true, false, cond, not, _&&_, and-true, and-false, true≢false}
 use mathlib.Core.List.{List}
 use mathlib.Core.Logic.{_≢_}
 use lib.Dec.{eqb}
+use lib.ListN.{getD}
 use Rattle.words.specs.Sets.{member}
 use Rattle.words.proofs.TestsLaws.{tested, and-first, and-second}
-use lib.ListN.{getD}
+use Rattle.files_laws.specs.Messages.{anyOf}
 use Rattle.source_mode.specs.Mode.{isActive}
 use Rattle.source_target.specs.Target.{hartOf, guestOf, numberOf}
-use Rattle.source.specs.declared.Source.{Source}
 use Rattle.domain_delivery.specs.declared.Delivery.{Delivery}
 use Rattle.domain.specs.Domain.{Domain, configOf, isEnabled, byMessages, generatedAt}
 use Rattle.domain.specs.Slot.{sourceAt}
 use Rattle.domain.specs.Structure.{structureAt}
 use Rattle.domain_laws.proofs.OwnEffects.{isEnabled-same, byMessages-same}
 use Rattle.domain_sending_laws.specs.Candidates.{DomainPendingOnly}
-use Rattle.wired_state.specs.Wires.{domainIn}
-use Rattle.files_laws.specs.Messages.{anyOf}
-use Rattle.board_block.specs.Block.{Board}
-use Rattle.board_call.specs.declared.Call.{Call}
-use Rattle.board_call.specs.Change.{change}
 use Rattle.board_call.specs.Outcome.{step}
-use Rattle.claims_wired.specs.Kept.{Touch, Kept}
-use Rattle.claims_board.specs.Closure.{touches, withPendings, Claim-150, Claim-151, Claim-156}
+use Rattle.claims_wired.specs.Kept.{Touch, Untouched}
+use Rattle.claims_board.specs.Closure.{touches, andPendings, Claim-150, Claim-151, Claim-156}
 use Rattle.claims_board.proofs.ClosureSent.{claim-151}
 use Rattle.claims_board.proofs.Closure.{claim-150}
 
@@ -61,7 +56,7 @@ module _ {d d′ : Domain} (x : DomainPendingOnly d d′) where
       }) (x .delivery)
 
   -- what was kept before it
-  kept-sent : (t : Touch) {d₀ : Domain} → Kept t d₀ d → Kept (withPendings t) d₀ d′
+  kept-sent : (t : Touch) {d₀ : Domain} → Untouched t d₀ d → Untouched (andPendings t) d₀ d′
   kept-sent t k =
       record {
         pending = λ i l h e. absurd (true≢false e);
@@ -120,7 +115,7 @@ claim-156 b shaped call e s c =
     let pass = claim-151 call b s .1 c in (
       kept-sent (pass .0) (touches call (b .wired) c) before,
       (λ i l h q n. let same = before .pending i l h q in
-      let r = fell (pass .0) c i (step call b s .messages) (pass .1 i l h .0) (λ k. n (k ∙ same))
-      (pass .1 i l h .1) in
-      (sym same ∙ r .0, r .1, r .2, r .3, r .4)),
+          let r = fell (pass .0) c i (step call b s .messages) (pass .1 i l h .0) (λ k. n (k ∙ same))
+          (pass .1 i l h .1) in
+          (sym same ∙ r .0, r .1, r .2, r .3, r .4)),
     )

@@ -1,42 +1,22 @@
--- Claims 152 to 154, by the laws of the calls and of the files. Assumes nothing.
-use Prim.Native.Nat.{ℕ, zero, suc, _+_, _*_, _/_, _%_, _≤_, _<_}
+-- Claims 152 and 153, by the laws of the calls and of the files. Assumes nothing.
+use Prim.Native.Nat.{ℕ, suc, _+_, _*_, _/_, _%_, _≤_, _<_}
 use mathlib.Core.Path.{_≡_, refl, sym, ap, ap₂, subst, _∙_}
 use mathlib.Core.Bool.{Bool, true, false, Bool·beq, not, _&&_, _||_, or-false, true≢false}
-use mathlib.Core.List.{List, [], _∷_, map, _++_}
+use mathlib.Core.List.{List, [], _∷_}
 use native.Mathlib.Decide.{ℕ-discrete}
 use native.Mathlib.Omega.{arith}
-use lib.Dec.{eqb, leb}
+use lib.Dec.{eqb}
 use lib.ListN.{length}
 use borrow.Author.Tests.{eq-eqb, ne-eqb, eqb-true, eqb-false}
 use Rattle.words.specs.Every.{every}
 use Rattle.words.proofs.EveryLaws.{every-each}
 use Rattle.words.specs.Sets.{member}
 use Rattle.words.proofs.TestsLaws.{tested, and-first, beq-true}
-use Rattle.file_message.specs.Message.{logWord, hartIn, fileIn, identityIn}
-use Rattle.source_target.specs.Target.{messageOf}
-use Rattle.source_target.proofs.TargetLaws.{hartOf-lt, guestOf-lt, numberOf-lt}
-use Rattle.domain_region.specs.declared.Word.{Word}
-use Rattle.domain_region.specs.declared.role.Role.{Role}
-use Rattle.domain_region.specs.declared.role.Role.the-variants.{Claims, Configures, Generates, Plain}
-use Rattle.domain_region.specs.Role.{roleOf}
-use Rattle.domain_region.specs.Region.{wordAt}
-use Rattle.domain.specs.Domain.{Domain, isEnabled, byMessages}
-use Rattle.domain.specs.Slot.{sourceAt}
-use Rattle.domain_genmsi.specs.Genmsi.{generatedOf, generatedSent}
-use Rattle.domain_sending.specs.Sending.{sent}
-use Rattle.domain_sending.proofs.SendingLaws.{sent-off}
-use Rattle.domain_sending_laws.specs.Candidates.{candidates, messageAt}
-use Rattle.domain_sending_laws.proofs.SendingEffects.{sent-messages}
-use Rattle.domain_sending_laws.proofs.MessageEffects.{Every, every-none, every-one, every-append}
-use Rattle.domain_sending_laws.proofs.MessageEffects.{message-names, generated-names}
-use Rattle.wired_state.specs.Wires.{Wired, domainIn}
-use Rattle.wired_rules_laws.specs.Steady.{WiredQuiet}
-use Rattle.wired_rules_laws.proofs.WiredQuietEffects.{quiet-claimedIn}
-use Rattle.wired.specs.Controller.{flushed, generatedAs, generatedBy}
 use Rattle.file_select.specs.Select.{selectLegal}
 use Rattle.file.specs.declared.File.{File}
 use Rattle.file.specs.Register.{accessed, accessedAt}
 use Rattle.file_laws.proofs.Stored.{Long}
+use Rattle.file_message.specs.Message.{hartIn, fileIn, identityIn}
 use Rattle.files.specs.Files.{fileNumber, isGuest, theFile, withFile, namedBy}
 use Rattle.files.proofs.FilesLaws.{theFile-withFile-other}
 use Rattle.files_laws.specs.Messages
@@ -44,133 +24,27 @@ use Rattle.files_laws.specs.Messages.{brings, anyOf, PendingOnly}
 use Rattle.files_laws.proofs.ReachedEffects.{pending-allReached, pending-allReached-zero, rest-allReached}
 use Rattle.files_laws.proofs.ReachedEffects.{withFile-theFile}
 use Rattle.files_laws.proofs.AnyLaws.{or-first}
+use Rattle.domain_region.specs.Region.{wordAt}
+use Rattle.domain.specs.Domain.{byMessages}
+use Rattle.domain_sending_laws.proofs.MessageEffects.{Every, every-none}
+use Rattle.wired_state.specs.Wires.{domainIn}
 use Rattle.board_move_steps.specs.declared.Act.{Act}
 use Rattle.board_move_steps.specs.declared.Act.the-variants.{Save, Zero, Target, Put}
 use Rattle.board_move_steps.specs.Steps.{actOf}
 use Rattle.board_block.specs.Block.{Board}
-use Rattle.board_block.specs.Start.{startBoard}
-use Rattle.board_block_laws.proofs.StartEffects.{start-sound}
 use Rattle.board_call.specs.declared.Call.{Call}
 use Rattle.board_call.specs.declared.Call.the-variants.{Reset, Wire, DomainRead, DomainWrite, PageRead}
-use Rattle.board_call.specs.declared.Call.the-variants.{PageWrite}
-use Rattle.board_call.specs.declared.Call.the-variants.{Register, Top, Claim, Signals, Move}
-use Rattle.board_call.specs.Refusal.{present, nameRefusal, isMove}
-use Rattle.board_call.proofs.RefusalLaws.{refused-name}
+use Rattle.board_call.specs.declared.Call.the-variants.{PageWrite, Register, Top, Claim, Signals, Move}
+use Rattle.board_call.specs.Refusal.{present, isMove}
 use Rattle.board_call.specs.Change.{kindOf, change}
 use Rattle.board_call.specs.Move.{acted}
-use Rattle.board_call.specs.Outcome.{Stepped, thenSent, step}
+use Rattle.board_call.specs.Outcome.{thenSent, step}
 use Rattle.board_call_laws.specs.Fit.{Fit}
-use Rattle.board_call_laws.proofs.StepEffects.{sound-quiet, settled-quiet}
-use Rattle.board_call_laws.proofs.MoveEffects.{move-low, move-high, step-move}
+use Rattle.board_call_laws.proofs.MoveEffects.{move-low, move-high}
 use Rattle.board_call_laws.proofs.FileCallEffects.{number-read}
-use Rattle.claims_board.specs.Closure.{maySend, oldAccess, newAccess, touchesFile}
-use Rattle.claims_board.specs.Closure.{Claim-152, Claim-153, Claim-154}
-
--- what an accepted call names is there
-pub names : (c : Call) (b : Board) → nameRefusal c b ≡ 0 → present c b ≡ true
-names c b e = tested (present c b) (λ y. y) (λ n. absurd (omega (arith, refused-name c b n, e)))
-
--- ---- what sends nothing
-
-module _ (b : Board) (fit : Fit b) (s : List ℕ) where
-  -- the step leaves what the change left, and sends nothing
-  abbrev Silent : Call → Type 0
-  Silent c = (step c b s .messages ≡ []) × (step c b s .board ≡ change c b s .board)
-
-  -- nothing is sent at once, and nothing is to be sent
-  silent : (c : Call) → WiredQuiet (change c b s .board .wired) → change c b s .own ≡ [] → Silent c
-  unfolding step
-  silent c q none =
-      let e = settled-quiet (change c b s) q none in
-      (ap (λ (y : Stepped). y .messages) e, ap (λ (y : Stepped). y .board) e)
-
-  abbrev quiet : WiredQuiet (b .wired)
-  quiet = sound-quiet b (fit .sound)
-
-  silent-step : (c : Call) → present c b ≡ true → maySend c ≡ false → Silent c
-  silent-step Reset n q = unfold change in silent Reset (sound-quiet startBoard start-sound) refl
-  silent-step (Wire i level) n q = absurd (true≢false q)
-  silent-step (DomainRead d a) n q =
-      unfold change in silent (DomainRead d a) (quiet-claimedIn (b .wired) quiet (eqb d 1) (wordAt a)) refl
-  silent-step (DomainWrite d a v) n q = absurd (true≢false q)
-  silent-step (PageRead h f a) n q = unfold change in silent (PageRead h f a) quiet refl
-  silent-step (PageWrite h f a v) n q = unfold change in silent (PageWrite h f a v) quiet refl
-  silent-step (Register h f kind x v) n q = unfold change in silent (Register h f kind x v) quiet refl
-  silent-step (Top h f) n q = unfold change in silent (Top h f) quiet refl
-  silent-step (Claim h f) n q = unfold change in silent (Claim h f) quiet refl
-  silent-step (Signals h) n q = unfold change in silent (Signals h) quiet refl
-  silent-step (Move oh of nh nf k) n q =
-      unfold change present in
-      let e = step-move b fit oh of nh nf k
-      (and-first (isMove oh of nh nf k) (byMessages (b .wired .child)) n) s in
-      (ap (λ (y : Stepped). y .messages) e, ap (λ (y : Stepped). y .board) e)
-
-pub claim-154 : Claim-154
-unfolding Claim-154
-claim-154 b fit c e q s = silent-step b fit s c (names c b e) q
-
--- ---- the messages of a call
-
--- a log word of a hart and a file that there are
-abbrev Addressed : ℕ → Type 0
-Addressed m = (m < 8192) × (fileIn m < 5)
-
-module _ (c : Bool) (t : ℕ) where
-  message-addressed : Addressed (messageOf c t)
-  unfolding messageOf logWord
-  message-addressed = (
-    tested c (λ y. rw y (omega (arith, hartOf-lt t, guestOf-lt t, numberOf-lt t)))
-        (λ n. rw n (omega (arith, hartOf-lt t, numberOf-lt t))),
-    message-names c t .exists,
-  )
-
-  generated-addressed : Addressed (generatedOf c t)
-  unfolding generatedOf logWord
-  generated-addressed = (
-    tested c (λ y. rw y (omega (arith, hartOf-lt t, numberOf-lt t)))
-        (λ n. rw n (omega (arith, hartOf-lt t, numberOf-lt t))),
-    generated-names c t .exists,
-  )
-
-all-map : (P : ℕ → Type 0) (g : ℕ → ℕ) (l : List ℕ) → ((i : ℕ) → P (g i)) → Every P (map g l)
-all-map P g [] p = every-none P
-all-map P g (i ∷ l) p = every-append P (g i ∷ []) (map g l) (every-one P (g i) (p i)) (all-map P g l p)
-
-sent-addressed : (c : Bool) (d : Domain) → Every Addressed (sent c d .messages)
-sent-addressed c d =
-    tested (isEnabled d && byMessages d)
-    (λ t. rw (sent-messages c d t)
-    (all-map Addressed (messageAt c d) (candidates d) (λ i. message-addressed c (sourceAt d i .target))))
-    (λ f. rw (sent-off c d f) (every-none Addressed))
-
-flushed-addressed : (w : Wired) → Every Addressed (flushed w .messages)
-unfolding flushed
-flushed-addressed w =
-    every-append Addressed (sent false (w .root) .messages) (sent true (w .child) .messages)
-    (sent-addressed false (w .root)) (sent-addressed true (w .child))
-
-generatedBy-addressed : (c : Bool) (d : Domain) (r : Word) (v : ℕ) → Every Addressed (generatedBy c d r v)
-unfolding generatedBy
-generatedBy-addressed c d r v = at (roleOf r)
-  where
-    one : Every Addressed (generatedSent c d v)
-    one =
-        unfold generatedSent in
-        tested (byMessages d) (λ t. rw t (every-one Addressed _ (generated-addressed c v)))
-        (λ f. rw f (every-none Addressed))
-
-    at : (x : Role) → Every Addressed (generatedAs c d v x)
-    at (Claims h) = unfold generatedAs in every-none Addressed
-    at (Configures i) = unfold generatedAs in every-none Addressed
-    at Generates = unfold generatedAs in one
-    at Plain = unfold generatedAs in every-none Addressed
-
-step-addressed : (c : Call) (b : Board) (s : List ℕ) → Every Addressed (change c b s .own)
-    → Every Addressed (step c b s .messages)
-unfolding step thenSent
-step-addressed c b s own =
-    let w = change c b s .board .wired in
-    every-append Addressed (change c b s .own) (flushed w .messages) own (flushed-addressed w)
+use Rattle.claims_board.specs.Closure.{oldAccess, newAccess, touchesFile, Claim-152, Claim-153}
+use Rattle.claims_board.proofs.ClosureSent.{Addressed, accepted-present, silent-step, Silent}
+use Rattle.claims_board.proofs.ClosureSent.{step-addressed, generatedBy-addressed}
 
 -- ---- the file and the identity that a message names
 
@@ -201,8 +75,11 @@ module _ (h f i m : ℕ) (lf : f < 5) (li : i ≤ 255) (small : m < 8192) where
           ≡ eqb (2048 * h + 256 * f + i) m
       at (yes e) =
           let p = parts e in
-          simp (eq-eqb (5 * (m / 2048 % 4) + m / 256 % 8) (5 * h + f) (omega (arith, p)),
-          eq-eqb (m % 256) i (p .2), eq-eqb (2048 * h + 256 * f + i) m e)
+          simp (
+            eq-eqb (5 * (m / 2048 % 4) + m / 256 % 8) (5 * h + f) (omega (arith, p)),
+            eq-eqb (m % 256) i (p .2),
+            eq-eqb (2048 * h + 256 * f + i) m e,
+          )
       at (no n) =
           rw (ne-eqb (2048 * h + 256 * f + i) m n)
           (tested (eqb (5 * (m / 2048 % 4) + m / 256 % 8) (5 * h + f))
@@ -247,11 +124,13 @@ module _ (b : Board) (fit : Fit b) (s : List ℕ) (h f : ℕ) (lh : h < 4) (lf :
       let ms = step c b s .messages in
       let many : length fs ≡ 20 = ap length same ∙ fit .shaped .many in
       let long : Long (theFile fs k) =
-      subst (λ (gs : List File). Long (theFile gs k)) (sym same) (fit .shaped .long k (omega arith)) in
-      (rest-allReached ms fs k, pending-allReached-zero ms fs k,
-      (λ i l u. pending-allReached ms fs k i (omega arith) long l
-      ∙ ap (λ (y : Bool). member (theFile fs k .pending) i || y)
-      (any-brings h f i lf u ms (step-addressed c b s own))))
+      subst (λ (gs : List File). Long (theFile gs k)) (sym same) (fit .shaped .long k (omega arith)) in (
+        rest-allReached ms fs k,
+        pending-allReached-zero ms fs k,
+        (λ i l u. pending-allReached ms fs k i (omega arith) long l
+            ∙ ap (λ (y : Bool). member (theFile fs k .pending) i || y)
+            (any-brings h f i lf u ms (step-addressed c b s own))),
+      )
 
   -- a call that sends nothing
   by-none : (c : Call) → Silent b fit s c → Reached c
@@ -264,7 +143,8 @@ module _ (b : Board) (fit : Fit b) (s : List ℕ) (h f : ℕ) (lh : h < 4) (lf :
 
   reaches : (c : Call) → present c b ≡ true → Reached c
   reaches Reset n = by-none Reset (silent-step b fit s Reset n refl)
-  reaches (Wire i level) n = by-messages (Wire i level) (unfold change in refl) (unfold change in every-none Addressed)
+  reaches (Wire i level) n =
+      by-messages (Wire i level) (unfold change in refl) (unfold change in every-none Addressed)
   reaches (DomainRead d a) n = by-none (DomainRead d a) (silent-step b fit s (DomainRead d a) n refl)
   reaches (DomainWrite d a v) n =
       by-messages (DomainWrite d a v) (unfold change in refl)
@@ -276,11 +156,12 @@ module _ (b : Board) (fit : Fit b) (s : List ℕ) (h f : ℕ) (lh : h < 4) (lf :
   reaches (Top h f) n = by-none (Top h f) (silent-step b fit s (Top h f) n refl)
   reaches (Claim h f) n = by-none (Claim h f) (silent-step b fit s (Claim h f) n refl)
   reaches (Signals h) n = by-none (Signals h) (silent-step b fit s (Signals h) n refl)
-  reaches (Move oh of nh nf m) n = by-none (Move oh of nh nf m) (silent-step b fit s (Move oh of nh nf m) n refl)
+  reaches (Move oh of nh nf m) n =
+      by-none (Move oh of nh nf m) (silent-step b fit s (Move oh of nh nf m) n refl)
 
 pub claim-152 : Claim-152
 unfolding Claim-152
-claim-152 b fit c e s h f lh lf = reaches b fit s h f lh lf c (names c b e)
+claim-152 b fit c e s h f lh lf = reaches b fit s h f lh lf c (accepted-present c b e)
 
 -- ---- what a change leaves of a file
 
@@ -331,7 +212,8 @@ module _ (b : Board) (s : List ℕ) (k : ℕ) where
           unfold change in
           let n = fileNumber h f in
           let y = theFile (b .files) n in
-          ap (λ (q : ℕ). theFile (withFile (b .files) n (accessed 255 (isGuest n) y (kindOf q) x v .file)) k) z
+          ap (λ (q : ℕ). theFile (withFile (b .files) n
+          (accessed 255 (isGuest n) y (kindOf q) x v .file)) k) z
           ∙ ap (λ (w : File). theFile (withFile (b .files) n w) k) (read-same (isGuest n) y x v)
           ∙ ap (λ (fs : List File). theFile fs k) (withFile-theFile (b .files) n)
       at (no n) = unfold change in other h f _ (rw (ne-eqb kind 0 n) at e)
@@ -375,4 +257,4 @@ module _ (b : Board) (s : List ℕ) (k : ℕ) where
 
 pub claim-153 : Claim-153
 unfolding Claim-153
-claim-153 b c e s k q = left-change b s k c (names c b e) q
+claim-153 b c e s k q = left-change b s k c (accepted-present c b e) q

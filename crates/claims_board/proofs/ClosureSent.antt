@@ -1,7 +1,7 @@
--- Claim-151, by the laws of the pass of messages. Assumes nothing.
-use Prim.Native.Nat.{ℕ, zero, suc, _+_, _*_, _≤_, _<_}
+-- Claims 151 and 154, by the laws of the pass of messages and of the calls. Assumes nothing.
+use Prim.Native.Nat.{ℕ, zero, suc, _+_, _≤_, _<_}
 use mathlib.Core.Path.{_≡_, refl, sym, ap, subst, _∙_}
-use mathlib.Core.Bool.{Bool, true, false, not, _&&_, _||_, and-true, false≢true}
+use mathlib.Core.Bool.{Bool, true, false, not, _&&_, true≢false, and-true, false≢true}
 use mathlib.Core.List.{List, [], _∷_, map, _++_}
 use mathlib.Core.Logic.{⊎-elim}
 use native.Mathlib.Decide.{ℕ-discrete}
@@ -9,25 +9,44 @@ use native.Mathlib.Omega.{arith}
 use lib.Dec.{eqb}
 use borrow.Author.Tests.{eq-eqb}
 use Rattle.words.proofs.TestsLaws.{tested, and-first, and-second, or-cases, or-left, or-right}
-use Rattle.file_message.specs.Message.{logWord}
-use Rattle.source_mode.specs.Mode.{isActive}
-use Rattle.source_target.specs.Target.{hartOf, guestOf, numberOf, messageOf}
+use Rattle.file_message.specs.Message.{logWord, fileIn}
+use Rattle.files_laws.specs.Messages.{anyOf}
+use Rattle.source_target.specs.Target.{messageOf}
+use Rattle.source_target.proofs.TargetLaws.{hartOf-lt, guestOf-lt, numberOf-lt}
 use Rattle.source.specs.declared.Source.{Source}
+use Rattle.domain_region.specs.declared.Word.{Word}
+use Rattle.domain_region.specs.declared.role.Role.{Role}
+use Rattle.domain_region.specs.declared.role.Role.the-variants.{Claims, Configures, Generates, Plain}
+use Rattle.domain_region.specs.Role.{roleOf}
+use Rattle.domain_region.specs.Region.{wordAt}
 use Rattle.domain.specs.Domain.{Domain, isEnabled, byMessages}
 use Rattle.domain.specs.Slot.{sourceAt}
-use Rattle.domain_sending.specs.Sending.{Sent, candidate, sent}
+use Rattle.domain_sending.specs.Sending.{sent, Sent, candidate}
 use Rattle.domain_sending.proofs.SendingLaws.{sent-off}
-use Rattle.domain_sending_laws.specs.Candidates.{numbersFrom, thoseWith, candidates, messageAt}
+use Rattle.domain_genmsi.specs.Genmsi.{generatedOf, generatedSent}
+use Rattle.domain_sending_laws.specs.Candidates.{candidates, messageAt, numbersFrom, thoseWith}
 use Rattle.domain_sending_laws.specs.Candidates.{DomainPendingOnly}
-use Rattle.domain_sending_laws.proofs.SendingEffects.{sent-rest, sent-source, sent-messages, spent-pending}
+use Rattle.domain_sending_laws.proofs.SendingEffects.{sent-messages, sent-rest, sent-source, spent-pending}
+use Rattle.domain_sending_laws.proofs.MessageEffects.{Every, every-none, every-one, every-append}
+use Rattle.domain_sending_laws.proofs.MessageEffects.{message-names, generated-names}
 use Rattle.wired_state.specs.Wires.{Wired, domainIn}
-use Rattle.wired.specs.Controller.{flushed}
-use Rattle.files_laws.specs.Messages.{anyOf}
+use Rattle.wired_rules_laws.specs.Steady.{WiredQuiet}
+use Rattle.wired_rules_laws.proofs.WiredQuietEffects.{quiet-claimedIn}
+use Rattle.wired.specs.Controller.{flushed, generatedAs, generatedBy}
 use Rattle.board_block.specs.Block.{Board}
+use Rattle.board_block.specs.Start.{startBoard}
+use Rattle.board_block_laws.proofs.StartEffects.{start-sound}
 use Rattle.board_call.specs.declared.Call.{Call}
+use Rattle.board_call.specs.declared.Call.the-variants.{Reset, Wire, DomainRead, DomainWrite, PageRead}
+use Rattle.board_call.specs.declared.Call.the-variants.{PageWrite, Register, Top, Claim, Signals, Move}
+use Rattle.board_call.specs.Refusal.{present, nameRefusal, isMove}
+use Rattle.board_call.proofs.RefusalLaws.{refused-name}
 use Rattle.board_call.specs.Change.{change}
-use Rattle.board_call.specs.Outcome.{thenSent, step}
-use Rattle.claims_board.specs.Closure.{Claim-151}
+use Rattle.board_call.specs.Outcome.{Stepped, thenSent, step}
+use Rattle.board_call_laws.specs.Fit.{Fit}
+use Rattle.board_call_laws.proofs.StepEffects.{sound-quiet, settled-quiet}
+use Rattle.board_call_laws.proofs.MoveEffects.{step-move}
+use Rattle.claims_board.specs.Closure.{maySend, Claim-154, Claim-151}
 
 -- ---- a message of a list
 
@@ -62,7 +81,8 @@ module _ (p : ℕ → Bool) (g : ℕ → ℕ) (i : ℕ) (holds : p i ≡ true) w
       at (no n) later =
           unfold thoseWith anyOf in
           tested (p a)
-          (λ t. rw t (or-right (eqb (g i) (g a)) _ (later (omega (arith, n))))) (λ f. rw f (later (omega (arith, n))))
+          (λ t. rw t (or-right (eqb (g i) (g a)) _ (later (omega (arith, n)))))
+          (λ f. rw f (later (omega (arith, n))))
 
 -- ---- the pass of a domain
 
@@ -113,3 +133,109 @@ claim-151 call b s = let w = change call b s .board .wired in (
     ),
   ),
 )
+
+-- what an accepted call names is there
+pub accepted-present : (c : Call) (b : Board) → nameRefusal c b ≡ 0 → present c b ≡ true
+accepted-present c b e = tested (present c b) (λ y. y) (λ n. absurd (omega (arith, refused-name c b n, e)))
+
+-- ---- what sends nothing
+
+module _ (b : Board) (fit : Fit b) (s : List ℕ) where
+  -- the step leaves what the change left, and sends nothing
+  abbrev pub Silent : Call → Type 0
+  Silent c = (step c b s .messages ≡ []) × (step c b s .board ≡ change c b s .board)
+
+  -- nothing is sent at once, and nothing is to be sent
+  silent : (c : Call) → WiredQuiet (change c b s .board .wired) → change c b s .own ≡ [] → Silent c
+  unfolding step
+  silent c q none =
+      let e = settled-quiet (change c b s) q none in
+      (ap (λ (y : Stepped). y .messages) e, ap (λ (y : Stepped). y .board) e)
+
+  abbrev quiet : WiredQuiet (b .wired)
+  quiet = sound-quiet b (fit .sound)
+
+  pub silent-step : (c : Call) → present c b ≡ true → maySend c ≡ false → Silent c
+  silent-step Reset n q = unfold change in silent Reset (sound-quiet startBoard start-sound) refl
+  silent-step (Wire i level) n q = absurd (true≢false q)
+  silent-step (DomainRead d a) n q =
+      unfold change in silent (DomainRead d a) (quiet-claimedIn (b .wired) quiet (eqb d 1) (wordAt a)) refl
+  silent-step (DomainWrite d a v) n q = absurd (true≢false q)
+  silent-step (PageRead h f a) n q = unfold change in silent (PageRead h f a) quiet refl
+  silent-step (PageWrite h f a v) n q = unfold change in silent (PageWrite h f a v) quiet refl
+  silent-step (Register h f kind x v) n q = unfold change in silent (Register h f kind x v) quiet refl
+  silent-step (Top h f) n q = unfold change in silent (Top h f) quiet refl
+  silent-step (Claim h f) n q = unfold change in silent (Claim h f) quiet refl
+  silent-step (Signals h) n q = unfold change in silent (Signals h) quiet refl
+  silent-step (Move oh of nh nf k) n q =
+      unfold change present in
+      let e = step-move b fit oh of nh nf k
+      (and-first (isMove oh of nh nf k) (byMessages (b .wired .child)) n) s in
+      (ap (λ (y : Stepped). y .messages) e, ap (λ (y : Stepped). y .board) e)
+
+pub claim-154 : Claim-154
+unfolding Claim-154
+claim-154 b fit c e q s = silent-step b fit s c (accepted-present c b e) q
+
+-- ---- the messages of a call
+
+-- a log word of a hart and a file that there are
+abbrev pub Addressed : ℕ → Type 0
+Addressed m = (m < 8192) × (fileIn m < 5)
+
+module _ (c : Bool) (t : ℕ) where
+  message-addressed : Addressed (messageOf c t)
+  unfolding messageOf logWord
+  message-addressed = (
+    tested c (λ y. rw y (omega (arith, hartOf-lt t, guestOf-lt t, numberOf-lt t)))
+        (λ n. rw n (omega (arith, hartOf-lt t, numberOf-lt t))),
+    message-names c t .exists,
+  )
+
+  generated-addressed : Addressed (generatedOf c t)
+  unfolding generatedOf logWord
+  generated-addressed = (
+    tested c (λ y. rw y (omega (arith, hartOf-lt t, numberOf-lt t)))
+        (λ n. rw n (omega (arith, hartOf-lt t, numberOf-lt t))),
+    generated-names c t .exists,
+  )
+
+all-map : (P : ℕ → Type 0) (g : ℕ → ℕ) (l : List ℕ) → ((i : ℕ) → P (g i)) → Every P (map g l)
+all-map P g [] p = every-none P
+all-map P g (i ∷ l) p = every-append P (g i ∷ []) (map g l) (every-one P (g i) (p i)) (all-map P g l p)
+
+sent-addressed : (c : Bool) (d : Domain) → Every Addressed (sent c d .messages)
+sent-addressed c d =
+    tested (isEnabled d && byMessages d)
+    (λ t. rw (sent-messages c d t)
+    (all-map Addressed (messageAt c d) (candidates d) (λ i. message-addressed c (sourceAt d i .target))))
+    (λ f. rw (sent-off c d f) (every-none Addressed))
+
+flushed-addressed : (w : Wired) → Every Addressed (flushed w .messages)
+unfolding flushed
+flushed-addressed w =
+    every-append Addressed (sent false (w .root) .messages) (sent true (w .child) .messages)
+    (sent-addressed false (w .root)) (sent-addressed true (w .child))
+
+pub generatedBy-addressed : (c : Bool) (d : Domain) (r : Word) (v : ℕ) → Every Addressed (generatedBy c d r v)
+unfolding generatedBy
+generatedBy-addressed c d r v = at (roleOf r)
+  where
+    one : Every Addressed (generatedSent c d v)
+    one =
+        unfold generatedSent in
+        tested (byMessages d) (λ t. rw t (every-one Addressed _ (generated-addressed c v)))
+        (λ f. rw f (every-none Addressed))
+
+    at : (x : Role) → Every Addressed (generatedAs c d v x)
+    at (Claims h) = unfold generatedAs in every-none Addressed
+    at (Configures i) = unfold generatedAs in every-none Addressed
+    at Generates = unfold generatedAs in one
+    at Plain = unfold generatedAs in every-none Addressed
+
+pub step-addressed : (c : Call) (b : Board) (s : List ℕ) → Every Addressed (change c b s .own)
+    → Every Addressed (step c b s .messages)
+unfolding step thenSent
+step-addressed c b s own =
+    let w = change c b s .board .wired in
+    every-append Addressed (change c b s .own) (flushed w .messages) own (flushed-addressed w)

@@ -1,17 +1,18 @@
--- Claims 150 to 154 and 156, on every call of the board: what it may change of each domain, what it sends, and
--- what it leaves of each file. The standard's 4.7 counts up all that changes a pending bit; 01, "The board",
--- "The wired controller".
+-- Claims 150 to 154 and 156, on every call of the board: what it may change of each domain, what it sends,
+-- and what it leaves of each file. The standard's 4.7 counts up all that changes a pending bit; 01, "The
+-- board", "The wired controller".
 --   touches call w c     what the call may change of the domain c of the wired controller w, before anything
 --                        is sent: the tables of Claim-155; c says that the domain is the child
 --   retargets .. w i     access n of a move is that of source i, and the child's target of it names old
 --   touchesWire call j   the call may change wire j
---   maySend c            the call c may send: only a wire that is set and a word that is written to a domain do
---   touchesFile c k      the call c may change file number k, 5 h + f for file f of hart h, before its messages arrive
+--   maySend c            the call c may send: only a wire that is set, and a write to a domain
+--   touchesFile c k      the call c may change file number k, which is 5 h + f for file f of hart h, before
+--                        its messages arrive
 --   oldAccess, newAccess n   access n of a move writes the old file, or the new one
 -- Premises: the call is not refused, `nameRefusal call b ≡ 0`, but in Claim-151, which has none. Claims 150
--- and 156 have `BoardShaped b`, the lists have their lengths, as those of every block of 650 words have; claims
--- 152 and 154 have `Fit b`, a board that calls can be made on, as every accepted call leaves it (Claim-86). No
--- axioms.
+-- and 156 have `BoardShaped b`, the lists have their lengths, as those of every block of 650 words have;
+-- claims 152 and 154 have `Fit b`, a board that calls can be made on, as every accepted call leaves it
+-- (Claim-86). No axioms.
 use Prim.Native.Nat.{ℕ, _+_, _*_, _≤_, _<_}
 use mathlib.Core.Path.{_≡_}
 use mathlib.Core.Bool.{Bool, true, false, cond, not, _&&_, _||_}
@@ -19,26 +20,25 @@ use mathlib.Core.List.{List, []}
 use mathlib.Core.Logic.{_≢_}
 use lib.Dec.{eqb, leb}
 use Rattle.words.specs.Sets.{member}
-use Rattle.source_mode.specs.Mode.{isActive}
-use Rattle.source_target.specs.Target.{hartOf, guestOf, numberOf}
-use Rattle.domain.specs.Domain.{isEnabled, byMessages}
-use Rattle.domain.specs.Slot.{sourceAt}
-use Rattle.domain_region.specs.Region.{wordAt}
-use Rattle.wired_state.specs.Wires.{Wired, domainIn}
-use Rattle.domain_sending_laws.specs.Candidates.{DomainPendingOnly}
 use Rattle.files.specs.Files.{theFile}
 use Rattle.files_laws.specs.Messages.{anyOf, PendingOnly}
+use Rattle.source_mode.specs.Mode.{isActive}
+use Rattle.source_target.specs.Target.{hartOf, guestOf, numberOf}
+use Rattle.domain_region.specs.Region.{wordAt}
+use Rattle.domain.specs.Domain.{isEnabled, byMessages}
+use Rattle.domain.specs.Slot.{sourceAt}
+use Rattle.domain_sending_laws.specs.Candidates.{DomainPendingOnly}
+use Rattle.wired_state.specs.Wires.{Wired, domainIn}
 use Rattle.board_block.specs.Block.{Board}
 use Rattle.board_block_laws.specs.Shape.{BoardShaped}
 use Rattle.board_call.specs.declared.Call.{Call}
 use Rattle.board_call.specs.declared.Call.the-variants.{Reset, Wire, DomainRead, DomainWrite, PageRead}
-use Rattle.board_call.specs.declared.Call.the-variants.{PageWrite}
-use Rattle.board_call.specs.declared.Call.the-variants.{Register, Top, Claim, Signals, Move}
+use Rattle.board_call.specs.declared.Call.the-variants.{PageWrite, Register, Top, Claim, Signals, Move}
 use Rattle.board_call.specs.Refusal.{nameRefusal}
 use Rattle.board_call.specs.Change.{change}
 use Rattle.board_call.specs.Outcome.{step}
 use Rattle.board_call_laws.specs.Fit.{Fit}
-use Rattle.claims_wired.specs.Kept.{Touch, none, sources, nothing, writesIn, readsIn, Kept}
+use Rattle.claims_wired.specs.Kept.{Touch, none, sources, nothing, writesIn, readsIn, Untouched}
 
 -- ---- the wired controller, before anything is sent
 
@@ -90,20 +90,20 @@ touchesWire (Claim h f) j = false
 touchesWire (Signals h) j = false
 touchesWire (Move oh of nh nf n) j = false
 
--- before anything is sent, a call leaves of each domain all that the table does not name, and every other wire
+-- before anything is sent, a call leaves of each domain, and of the wires, all that its table does not name
 unfoldable pub Claim-150 : Type 0
 Claim-150 =
     (b : Board) → BoardShaped b → (call : Call) → nameRefusal call b ≡ 0 → (s : List ℕ)
     → let w = b .wired in
     let w′ = change call b s .board .wired in
-    ((c : Bool) → Kept (touches call w c) (domainIn w c) (domainIn w′ c))
+    ((c : Bool) → Untouched (touches call w c) (domainIn w c) (domainIn w′ c))
     × ((j : ℕ) → touchesWire call j ≡ false → member (w′ .wires) j ≡ member (w .wires) j)
 
 -- ---- what is sent
 
 -- the pass of messages after a change, in each domain (c says that it is the child): nothing but pending bits
 -- changes, and no wire. A pending bit stays unless the domain has IE and DM and the source is active, pending
--- and enabled: then it is cleared, and a message with the hart, the file and the identity of its target is sent
+-- and enabled: then it is cleared, and a message with the hart, file and identity of its target is sent
 unfoldable pub Claim-151 : Type 0
 Claim-151 =
     (call : Call) (b : Board) (s : List ℕ)
@@ -123,8 +123,8 @@ Claim-151 =
     ≡ true)))
 
 -- the same parts, and every pending bit
-abbrev pub withPendings : Touch → Touch
-withPendings t =
+abbrev pub andPendings : Touch → Touch
+andPendings t =
     record {
       pending = all;
       enabled = t .enabled;
@@ -137,8 +137,8 @@ withPendings t =
       ithreshold = t .ithreshold;
     }
 
--- the whole call, with what it sends: a pending bit that the table does not name stays, unless its domain has IE
--- and DM and a message with the hart, the file and the identity of its target is sent, which clears it; and
+-- the whole call, with what it sends: a pending bit that the table does not name stays, unless its domain
+-- has IE and DM and a message with the hart, file and identity of its target is sent, which clears it; and
 -- every other part of a domain that the table does not name stays
 unfoldable pub Claim-156 : Type 0
 Claim-156 =
@@ -146,7 +146,7 @@ Claim-156 =
     → let touched = touches call (b .wired) c in
     let d = domainIn (b .wired) c in
     let d′ = domainIn (step call b s .board .wired) c in
-    Kept (withPendings touched) d d′
+    Untouched (andPendings touched) d d′
     × ((i : ℕ) → 1 ≤ i → i ≤ 63 → touched .pending i ≡ false
     → sourceAt d′ i .pending ≢ sourceAt d i .pending
     → let t = sourceAt d′ i .target in
@@ -176,9 +176,9 @@ Claim-154 =
 
 -- ---- the files
 
--- the messages of a call reach the files that they name with the identities that they name, and nothing else:
--- identity i of file f of hart h is pending if it was, or if the message 2048 h + 256 f + i was sent. Identity
--- 0 stays, and so do delivery, threshold and enable bits
+-- the messages of a call reach the files that they name with the identities that they name, and nothing
+-- else: identity i of file f of hart h is pending if it was, or if the message 2048 h + 256 f + i was sent.
+-- Identity 0 stays, and so do delivery, threshold and enable bits
 unfoldable pub Claim-152 : Type 0
 Claim-152 =
     (b : Board) → Fit b → (c : Call) → nameRefusal c b ≡ 0 → (s : List ℕ) (h f : ℕ) → h < 4 → f < 5
@@ -194,7 +194,7 @@ abbrev pub oldAccess : ℕ → Bool
 oldAccess n = eqb n 3
 
 abbrev pub newAccess : ℕ → Bool
-newAccess n = leb 4 n && leb n 8 || leb 80 n
+newAccess n = (leb 4 n && leb n 8) || leb 80 n
 
 -- a read, of kind 0, changes no register
 abbrev pub touchesFile : Call → ℕ → Bool

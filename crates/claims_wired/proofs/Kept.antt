@@ -1,53 +1,36 @@
 -- What a change of a domain keeps, from the laws of writes: the rows of the table of Claim-155. Assumes
 -- nothing.
 use Prim.Native.Nat.{ℕ, _≤_, _<_}
-use mathlib.Core.Path.{_≡_, refl, sym, ap, subst, _∙_}
-use mathlib.Core.Bool.{Bool, true, false, Bool·beq, cond, not, _&&_, true≢false}
+use mathlib.Core.Path.{_≡_, refl, sym, ap, _∙_}
+use mathlib.Core.Bool.{Bool, true, false, Bool·beq, cond, not, true≢false}
 use mathlib.Core.List.{List}
-use mathlib.Core.Logic.{_≢_}
 use native.Mathlib.Decide.{ℕ-discrete}
 use native.Mathlib.Omega.{arith}
 use lib.Dec.{eqb}
-use borrow.Author.Tests.{eq-eqb, ne-eqb, eqb-true, eqb-false}
 use Rattle.words.specs.Bits.{hasBit}
-use Rattle.words.specs.Parts.{reversed}
 use Rattle.words.specs.Sets.{member}
-use Rattle.words.proofs.SetsLaws.{member-put-other}
 use Rattle.words.proofs.TestsLaws.{tested}
 use Rattle.source_mode.specs.Mode.{isActive}
 use Rattle.source.specs.declared.Source.{Source}
-use Rattle.source.specs.declared.Change.{Change}
 use Rattle.source.specs.declared.Change.the-variants.{Pend, Clear, Enable, Disable}
-use Rattle.source.specs.Pending.{inactive, settled, wireChanged, pended, cleared, switched, changed, moded}
-use Rattle.source.specs.Pending.{redelivered, retargeted}
-use Rattle.domain_region.specs.Region.{Within}
-use Rattle.domain_region.specs.declared.Word.{Word}
-use Rattle.domain_region.specs.declared.Word.the-variants.{Domaincfg, Sourcecfg, Setip, Setipnum, InClrip}
-use Rattle.domain_region.specs.declared.Word.the-variants.{Clripnum, Setie, Setienum, Clrie, Clrienum}
-use Rattle.domain_region.specs.declared.Word.the-variants.{SetipnumLe, SetipnumBe, Genmsi, Target, Idelivery}
-use Rattle.domain_region.specs.declared.Word.the-variants.{Iforce, Ithreshold, Topi, Claimi, Unused}
+use Rattle.source.specs.Pending.{settled, pended, cleared, switched, changed, redelivered, retargeted}
 use Rattle.domain_delivery.specs.declared.Delivery.{Delivery}
 use Rattle.domain.specs.Domain.{Domain, configOf, byMessages, generatedAt}
-use Rattle.domain.specs.Slot.{sourceAt, withSource}
+use Rattle.domain.specs.Slot.{sourceAt}
 use Rattle.domain.specs.Structure.{structureAt, withStructure}
 use Rattle.domain_laws.specs.Shape.{DomainShaped}
 use Rattle.domain_laws.specs.Became.{Became, Touched}
 use Rattle.domain_laws.proofs.OwnEffects.{configOf-withStructure, generatedAt-withStructure}
 use Rattle.domain_laws.proofs.StructureEffects.{structureAt-withStructure-same}
 use Rattle.domain_laws.proofs.StructureEffects.{structureAt-withStructure-other, sourceAt-withStructure}
-use Rattle.domain_laws.proofs.BecameEffects.{touched-withSource}
 use Rattle.domain_writes.specs.Writes.{targetWritten}
 use Rattle.domain_config.specs.Config.{configWritten}
 use Rattle.domain_genmsi.specs.Genmsi.{generatedWritten}
-use Rattle.domain_writes_laws.specs.Named.{named, changing, keepsMode}
-use Rattle.domain_writes_laws.proofs.WritesEffects.{touched-wordChanged, touched-numberChanged}
+use Rattle.domain_writes_laws.specs.Named.{changing, keepsMode}
 use Rattle.domain_writes_laws.proofs.WritesEffects.{touched-targetWritten}
 use Rattle.domain_writes_laws.proofs.ConfigEffects.{became-configWritten, became-generatedWritten}
 use Rattle.wired_rules_laws.proofs.ModeEffects.{changed-mode, redelivered-mode, retargeted-mode}
-use Rattle.domain_registers.specs.Write.{registerWritten}
-use Rattle.claims_wired.specs.Rules.{Long}
-use Rattle.claims_wired.specs.Kept.{Touch, none, sources, harts, nothing, configures, generates, inWord}
-use Rattle.claims_wired.specs.Kept.{direct, writes, claims, reads, writesIn, readsIn, Kept, Claim-155}
+use Rattle.claims_wired.specs.Kept.{Touch, none, sources, configures, generates, writes, Untouched}
 
 -- ---- what a change of sources keeps
 
@@ -71,7 +54,7 @@ targetOf s = s .target
 abbrev pub modeOf : Source → ℕ
 modeOf s = s .mode
 
-pub kept-same : (t : Touch) (d : Domain) → Kept t d d
+pub kept-same : (t : Touch) (d : Domain) → Untouched t d d
 kept-same t d =
     record {
       pending = λ i l h e. refl;
@@ -91,7 +74,7 @@ module _ {d d′ : Domain} {w g : ℕ} {f : ℕ → Source → Source} (x : Beca
       → ((j : ℕ) → t .enabled j ≡ false → f j (sourceAt d j) .enabled ≡ sourceAt d j .enabled)
       → ((j : ℕ) → t .target j ≡ false → f j (sourceAt d j) .target ≡ sourceAt d j .target)
       → ((j : ℕ) → t .mode j ≡ false → f j (sourceAt d j) .mode ≡ sourceAt d j .mode)
-      → (t .config ≡ false → w ≡ configOf d) → (t .generated ≡ false → g ≡ generatedAt d) → Kept t d d′
+      → (t .config ≡ false → w ≡ configOf d) → (t .generated ≡ false → g ≡ generatedAt d) → Untouched t d d′
   kept-became p e r m c v =
       record {
         pending = λ i l h q. ap pendingOf (x .source i l (omega arith)) ∙ p i q;
@@ -110,7 +93,7 @@ module _ {d d′ : Domain} (q : ℕ → Bool) (g : ℕ → Source → Source)
     (x : Touched d d′ (λ j s. cond (q j) (g j s) s)) where
   pub kept-pendings : ((j : ℕ) (s : Source) → g j s .enabled ≡ s .enabled)
       → ((j : ℕ) (s : Source) → g j s .target ≡ s .target) → ((j : ℕ) (s : Source) → g j s .mode ≡ s .mode)
-      → Kept (sources q none none none) d d′
+      → Untouched (sources q none none none) d d′
   kept-pendings e t m =
       kept-became x (sources q none none none) (λ j. out pendingOf (q j) _ _)
       (λ j n. keep enabledOf (q j) _ _ (e j _)) (λ j n. keep targetOf (q j) _ _ (t j _))
@@ -118,7 +101,7 @@ module _ {d d′ : Domain} (q : ℕ → Bool) (g : ℕ → Source → Source)
 
   kept-enables : ((j : ℕ) (s : Source) → g j s .pending ≡ s .pending)
       → ((j : ℕ) (s : Source) → g j s .target ≡ s .target) → ((j : ℕ) (s : Source) → g j s .mode ≡ s .mode)
-      → Kept (sources none q none none) d d′
+      → Untouched (sources none q none none) d d′
   kept-enables p t m =
       kept-became x (sources none q none none) (λ j n. keep pendingOf (q j) _ _ (p j _))
       (λ j. out enabledOf (q j) _ _) (λ j n. keep targetOf (q j) _ _ (t j _))
@@ -126,13 +109,13 @@ module _ {d d′ : Domain} (q : ℕ → Bool) (g : ℕ → Source → Source)
 
   kept-targets : ((j : ℕ) (s : Source) → g j s .pending ≡ s .pending)
       → ((j : ℕ) (s : Source) → g j s .enabled ≡ s .enabled) → ((j : ℕ) (s : Source) → g j s .mode ≡ s .mode)
-      → Kept (sources none none q none) d d′
+      → Untouched (sources none none q none) d d′
   kept-targets p e m =
       kept-became x (sources none none q none) (λ j n. keep pendingOf (q j) _ _ (p j _))
       (λ j n. keep enabledOf (q j) _ _ (e j _)) (λ j. out targetOf (q j) _ _)
       (λ j n. keep modeOf (q j) _ _ (m j _)) (λ n. refl) (λ n. refl)
 
-  pub kept-wholes : Kept (sources q q q q) d d′
+  pub kept-wholes : Untouched (sources q q q q) d d′
   kept-wholes =
       kept-became x (sources q q q q) (λ j. out pendingOf (q j) _ _) (λ j. out enabledOf (q j) _ _)
       (λ j. out targetOf (q j) _ _) (λ j. out modeOf (q j) _ _) (λ n. refl) (λ n. refl)
@@ -172,26 +155,26 @@ module _ (s : Source) (c m : Bool) (v : ℕ) where
 -- ---- the families of writes: setip, in_clrip, setie, clrie
 
 module _ (d : Domain) {d′ : Domain} (ws : List ℕ) (q : ℕ → Bool) where
-  pub kept-pend : Touched d d′ (changing d ws Pend q) → Kept (sources q none none none) d d′
+  pub kept-pend : Touched d d′ (changing d ws Pend q) → Untouched (sources q none none none) d d′
   unfolding changed
   kept-pend x =
       let m = byMessages d in
       kept-pendings q (λ j s. pended s m (member ws j)) x (λ j s. pended-enabled s m (member ws j))
       (λ j s. pended-target s m (member ws j)) (λ j s. changed-mode s Pend m (member ws j))
 
-  pub kept-clear : Touched d d′ (changing d ws Clear q) → Kept (sources q none none none) d d′
+  pub kept-clear : Touched d d′ (changing d ws Clear q) → Untouched (sources q none none none) d d′
   unfolding changed cleared
   kept-clear x =
       kept-pendings q (λ j s. cleared s (byMessages d)) x (λ j s. refl) (λ j s. refl) (λ j s. refl)
 
-  pub kept-enable : Touched d d′ (changing d ws Enable q) → Kept (sources none q none none) d d′
+  pub kept-enable : Touched d d′ (changing d ws Enable q) → Untouched (sources none q none none) d d′
   unfolding changed
   kept-enable x =
       let m = byMessages d in
       kept-enables q (λ j s. switched s true) x (λ j s. switched-pending s m true)
       (λ j s. switched-target s m true) (λ j s. changed-mode s Enable m (member ws j))
 
-  pub kept-disable : Touched d d′ (changing d ws Disable q) → Kept (sources none q none none) d d′
+  pub kept-disable : Touched d d′ (changing d ws Disable q) → Untouched (sources none q none none) d d′
   unfolding changed
   kept-disable x =
       let m = byMessages d in
@@ -206,7 +189,7 @@ not-false false e = absurd (true≢false e)
 
 module _ (d : Domain) (shaped : DomainShaped d) where
   pub kept-config : (ws : List ℕ) (v : ℕ)
-      → Kept (configures (not (Bool·beq (byMessages d) (hasBit v 2)))) d (configWritten d ws v)
+      → Untouched (configures (not (Bool·beq (byMessages d) (hasBit v 2)))) d (configWritten d ws v)
   kept-config ws v =
       let same = keepsMode d v in
       kept-became (became-configWritten d ws v shaped) (configures (not same))
@@ -214,16 +197,17 @@ module _ (d : Domain) (shaped : DomainShaped d) where
       (λ j n. tested same (λ t. rw t)
       (λ f. rw f (redelivered-enabled (sourceAt d j) (hasBit v 2) (member ws j))))
       (λ j n. rw (not-false same n))
-      (λ j n. tested same (λ t. rw t) (λ f. rw f (redelivered-mode (sourceAt d j) (hasBit v 2) (member ws j))))
+      (λ j n. tested same (λ t. rw t)
+      (λ f. rw f (redelivered-mode (sourceAt d j) (hasBit v 2) (member ws j))))
       (λ n. absurd (true≢false n)) (λ n. rw (not-false same n))
 
-  pub kept-generated : (v : ℕ) → Kept (generates (byMessages d)) d (generatedWritten d v)
+  pub kept-generated : (v : ℕ) → Untouched (generates (byMessages d)) d (generatedWritten d v)
   kept-generated v =
       kept-became (became-generatedWritten d v shaped) (generates (byMessages d)) (λ j n. refl) (λ j n. refl)
       (λ j n. refl) (λ j n. refl) (λ n. refl) (λ n. rw n)
 
   pub kept-target : (c : Bool) (i v : ℕ) → 1 ≤ i → i ≤ 63
-      → Kept (sources none none (eqb i) none) d (targetWritten c d i v)
+      → Untouched (sources none none (eqb i) none) d (targetWritten c d i v)
   kept-target c i v l h =
       kept-targets (eqb i) (λ j s. retargeted s c (byMessages d) v)
       (touched-targetWritten c d i v shaped l (omega arith)) (λ j s. retargeted-pending s c (byMessages d) v)
@@ -247,7 +231,7 @@ module _ (d : Domain) (shaped : DomainShaped d) where
     pub kept-structure : (t .idelivery h ≡ false → x .idelivery ≡ structureAt d h .idelivery)
         → (t .iforce h ≡ false → x .iforce ≡ structureAt d h .iforce)
         → (t .ithreshold h ≡ false → x .ithreshold ≡ structureAt d h .ithreshold)
-        → Kept t d (withStructure d h x)
+        → Untouched t d (withStructure d h x)
     kept-structure a b c =
         record {
           pending = λ i l u e. ap pendingOf (sourceAt-withStructure d h x i);

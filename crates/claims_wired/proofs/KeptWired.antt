@@ -1,7 +1,7 @@
 -- Claim-155, register by register, in both domains. Assumes nothing.
-use Prim.Native.Nat.{ℕ, _≤_, _<_}
-use mathlib.Core.Path.{_≡_, refl, sym, ap, subst, _∙_}
-use mathlib.Core.Bool.{Bool, true, false, Bool·beq, cond, not, _&&_}
+use Prim.Native.Nat.{ℕ, _≤_}
+use mathlib.Core.Path.{_≡_, refl, sym, subst}
+use mathlib.Core.Bool.{Bool, true, false, Bool·beq, not, _&&_}
 use mathlib.Core.List.{List}
 use mathlib.Core.Logic.{_≢_}
 use native.Mathlib.Decide.{ℕ-discrete}
@@ -29,70 +29,74 @@ use Rattle.domain_region.specs.declared.Word.the-variants.{Iforce, Ithreshold, 
 use Rattle.domain_delivery.specs.Delivery.{withIdelivery, withIforce, withIthreshold, withoutForce}
 use Rattle.domain.specs.Domain.{Domain, byMessages}
 use Rattle.domain.specs.Slot.{sourceAt, withSource}
-use Rattle.domain.specs.Structure.{structureAt}
 use Rattle.domain_laws.specs.Shape.{DomainShaped}
 use Rattle.domain_laws.proofs.BecameEffects.{touched-withSource}
 use Rattle.domain_writes_laws.specs.Named.{named}
 use Rattle.domain_writes_laws.proofs.WritesEffects.{touched-wordChanged, touched-numberChanged}
+use Rattle.domain_topi.proofs.TopLaws.{topSource-lt}
 use Rattle.domain_direct.specs.declared.Setting.{Setting}
 use Rattle.domain_direct.specs.declared.Setting.the-variants as setting
 use Rattle.domain_direct.specs.Direct.{topSource, unforced, released, hartClaimed, writtenAt, settingWritten}
 use Rattle.domain_direct.proofs.DirectLaws.{claimed-messages, claimed-none, claimed-some, written-messages}
 use Rattle.domain_direct.proofs.DirectLaws.{written-direct}
-use Rattle.domain_topi.proofs.TopLaws.{topSource-lt}
 use Rattle.domain_registers.specs.Write.{registerWritten}
 use Rattle.domain_registers.specs.Read.{claimedAs, claimedBy}
 use Rattle.wired_state.specs.Wires.{Wired, domainIn, withDomain, isDelegated, sourceWired, wireSet}
 use Rattle.wired_sourcecfg.specs.Delegation.{sourceModed, childWritten, rootWritten, sourceWritten}
 use Rattle.wired_registers.specs.Wired.{claimedIn, partWritten, writtenAs, writtenIn}
 use Rattle.claims_wired.specs.Rules.{Long}
-use Rattle.claims_wired.specs.Kept.{Touch, none, sources, harts, direct, writes, claims, reads, writesIn}
-use Rattle.claims_wired.specs.Kept.{readsIn, Kept, Claim-155}
+use Rattle.claims_wired.specs.Kept.{Touch, none, sources, harts, whileDirect, writes, claims, reads}
+use Rattle.claims_wired.specs.Kept.{writesIn, readsIn, Untouched, Claim-155}
 use Rattle.claims_wired.proofs.Kept.{out, keep, pendingOf, enabledOf, targetOf, modeOf, kept-same}
-use Rattle.claims_wired.proofs.Kept.{kept-became, kept-pendings, kept-wholes}
-use Rattle.claims_wired.proofs.Kept.{kept-pend, kept-clear, kept-enable, kept-disable, kept-config}
-use Rattle.claims_wired.proofs.Kept.{kept-generated, kept-target, kept-structure}
+use Rattle.claims_wired.proofs.Kept.{kept-became, kept-pendings, kept-wholes, kept-pend, kept-clear}
+use Rattle.claims_wired.proofs.Kept.{kept-enable, kept-disable, kept-config, kept-generated}
+use Rattle.claims_wired.proofs.Kept.{kept-target, kept-structure}
 
 module _ (d : Domain) (shaped : DomainShaped d) where
   -- ---- the settable numbers of hart h
 
   module _ (h : ℕ) where
     -- in direct mode the hart is touched
-    own-hart : {A : Type 0} → byMessages d ≡ false → direct d h h ≡ false → A
+    own-hart : {A : Type 0} → byMessages d ≡ false → whileDirect d h h ≡ false → A
     own-hart f e = absurd (eqb-false h h (rw f at e) refl)
 
     kept-setting : (g : Setting) (t : Touch) (v : ℕ)
-        → (byMessages d ≡ false → Kept t d (settingWritten d h g v)) → Kept t d (settingWritten d h g v)
+        → (byMessages d ≡ false → Untouched t d (settingWritten d h g v))
+        → Untouched t d (settingWritten d h g v)
     kept-setting g t v on =
         tested (byMessages d) (λ m. rw (written-messages d h g v m) (kept-same t d)) on
 
     kept-idelivery : (v : ℕ)
-        → Kept (harts (direct d h) none none) d (settingWritten d h setting.Idelivery v)
+        → Untouched (harts (whileDirect d h) none none) d (settingWritten d h setting.Idelivery v)
     unfolding writtenAt withIdelivery
     kept-idelivery v =
-        kept-setting setting.Idelivery (harts (direct d h) none none) v
+        kept-setting setting.Idelivery (harts (whileDirect d h) none none) v
         (λ f. rw (written-direct d h setting.Idelivery v f)
-        (kept-structure d shaped h _ (harts (direct d h) none none) (λ e. own-hart f e) (λ e. refl) (λ e. refl)))
+        (kept-structure d shaped h _ (harts (whileDirect d h) none none) (λ e. own-hart f e) (λ e. refl)
+        (λ e. refl)))
 
-    kept-iforce : (v : ℕ) → Kept (harts none (direct d h) none) d (settingWritten d h setting.Iforce v)
+    kept-iforce : (v : ℕ)
+        → Untouched (harts none (whileDirect d h) none) d (settingWritten d h setting.Iforce v)
     unfolding writtenAt withIforce
     kept-iforce v =
-        kept-setting setting.Iforce (harts none (direct d h) none) v
+        kept-setting setting.Iforce (harts none (whileDirect d h) none) v
         (λ f. rw (written-direct d h setting.Iforce v f)
-        (kept-structure d shaped h _ (harts none (direct d h) none) (λ e. refl) (λ e. own-hart f e) (λ e. refl)))
+        (kept-structure d shaped h _ (harts none (whileDirect d h) none) (λ e. refl) (λ e. own-hart f e)
+        (λ e. refl)))
 
     kept-ithreshold : (v : ℕ)
-        → Kept (harts none none (direct d h)) d (settingWritten d h setting.Ithreshold v)
+        → Untouched (harts none none (whileDirect d h)) d (settingWritten d h setting.Ithreshold v)
     unfolding writtenAt withIthreshold
     kept-ithreshold v =
-        kept-setting setting.Ithreshold (harts none none (direct d h)) v
+        kept-setting setting.Ithreshold (harts none none (whileDirect d h)) v
         (λ f. rw (written-direct d h setting.Ithreshold v f)
-        (kept-structure d shaped h _ (harts none none (direct d h)) (λ e. refl) (λ e. refl) (λ e. own-hart f e)))
+        (kept-structure d shaped h _ (harts none none (whileDirect d h)) (λ e. refl) (λ e. refl)
+        (λ e. own-hart f e)))
 
   -- ---- a write to any register but a sourcecfg
 
   kept-written : (c : Bool) (ws : List ℕ) (r : Word) → Within r → (v : ℕ)
-      → Kept (writes d r v) d (registerWritten c d ws r v)
+      → Untouched (writes d r v) d (registerWritten c d ws r v)
   unfolding writes registerWritten named
   kept-written c ws Domaincfg q v = kept-config d shaped ws v
   kept-written c ws (Sourcecfg i) q v = kept-same _ d
@@ -121,16 +125,16 @@ module _ (d : Domain) (shaped : DomainShaped d) where
 
   -- ---- a claim
 
-  kept-claimed : (h : ℕ) → Kept (claims d h) d (hartClaimed d h)
+  kept-claimed : (h : ℕ) → Untouched (claims d h) d (hartClaimed d h)
   kept-claimed h =
       tested (byMessages d) (λ m. rw (claimed-messages d h m) (kept-same (claims d h) d))
       (λ f. at f (ℕ-discrete (topSource d h) 0))
     where
-      at : byMessages d ≡ false → Dec (topSource d h ≡ 0) → Kept (claims d h) d (hartClaimed d h)
+      at : byMessages d ≡ false → Dec (topSource d h ≡ 0) → Untouched (claims d h) d (hartClaimed d h)
       at f (yes z) =
           unfold unforced withoutForce in
           rw (claimed-none d h f z, eq-eqb (topSource d h) 0 z)
-          (kept-structure d shaped h _ (harts none (direct d h) none) (λ e. refl) (λ e. own-hart h f e)
+          (kept-structure d shaped h _ (harts none (whileDirect d h) none) (λ e. refl) (λ e. own-hart h f e)
           (λ e. refl))
       at f (no n) =
           unfold released cleared in
@@ -144,7 +148,7 @@ module _ (d : Domain) (shaped : DomainShaped d) where
           (λ j e. keep targetOf (eqb (topSource d h) j) _ _ refl)
           (λ j e. keep modeOf (eqb (topSource d h) j) _ _ refl) (λ e. refl) (λ e. refl))
 
-  kept-read : (r : Word) → Kept (reads d r) d (claimedBy d r)
+  kept-read : (r : Word) → Untouched (reads d r) d (claimedBy d r)
   unfolding reads claimedBy claimedAs
   kept-read Domaincfg = kept-same _ d
   kept-read (Sourcecfg i) = kept-same _ d
@@ -170,8 +174,9 @@ module _ (d : Domain) (shaped : DomainShaped d) where
 -- ---- both domains
 
 -- source i replaced by what g makes of it
-module _ (d : Domain) (shaped : DomainShaped d) (i : ℕ) (l : 1 ≤ i) (h : i ≤ 63) (g : ℕ → Source → Source) where
-  kept-replaced : Kept (sources (eqb i) (eqb i) (eqb i) (eqb i)) d (withSource d i (g i (sourceAt d i)))
+module _ (d : Domain) (shaped : DomainShaped d) (i : ℕ) (l : 1 ≤ i) (h : i ≤ 63)
+    (g : ℕ → Source → Source) where
+  kept-replaced : Untouched (sources (eqb i) (eqb i) (eqb i) (eqb i)) d (withSource d i (g i (sourceAt d i)))
   kept-replaced = kept-wholes (eqb i) g (touched-withSource d i g shaped l (omega arith))
 
 module _ (w : Wired) (long : Long w) where
@@ -183,11 +188,11 @@ module _ (w : Wired) (long : Long w) where
   -- ---- a wire
 
   kept-wire : (i : ℕ) → 1 ≤ i → i ≤ 63 → (level e : Bool)
-      → Kept (sources (eqb i) none none none) (domainIn w e) (domainIn (wireSet w i level) e)
+      → Untouched (sources (eqb i) none none none) (domainIn w e) (domainIn (wireSet w i level) e)
   kept-wire i l h level e =
       let was = member (w .wires) i in
       let d = domainIn w e in
-      subst (Kept (sources (eqb i) none none none) d) (sym (at e))
+      subst (Untouched (sources (eqb i) none none none) d) (sym (at e))
       (kept-pendings (eqb i) (λ j s. wireChanged s (byMessages d) was level)
       (touched-withSource d i (λ j s. wireChanged s (byMessages d) was level) (shaped-in e) l (omega arith))
       (λ j s. unfold wireChanged settled in refl) (λ j s. unfold wireChanged settled in refl)
@@ -212,10 +217,10 @@ module _ (w : Wired) (long : Long w) where
   wires-with false d = refl
 
   abbrev Stays : Bool → Word → ℕ → Bool → Wired → Type 0
-  Stays c r v e w′ = Kept (writesIn w c r v e) (domainIn w e) (domainIn w′ e) × (w′ .wires ≡ w .wires)
+  Stays c r v e w′ = Untouched (writesIn w c r v e) (domainIn w e) (domainIn w′ e) × (w′ .wires ≡ w .wires)
 
   kept-part : (c : Bool) (r : Word) → Within r → (v : ℕ) (e : Bool)
-      → Kept (writesIn w c r v e) (domainIn w e) (domainIn (partWritten w c r v) e)
+      → Untouched (writesIn w c r v e) (domainIn w e) (domainIn (partWritten w c r v) e)
   unfolding writesIn domainIn withDomain
   kept-part true r q v true = kept-written (w .child) (long .2) true (w .wires) r q v
   kept-part true r q v false = kept-same _ (w .root)
@@ -227,7 +232,7 @@ module _ (w : Wired) (long : Long w) where
     modes d m j s = moded s (byMessages d) m (member (w .wires) i)
 
     kept-source : (c e : Bool)
-        → Kept (writesIn w c (Sourcecfg i) v e) (domainIn w e) (domainIn (sourceWritten w c i v) e)
+        → Untouched (writesIn w c (Sourcecfg i) v e) (domainIn w e) (domainIn (sourceWritten w c i v) e)
     unfolding writesIn writes domainIn sourceWritten childWritten rootWritten sourceModed modes
     kept-source true true = kept-replaced (w .child) (long .2) i l h (modes (w .child) _)
     kept-source true false = kept-same _ (w .root)
@@ -254,7 +259,9 @@ module _ (w : Wired) (long : Long w) where
       at (Configures i) p =
           unfold writtenAs in
           let range = configures-range r q i p in (
-            subst (λ (x : Word). Kept (writesIn w c x v e) (domainIn w e) (domainIn (sourceWritten w c i v) e))
+            subst
+                (λ (x : Word). Untouched (writesIn w c x v e) (domainIn w e)
+                (domainIn (sourceWritten w c i v) e))
                 (sym (configures-only r i p)) (kept-source i (range .0) (range .1) v c e),
             wires-source i (range .0) (range .1) v c,
           )
@@ -262,7 +269,7 @@ module _ (w : Wired) (long : Long w) where
       at Plain p = unfold writtenAs in part
 
   kept-claimedIn : (c : Bool) (r : Word) (e : Bool)
-      → Kept (readsIn w c r e) (domainIn w e) (domainIn (claimedIn w c r) e)
+      → Untouched (readsIn w c r e) (domainIn w e) (domainIn (claimedIn w c r) e)
   unfolding readsIn domainIn withDomain
   kept-claimedIn true r true = kept-read (w .child) (long .2) r
   kept-claimedIn true r false = kept-same _ (w .root)

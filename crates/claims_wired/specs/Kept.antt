@@ -6,14 +6,15 @@
 --   sources p e t m      pending bits of p, enable bits of e, targets of t, sourcecfg words of m
 --   harts d f t          idelivery of the harts of d, iforce of f, ithreshold of t
 --   inWord k v i         v, written to word k of a family, has the bit of source i
---   direct d h           hart h, if the domain d is in direct mode
+--   whileDirect d h      hart h, if the domain d is in direct mode
 --   writes d r v         a write of v to register r of d: what it may change in d
 --   reads d r            a read of register r of d: what it may change in d
 --   writesIn w c r v e, readsIn w c r e
 --                        the same for register r of a domain, and what it may change in either domain e
---   Kept t d d′          d′ has all of d that t does not name
--- c and e say that a domain is the child. Premises: `Long w`, the lists have their lengths, as those of every
--- block have; for the number of a wire and of a register that it is there. No axioms.
+--   Untouched t d d′     d′ has all of d that t does not name
+-- c and e say that a domain is the child; what becomes of a pending bit that is named, Claim-59 says.
+-- Premises: `Long w`, the lists have their lengths, as those of every block have; and of a wire or a register
+-- that is written, that it is there: the wire is 1 to 63, and `Within r`. No axioms.
 use Prim.Native.Nat.{ℕ, _/_, _%_, _≤_, _<_}
 use mathlib.Core.Path.{_≡_}
 use mathlib.Core.Bool.{Bool, true, false, Bool·beq, cond, not, _&&_}
@@ -114,8 +115,8 @@ generates there =
 abbrev pub inWord : ℕ → ℕ → ℕ → Bool
 inWord k v i = eqb (i / 32) k && hasBit v (i % 32)
 
-abbrev pub direct : Domain → ℕ → ℕ → Bool
-direct d h g = not (byMessages d) && eqb h g
+abbrev pub whileDirect : Domain → ℕ → ℕ → Bool
+whileDirect d h g = not (byMessages d) && eqb h g
 
 unfoldable pub writes : Domain → Word → ℕ → Touch
 writes d Domaincfg v = configures (not (Bool·beq (byMessages d) (hasBit v 2)))
@@ -132,9 +133,9 @@ writes d SetipnumLe v = sources (eqb v) none none none
 writes d SetipnumBe v = sources (eqb (reversed v)) none none none
 writes d Genmsi v = generates (byMessages d)
 writes d (Target i) v = sources none none (eqb i) none
-writes d (Idelivery h) v = harts (direct d h) none none
-writes d (Iforce h) v = harts none (direct d h) none
-writes d (Ithreshold h) v = harts none none (direct d h)
+writes d (Idelivery h) v = harts (whileDirect d h) none none
+writes d (Iforce h) v = harts none (whileDirect d h) none
+writes d (Ithreshold h) v = harts none none (whileDirect d h)
 writes d (Topi h) v = nothing
 writes d (Claimi h) v = nothing
 writes d Unused v = nothing
@@ -142,7 +143,7 @@ writes d Unused v = nothing
 -- a claimi in direct mode: the pending bit of the source that topi names, or iforce if it names none
 abbrev pub claims : Domain → ℕ → Touch
 claims d h =
-    cond (eqb (topSource d h) 0) (harts none (direct d h) none)
+    cond (eqb (topSource d h) 0) (harts none (whileDirect d h) none)
     (sources (λ i. not (byMessages d) && eqb (topSource d h) i) none none none)
 
 unfoldable pub reads : Domain → Word → Touch
@@ -176,7 +177,7 @@ writesIn w c r v e =
 unfoldable pub readsIn : Wired → Bool → Word → Bool → Touch
 readsIn w c r e = cond (Bool·beq c e) (reads (domainIn w c) r) nothing
 
-pub record Kept (t : Touch) (d d′ : Domain) : Type 0 where
+pub record Untouched (t : Touch) (d d′ : Domain) : Type 0 where
   pub pending : (i : ℕ) → 1 ≤ i → i ≤ 63 → t .pending i ≡ false
       → sourceAt d′ i .pending ≡ sourceAt d i .pending
   pub enabled : (i : ℕ) → 1 ≤ i → i ≤ 63 → t .enabled i ≡ false
@@ -191,16 +192,16 @@ pub record Kept (t : Touch) (d d′ : Domain) : Type 0 where
   pub ithreshold : (h : ℕ) → h < 4 → t .ithreshold h ≡ false
       → structureAt d′ h .ithreshold ≡ structureAt d h .ithreshold
 
--- each operation, before anything is sent: a wire changes no other wire, and of each domain the pending bit of
--- its own source alone; a write and a read change no wire, and of each domain what the tables say
+-- each operation, before anything is sent: a wire changes no other wire, and of each domain the pending bit
+-- of its own source alone; a write and a read change no wire, and of each domain what the tables say
 unfoldable pub Claim-155 : Type 0
 Claim-155 =
     (w : Wired) → Long w → (e : Bool) → let d = domainIn w e in
     ((i : ℕ) → 1 ≤ i → i ≤ 63 → (level : Bool)
-    → Kept (sources (eqb i) none none none) d (domainIn (wireSet w i level) e)
+    → Untouched (sources (eqb i) none none none) d (domainIn (wireSet w i level) e)
     × ((j : ℕ) → j ≢ i → member (wireSet w i level .wires) j ≡ member (w .wires) j))
     × ((c : Bool) (r : Word) → Within r → (v : ℕ)
-    → Kept (writesIn w c r v e) d (domainIn (writtenIn w c r v) e)
+    → Untouched (writesIn w c r v e) d (domainIn (writtenIn w c r v) e)
     × (writtenIn w c r v .wires ≡ w .wires))
     × ((c : Bool) (r : Word)
-    → Kept (readsIn w c r e) d (domainIn (claimedIn w c r) e) × (claimedIn w c r .wires ≡ w .wires))
+    → Untouched (readsIn w c r e) d (domainIn (claimedIn w c r) e) × (claimedIn w c r .wires ≡ w .wires))
