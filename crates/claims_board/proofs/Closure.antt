@@ -35,7 +35,7 @@ use Rattle.board_move_wired_laws.proofs.StepThree.{next-hit, next-miss}
 use Rattle.board_call_laws.proofs.WiredCallEffects.{wire-low, wire-high}
 use Rattle.board_call_laws.proofs.MoveEffects.{move-low, move-high}
 use Rattle.claims_wired.specs.Rules.{Long}
-use Rattle.claims_wired.specs.Kept.{none, sources, writes, writesIn, Untouched, Claim-155}
+use Rattle.claims_wired.specs.Kept.{none, sources, writes, writesIn, Spares, Claim-155}
 use Rattle.claims_wired.proofs.Kept.{kept-same}
 use Rattle.claims_wired.proofs.KeptWired.{claim-155}
 use Rattle.claims_board.specs.Closure.{retargets, touches, touchesWire, Claim-150}
@@ -64,7 +64,7 @@ access-source n i l h li e =
 
 -- what may change besides what does
 kept-targets-more : {d d′ : Domain} (q q′ : ℕ → Bool) → ((j : ℕ) → q′ j ≡ false → q j ≡ false)
-    → Untouched (sources none none q none) d d′ → Untouched (sources none none q′ none) d d′
+    → Spares (sources none none q none) d d′ → Spares (sources none none q′ none) d d′
 kept-targets-more q q′ more x =
     record {
       pending = x .pending;
@@ -100,7 +100,7 @@ module _ (w : Wired) (long : Long w) (oh of nh nf i : ℕ) (l : 1 ≤ i) (h : i 
         (λ f. f)
 
     kept-wrote : namesFile target oh of ≡ true → (c : Bool)
-        → Untouched (touches (Move oh of nh nf n) w c) (domainIn w c) (domainIn wrote c)
+        → Spares (touches (Move oh of nh nf n) w c) (domainIn w c) (domainIn wrote c)
     unfolding Claim-155 touches writesIn writes
     kept-wrote y true =
         kept-targets-more (eqb i) (retargets oh of n w) (own y)
@@ -108,7 +108,7 @@ module _ (w : Wired) (long : Long w) (oh of nh nf i : ℕ) (l : 1 ≤ i) (h : i 
     kept-wrote y false = claim-155 w long false .1 true (word.Target i) (l, h) (renamed target nh nf) .0
 
     kept-retargeted : (c : Bool)
-        → Untouched (touches (Move oh of nh nf n) w c) (domainIn w c) (domainIn next c)
+        → Spares (touches (Move oh of nh nf n) w c) (domainIn w c) (domainIn next c)
     kept-retargeted c =
         tested (namesFile target oh of) (λ y. rw (next-hit oh of nh nf w i y) (kept-wrote y c))
         (λ f. rw (next-miss oh of nh nf w i f) (kept-same _ (domainIn w c)))
@@ -132,7 +132,7 @@ module _ (b : Board) (shaped : BoardShaped b) (s : List ℕ) where
 
   abbrev Leaves : Call → Wired → Type 0
   Leaves call w′ =
-      ((c : Bool) → Untouched (touches call w c) (domainIn w c) (domainIn w′ c))
+      ((c : Bool) → Spares (touches call w c) (domainIn w c) (domainIn w′ c))
       × ((j : ℕ) → touchesWire call j ≡ false → member (w′ .wires) j ≡ member (w .wires) j)
 
   leaves-same : (call : Call) → Leaves call w

@@ -18,7 +18,7 @@ use Rattle.domain.specs.Structure.{structureAt}
 use Rattle.domain_laws.proofs.OwnEffects.{isEnabled-same, byMessages-same}
 use Rattle.domain_sending_laws.specs.Candidates.{DomainPendingOnly}
 use Rattle.board_call.specs.Outcome.{step}
-use Rattle.claims_wired.specs.Kept.{Touch, Untouched}
+use Rattle.claims_wired.specs.Kept.{Touch, Spares}
 use Rattle.claims_board.specs.Closure.{touches, andPendings, Claim-150, Claim-151, Claim-156}
 use Rattle.claims_board.proofs.ClosureSent.{claim-151}
 use Rattle.claims_board.proofs.Closure.{claim-150}
@@ -56,7 +56,7 @@ module _ {d d′ : Domain} (x : DomainPendingOnly d d′) where
       }) (x .delivery)
 
   -- what was kept before it
-  kept-sent : (t : Touch) {d₀ : Domain} → Untouched t d₀ d → Untouched (andPendings t) d₀ d′
+  kept-sent : (t : Touch) {d₀ : Domain} → Spares t d₀ d → Spares (andPendings t) d₀ d′
   kept-sent t k =
       record {
         pending = λ i l h e. absurd (true≢false e);

@@ -87,25 +87,25 @@ module _ (p : ℕ → Bool) (g : ℕ → ℕ) (i : ℕ) (holds : p i ≡ true) w
 -- ---- the pass of a domain
 
 module _ (c : Bool) (d : Domain) (i : ℕ) (l : 1 ≤ i) (h : i ≤ 63) where
-  abbrev x : Source
-  x = sourceAt d i
+  abbrev here : Source
+  here = sourceAt d i
 
   abbrev goes : Bool
-  goes = isEnabled d && byMessages d && candidate x
+  goes = isEnabled d && byMessages d && candidate here
 
-  pending-sent : sourceAt (sent c d .domain) i .pending ≡ (x .pending && not goes)
+  pending-sent : sourceAt (sent c d .domain) i .pending ≡ (here .pending && not goes)
   pending-sent =
       tested (isEnabled d && byMessages d)
-      (λ t. ap (λ (y : Source). y .pending) (sent-source c d t i l (omega arith)) ∙ spent-pending x ∙ simp t)
-      (λ f. ap (λ (y : Sent). sourceAt (y .domain) i .pending) (sent-off c d f)
-      ∙ simp (f, and-true))
+      (λ t. ap (λ (y : Source). y .pending) (sent-source c d t i l (omega arith)) ∙ spent-pending here
+      ∙ simp t)
+      (λ f. ap (λ (y : Sent). sourceAt (y .domain) i .pending) (sent-off c d f) ∙ simp (f, and-true))
 
   message-sent : goes ≡ true → anyOf (eqb (messageAt c d i)) (sent c d .messages) ≡ true
   unfolding candidates
   message-sent t =
-      rw (sent-messages c d (and-first (isEnabled d && byMessages d) (candidate x) t))
+      rw (sent-messages c d (and-first (isEnabled d && byMessages d) (candidate here) t))
       (any-those (λ (j : ℕ). candidate (sourceAt d j)) (messageAt c d) i
-      (and-second (isEnabled d && byMessages d) (candidate x) t) 1 63 l (omega arith))
+      (and-second (isEnabled d && byMessages d) (candidate here) t) 1 63 l (omega arith))
 
 -- ---- of both domains
 

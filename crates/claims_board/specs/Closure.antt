@@ -38,7 +38,7 @@ use Rattle.board_call.specs.Refusal.{nameRefusal}
 use Rattle.board_call.specs.Change.{change}
 use Rattle.board_call.specs.Outcome.{step}
 use Rattle.board_call_laws.specs.Fit.{Fit}
-use Rattle.claims_wired.specs.Kept.{Touch, none, sources, nothing, writesIn, readsIn, Untouched}
+use Rattle.claims_wired.specs.Kept.{Touch, none, sources, nothing, writesIn, readsIn, Spares}
 
 -- ---- the wired controller, before anything is sent
 
@@ -96,7 +96,7 @@ Claim-150 =
     (b : Board) → BoardShaped b → (call : Call) → nameRefusal call b ≡ 0 → (s : List ℕ)
     → let w = b .wired in
     let w′ = change call b s .board .wired in
-    ((c : Bool) → Untouched (touches call w c) (domainIn w c) (domainIn w′ c))
+    ((c : Bool) → Spares (touches call w c) (domainIn w c) (domainIn w′ c))
     × ((j : ℕ) → touchesWire call j ≡ false → member (w′ .wires) j ≡ member (w .wires) j)
 
 -- ---- what is sent
@@ -146,7 +146,7 @@ Claim-156 =
     → let touched = touches call (b .wired) c in
     let d = domainIn (b .wired) c in
     let d′ = domainIn (step call b s .board .wired) c in
-    Untouched (andPendings touched) d d′
+    Spares (andPendings touched) d d′
     × ((i : ℕ) → 1 ≤ i → i ≤ 63 → touched .pending i ≡ false
     → sourceAt d′ i .pending ≢ sourceAt d i .pending
     → let t = sourceAt d′ i .target in

@@ -30,7 +30,7 @@ use Rattle.domain_writes_laws.specs.Named.{changing, keepsMode}
 use Rattle.domain_writes_laws.proofs.WritesEffects.{touched-targetWritten}
 use Rattle.domain_writes_laws.proofs.ConfigEffects.{became-configWritten, became-generatedWritten}
 use Rattle.wired_rules_laws.proofs.ModeEffects.{changed-mode, redelivered-mode, retargeted-mode}
-use Rattle.claims_wired.specs.Kept.{Touch, none, sources, configures, generates, writes, Untouched}
+use Rattle.claims_wired.specs.Kept.{Touch, none, sources, configures, generates, writes, Spares}
 
 -- ---- what a change of sources keeps
 
@@ -54,7 +54,7 @@ targetOf s = s .target
 abbrev pub modeOf : Source → ℕ
 modeOf s = s .mode
 
-pub kept-same : (t : Touch) (d : Domain) → Untouched t d d
+pub kept-same : (t : Touch) (d : Domain) → Spares t d d
 kept-same t d =
     record {
       pending = λ i l h e. refl;
@@ -74,7 +74,7 @@ module _ {d d′ : Domain} {w g : ℕ} {f : ℕ → Source → Source} (x : Beca
       → ((j : ℕ) → t .enabled j ≡ false → f j (sourceAt d j) .enabled ≡ sourceAt d j .enabled)
       → ((j : ℕ) → t .target j ≡ false → f j (sourceAt d j) .target ≡ sourceAt d j .target)
       → ((j : ℕ) → t .mode j ≡ false → f j (sourceAt d j) .mode ≡ sourceAt d j .mode)
-      → (t .config ≡ false → w ≡ configOf d) → (t .generated ≡ false → g ≡ generatedAt d) → Untouched t d d′
+      → (t .config ≡ false → w ≡ configOf d) → (t .generated ≡ false → g ≡ generatedAt d) → Spares t d d′
   kept-became p e r m c v =
       record {
         pending = λ i l h q. ap pendingOf (x .source i l (omega arith)) ∙ p i q;
@@ -93,7 +93,7 @@ module _ {d d′ : Domain} (q : ℕ → Bool) (g : ℕ → Source → Source)
     (x : Touched d d′ (λ j s. cond (q j) (g j s) s)) where
   pub kept-pendings : ((j : ℕ) (s : Source) → g j s .enabled ≡ s .enabled)
       → ((j : ℕ) (s : Source) → g j s .target ≡ s .target) → ((j : ℕ) (s : Source) → g j s .mode ≡ s .mode)
-      → Untouched (sources q none none none) d d′
+      → Spares (sources q none none none) d d′
   kept-pendings e t m =
       kept-became x (sources q none none none) (λ j. out pendingOf (q j) _ _)
       (λ j n. keep enabledOf (q j) _ _ (e j _)) (λ j n. keep targetOf (q j) _ _ (t j _))
@@ -101,7 +101,7 @@ module _ {d d′ : Domain} (q : ℕ → Bool) (g : ℕ → Source → Source)
 
   kept-enables : ((j : ℕ) (s : Source) → g j s .pending ≡ s .pending)
       → ((j : ℕ) (s : Source) → g j s .target ≡ s .target) → ((j : ℕ) (s : Source) → g j s .mode ≡ s .mode)
-      → Untouched (sources none q none none) d d′
+      → Spares (sources none q none none) d d′
   kept-enables p t m =
       kept-became x (sources none q none none) (λ j n. keep pendingOf (q j) _ _ (p j _))
       (λ j. out enabledOf (q j) _ _) (λ j n. keep targetOf (q j) _ _ (t j _))
@@ -109,13 +109,13 @@ module _ {d d′ : Domain} (q : ℕ → Bool) (g : ℕ → Source → Source)
 
   kept-targets : ((j : ℕ) (s : Source) → g j s .pending ≡ s .pending)
       → ((j : ℕ) (s : Source) → g j s .enabled ≡ s .enabled) → ((j : ℕ) (s : Source) → g j s .mode ≡ s .mode)
-      → Untouched (sources none none q none) d d′
+      → Spares (sources none none q none) d d′
   kept-targets p e m =
       kept-became x (sources none none q none) (λ j n. keep pendingOf (q j) _ _ (p j _))
       (λ j n. keep enabledOf (q j) _ _ (e j _)) (λ j. out targetOf (q j) _ _)
       (λ j n. keep modeOf (q j) _ _ (m j _)) (λ n. refl) (λ n. refl)
 
-  pub kept-wholes : Untouched (sources q q q q) d d′
+  pub kept-wholes : Spares (sources q q q q) d d′
   kept-wholes =
       kept-became x (sources q q q q) (λ j. out pendingOf (q j) _ _) (λ j. out enabledOf (q j) _ _)
       (λ j. out targetOf (q j) _ _) (λ j. out modeOf (q j) _ _) (λ n. refl) (λ n. refl)
@@ -155,26 +155,26 @@ module _ (s : Source) (c m : Bool) (v : ℕ) where
 -- ---- the families of writes: setip, in_clrip, setie, clrie
 
 module _ (d : Domain) {d′ : Domain} (ws : List ℕ) (q : ℕ → Bool) where
-  pub kept-pend : Touched d d′ (changing d ws Pend q) → Untouched (sources q none none none) d d′
+  pub kept-pend : Touched d d′ (changing d ws Pend q) → Spares (sources q none none none) d d′
   unfolding changed
   kept-pend x =
       let m = byMessages d in
       kept-pendings q (λ j s. pended s m (member ws j)) x (λ j s. pended-enabled s m (member ws j))
       (λ j s. pended-target s m (member ws j)) (λ j s. changed-mode s Pend m (member ws j))
 
-  pub kept-clear : Touched d d′ (changing d ws Clear q) → Untouched (sources q none none none) d d′
+  pub kept-clear : Touched d d′ (changing d ws Clear q) → Spares (sources q none none none) d d′
   unfolding changed cleared
   kept-clear x =
       kept-pendings q (λ j s. cleared s (byMessages d)) x (λ j s. refl) (λ j s. refl) (λ j s. refl)
 
-  pub kept-enable : Touched d d′ (changing d ws Enable q) → Untouched (sources none q none none) d d′
+  pub kept-enable : Touched d d′ (changing d ws Enable q) → Spares (sources none q none none) d d′
   unfolding changed
   kept-enable x =
       let m = byMessages d in
       kept-enables q (λ j s. switched s true) x (λ j s. switched-pending s m true)
       (λ j s. switched-target s m true) (λ j s. changed-mode s Enable m (member ws j))
 
-  pub kept-disable : Touched d d′ (changing d ws Disable q) → Untouched (sources none q none none) d d′
+  pub kept-disable : Touched d d′ (changing d ws Disable q) → Spares (sources none q none none) d d′
   unfolding changed
   kept-disable x =
       let m = byMessages d in
@@ -189,7 +189,7 @@ not-false false e = absurd (true≢false e)
 
 module _ (d : Domain) (shaped : DomainShaped d) where
   pub kept-config : (ws : List ℕ) (v : ℕ)
-      → Untouched (configures (not (Bool·beq (byMessages d) (hasBit v 2)))) d (configWritten d ws v)
+      → Spares (configures (not (Bool·beq (byMessages d) (hasBit v 2)))) d (configWritten d ws v)
   kept-config ws v =
       let same = keepsMode d v in
       kept-became (became-configWritten d ws v shaped) (configures (not same))
@@ -201,13 +201,13 @@ module _ (d : Domain) (shaped : DomainShaped d) where
       (λ f. rw f (redelivered-mode (sourceAt d j) (hasBit v 2) (member ws j))))
       (λ n. absurd (true≢false n)) (λ n. rw (not-false same n))
 
-  pub kept-generated : (v : ℕ) → Untouched (generates (byMessages d)) d (generatedWritten d v)
+  pub kept-generated : (v : ℕ) → Spares (generates (byMessages d)) d (generatedWritten d v)
   kept-generated v =
       kept-became (became-generatedWritten d v shaped) (generates (byMessages d)) (λ j n. refl) (λ j n. refl)
       (λ j n. refl) (λ j n. refl) (λ n. refl) (λ n. rw n)
 
   pub kept-target : (c : Bool) (i v : ℕ) → 1 ≤ i → i ≤ 63
-      → Untouched (sources none none (eqb i) none) d (targetWritten c d i v)
+      → Spares (sources none none (eqb i) none) d (targetWritten c d i v)
   kept-target c i v l h =
       kept-targets (eqb i) (λ j s. retargeted s c (byMessages d) v)
       (touched-targetWritten c d i v shaped l (omega arith)) (λ j s. retargeted-pending s c (byMessages d) v)
@@ -231,7 +231,7 @@ module _ (d : Domain) (shaped : DomainShaped d) where
     pub kept-structure : (t .idelivery h ≡ false → x .idelivery ≡ structureAt d h .idelivery)
         → (t .iforce h ≡ false → x .iforce ≡ structureAt d h .iforce)
         → (t .ithreshold h ≡ false → x .ithreshold ≡ structureAt d h .ithreshold)
-        → Untouched t d (withStructure d h x)
+        → Spares t d (withStructure d h x)
     kept-structure a b c =
         record {
           pending = λ i l u e. ap pendingOf (sourceAt-withStructure d h x i);

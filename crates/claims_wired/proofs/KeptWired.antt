@@ -46,7 +46,7 @@ use Rattle.wired_sourcecfg.specs.Delegation.{sourceModed, childWritten, rootWri
 use Rattle.wired_registers.specs.Wired.{claimedIn, partWritten, writtenAs, writtenIn}
 use Rattle.claims_wired.specs.Rules.{Long}
 use Rattle.claims_wired.specs.Kept.{Touch, none, sources, harts, whileDirect, writes, claims, reads}
-use Rattle.claims_wired.specs.Kept.{writesIn, readsIn, Untouched, Claim-155}
+use Rattle.claims_wired.specs.Kept.{writesIn, readsIn, Spares, Claim-155}
 use Rattle.claims_wired.proofs.Kept.{out, keep, pendingOf, enabledOf, targetOf, modeOf, kept-same}
 use Rattle.claims_wired.proofs.Kept.{kept-became, kept-pendings, kept-wholes, kept-pend, kept-clear}
 use Rattle.claims_wired.proofs.Kept.{kept-enable, kept-disable, kept-config, kept-generated}
@@ -61,13 +61,13 @@ module _ (d : Domain) (shaped : DomainShaped d) where
     own-hart f e = absurd (eqb-false h h (rw f at e) refl)
 
     kept-setting : (g : Setting) (t : Touch) (v : ℕ)
-        → (byMessages d ≡ false → Untouched t d (settingWritten d h g v))
-        → Untouched t d (settingWritten d h g v)
+        → (byMessages d ≡ false → Spares t d (settingWritten d h g v))
+        → Spares t d (settingWritten d h g v)
     kept-setting g t v on =
         tested (byMessages d) (λ m. rw (written-messages d h g v m) (kept-same t d)) on
 
     kept-idelivery : (v : ℕ)
-        → Untouched (harts (whileDirect d h) none none) d (settingWritten d h setting.Idelivery v)
+        → Spares (harts (whileDirect d h) none none) d (settingWritten d h setting.Idelivery v)
     unfolding writtenAt withIdelivery
     kept-idelivery v =
         kept-setting setting.Idelivery (harts (whileDirect d h) none none) v
@@ -76,7 +76,7 @@ module _ (d : Domain) (shaped : DomainShaped d) where
         (λ e. refl)))
 
     kept-iforce : (v : ℕ)
-        → Untouched (harts none (whileDirect d h) none) d (settingWritten d h setting.Iforce v)
+        → Spares (harts none (whileDirect d h) none) d (settingWritten d h setting.Iforce v)
     unfolding writtenAt withIforce
     kept-iforce v =
         kept-setting setting.Iforce (harts none (whileDirect d h) none) v
@@ -85,7 +85,7 @@ module _ (d : Domain) (shaped : DomainShaped d) where
         (λ e. refl)))
 
     kept-ithreshold : (v : ℕ)
-        → Untouched (harts none none (whileDirect d h)) d (settingWritten d h setting.Ithreshold v)
+        → Spares (harts none none (whileDirect d h)) d (settingWritten d h setting.Ithreshold v)
     unfolding writtenAt withIthreshold
     kept-ithreshold v =
         kept-setting setting.Ithreshold (harts none none (whileDirect d h)) v
@@ -96,7 +96,7 @@ module _ (d : Domain) (shaped : DomainShaped d) where
   -- ---- a write to any register but a sourcecfg
 
   kept-written : (c : Bool) (ws : List ℕ) (r : Word) → Within r → (v : ℕ)
-      → Untouched (writes d r v) d (registerWritten c d ws r v)
+      → Spares (writes d r v) d (registerWritten c d ws r v)
   unfolding writes registerWritten named
   kept-written c ws Domaincfg q v = kept-config d shaped ws v
   kept-written c ws (Sourcecfg i) q v = kept-same _ d
@@ -125,12 +125,12 @@ module _ (d : Domain) (shaped : DomainShaped d) where
 
   -- ---- a claim
 
-  kept-claimed : (h : ℕ) → Untouched (claims d h) d (hartClaimed d h)
+  kept-claimed : (h : ℕ) → Spares (claims d h) d (hartClaimed d h)
   kept-claimed h =
       tested (byMessages d) (λ m. rw (claimed-messages d h m) (kept-same (claims d h) d))
       (λ f. at f (ℕ-discrete (topSource d h) 0))
     where
-      at : byMessages d ≡ false → Dec (topSource d h ≡ 0) → Untouched (claims d h) d (hartClaimed d h)
+      at : byMessages d ≡ false → Dec (topSource d h ≡ 0) → Spares (claims d h) d (hartClaimed d h)
       at f (yes z) =
           unfold unforced withoutForce in
           rw (claimed-none d h f z, eq-eqb (topSource d h) 0 z)
@@ -148,7 +148,7 @@ module _ (d : Domain) (shaped : DomainShaped d) where
           (λ j e. keep targetOf (eqb (topSource d h) j) _ _ refl)
           (λ j e. keep modeOf (eqb (topSource d h) j) _ _ refl) (λ e. refl) (λ e. refl))
 
-  kept-read : (r : Word) → Untouched (reads d r) d (claimedBy d r)
+  kept-read : (r : Word) → Spares (reads d r) d (claimedBy d r)
   unfolding reads claimedBy claimedAs
   kept-read Domaincfg = kept-same _ d
   kept-read (Sourcecfg i) = kept-same _ d
@@ -176,7 +176,7 @@ module _ (d : Domain) (shaped : DomainShaped d) where
 -- source i replaced by what g makes of it
 module _ (d : Domain) (shaped : DomainShaped d) (i : ℕ) (l : 1 ≤ i) (h : i ≤ 63)
     (g : ℕ → Source → Source) where
-  kept-replaced : Untouched (sources (eqb i) (eqb i) (eqb i) (eqb i)) d (withSource d i (g i (sourceAt d i)))
+  kept-replaced : Spares (sources (eqb i) (eqb i) (eqb i) (eqb i)) d (withSource d i (g i (sourceAt d i)))
   kept-replaced = kept-wholes (eqb i) g (touched-withSource d i g shaped l (omega arith))
 
 module _ (w : Wired) (long : Long w) where
@@ -188,11 +188,11 @@ module _ (w : Wired) (long : Long w) where
   -- ---- a wire
 
   kept-wire : (i : ℕ) → 1 ≤ i → i ≤ 63 → (level e : Bool)
-      → Untouched (sources (eqb i) none none none) (domainIn w e) (domainIn (wireSet w i level) e)
+      → Spares (sources (eqb i) none none none) (domainIn w e) (domainIn (wireSet w i level) e)
   kept-wire i l h level e =
       let was = member (w .wires) i in
       let d = domainIn w e in
-      subst (Untouched (sources (eqb i) none none none) d) (sym (at e))
+      subst (Spares (sources (eqb i) none none none) d) (sym (at e))
       (kept-pendings (eqb i) (λ j s. wireChanged s (byMessages d) was level)
       (touched-withSource d i (λ j s. wireChanged s (byMessages d) was level) (shaped-in e) l (omega arith))
       (λ j s. unfold wireChanged settled in refl) (λ j s. unfold wireChanged settled in refl)
@@ -217,10 +217,10 @@ module _ (w : Wired) (long : Long w) where
   wires-with false d = refl
 
   abbrev Stays : Bool → Word → ℕ → Bool → Wired → Type 0
-  Stays c r v e w′ = Untouched (writesIn w c r v e) (domainIn w e) (domainIn w′ e) × (w′ .wires ≡ w .wires)
+  Stays c r v e w′ = Spares (writesIn w c r v e) (domainIn w e) (domainIn w′ e) × (w′ .wires ≡ w .wires)
 
   kept-part : (c : Bool) (r : Word) → Within r → (v : ℕ) (e : Bool)
-      → Untouched (writesIn w c r v e) (domainIn w e) (domainIn (partWritten w c r v) e)
+      → Spares (writesIn w c r v e) (domainIn w e) (domainIn (partWritten w c r v) e)
   unfolding writesIn domainIn withDomain
   kept-part true r q v true = kept-written (w .child) (long .2) true (w .wires) r q v
   kept-part true r q v false = kept-same _ (w .root)
@@ -232,7 +232,7 @@ module _ (w : Wired) (long : Long w) where
     modes d m j s = moded s (byMessages d) m (member (w .wires) i)
 
     kept-source : (c e : Bool)
-        → Untouched (writesIn w c (Sourcecfg i) v e) (domainIn w e) (domainIn (sourceWritten w c i v) e)
+        → Spares (writesIn w c (Sourcecfg i) v e) (domainIn w e) (domainIn (sourceWritten w c i v) e)
     unfolding writesIn writes domainIn sourceWritten childWritten rootWritten sourceModed modes
     kept-source true true = kept-replaced (w .child) (long .2) i l h (modes (w .child) _)
     kept-source true false = kept-same _ (w .root)
@@ -260,7 +260,7 @@ module _ (w : Wired) (long : Long w) where
           unfold writtenAs in
           let range = configures-range r q i p in (
             subst
-                (λ (x : Word). Untouched (writesIn w c x v e) (domainIn w e)
+                (λ (x : Word). Spares (writesIn w c x v e) (domainIn w e)
                 (domainIn (sourceWritten w c i v) e))
                 (sym (configures-only r i p)) (kept-source i (range .0) (range .1) v c e),
             wires-source i (range .0) (range .1) v c,
@@ -269,7 +269,7 @@ module _ (w : Wired) (long : Long w) where
       at Plain p = unfold writtenAs in part
 
   kept-claimedIn : (c : Bool) (r : Word) (e : Bool)
-      → Untouched (readsIn w c r e) (domainIn w e) (domainIn (claimedIn w c r) e)
+      → Spares (readsIn w c r e) (domainIn w e) (domainIn (claimedIn w c r) e)
   unfolding readsIn domainIn withDomain
   kept-claimedIn true r true = kept-read (w .child) (long .2) r
   kept-claimedIn true r false = kept-same _ (w .root)

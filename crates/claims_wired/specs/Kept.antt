@@ -11,7 +11,7 @@
 --   reads d r            a read of register r of d: what it may change in d
 --   writesIn w c r v e, readsIn w c r e
 --                        the same for register r of a domain, and what it may change in either domain e
---   Untouched t d d′     d′ has all of d that t does not name
+--   Spares t d d′        d′ has all of d that t does not name
 -- c and e say that a domain is the child; what becomes of a pending bit that is named, Claim-59 says.
 -- Premises: `Long w`, the lists have their lengths, as those of every block have; and of a wire or a register
 -- that is written, that it is there: the wire is 1 to 63, and `Within r`. No axioms.
@@ -118,6 +118,7 @@ inWord k v i = eqb (i / 32) k && hasBit v (i % 32)
 abbrev pub whileDirect : Domain → ℕ → ℕ → Bool
 whileDirect d h g = not (byMessages d) && eqb h g
 
+-- the four columns of sources: pending bits, enable bits, targets, sourcecfg words
 unfoldable pub writes : Domain → Word → ℕ → Touch
 writes d Domaincfg v = configures (not (Bool·beq (byMessages d) (hasBit v 2)))
 writes d (Sourcecfg i) v = sources (eqb i) (eqb i) (eqb i) (eqb i)
@@ -177,7 +178,7 @@ writesIn w c r v e =
 unfoldable pub readsIn : Wired → Bool → Word → Bool → Touch
 readsIn w c r e = cond (Bool·beq c e) (reads (domainIn w c) r) nothing
 
-pub record Untouched (t : Touch) (d d′ : Domain) : Type 0 where
+pub record Spares (t : Touch) (d d′ : Domain) : Type 0 where
   pub pending : (i : ℕ) → 1 ≤ i → i ≤ 63 → t .pending i ≡ false
       → sourceAt d′ i .pending ≡ sourceAt d i .pending
   pub enabled : (i : ℕ) → 1 ≤ i → i ≤ 63 → t .enabled i ≡ false
@@ -198,10 +199,10 @@ unfoldable pub Claim-155 : Type 0
 Claim-155 =
     (w : Wired) → Long w → (e : Bool) → let d = domainIn w e in
     ((i : ℕ) → 1 ≤ i → i ≤ 63 → (level : Bool)
-    → Untouched (sources (eqb i) none none none) d (domainIn (wireSet w i level) e)
+    → Spares (sources (eqb i) none none none) d (domainIn (wireSet w i level) e)
     × ((j : ℕ) → j ≢ i → member (wireSet w i level .wires) j ≡ member (w .wires) j))
     × ((c : Bool) (r : Word) → Within r → (v : ℕ)
-    → Untouched (writesIn w c r v e) d (domainIn (writtenIn w c r v) e)
+    → Spares (writesIn w c r v e) d (domainIn (writtenIn w c r v) e)
     × (writtenIn w c r v .wires ≡ w .wires))
     × ((c : Bool) (r : Word)
-    → Untouched (readsIn w c r e) d (domainIn (claimedIn w c r) e) × (claimedIn w c r .wires ≡ w .wires))
+    → Spares (readsIn w c r e) d (domainIn (claimedIn w c r) e) × (claimedIn w c r .wires ≡ w .wires))
