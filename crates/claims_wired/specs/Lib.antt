@@ -10,3 +10,5 @@ pub mod Operations
 pub mod Controller
 pub mod Modes
 pub mod Fields
+pub mod Region
+pub mod Registers

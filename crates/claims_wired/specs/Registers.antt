@@ -1,0 +1,54 @@
+-- Claims 132, 133 and 139, on what the registers of a domain read, bit by bit, and on the source modes. 01,
+-- "The wired controller".
+--   Bit v n b    bit n of v is 1 exactly if b
+-- Premises: 132 has none for the bits, and `WordsFit` (each word has 32 bits, as every word of a block has)
+-- where it says that a word has no others; 133 has `Sound w`, the state rules; 139 none. No axioms.
+use Prim.Native.Nat.{ℕ, _+_, _*_, _/_, _%_, _^_, _<_, _≤_}
+use mathlib.Core.Path.{_≡_}
+use mathlib.Core.Bool.{Bool, true, false, cond}
+use mathlib.Core.List.{List}
+use mathlib.Core.Logic.{_≢_, _↔_, _⊎_}
+use Rattle.words.specs.Sets.{member, WordsFit}
+use Rattle.source_mode.specs.Mode.{isActive, isLevel, isRectified}
+use Rattle.domain_region.specs.declared.Word.{Word}
+use Rattle.domain_region.specs.declared.Word.the-variants.{Domaincfg, Setip, InClrip, Setie}
+use Rattle.domain.specs.Domain.{Domain, isEnabled, byMessages}
+use Rattle.domain.specs.Slot.{sourceAt}
+use Rattle.domain_registers.specs.Read.{registerValue}
+use Rattle.wired_state.specs.Wires.{Wired, domainIn}
+use Rattle.wired_registers.specs.Wired.{readIn}
+use Rattle.claims_wired.specs.Rules.{Sound}
+
+abbrev pub Bit : ℕ → ℕ → Bool → Type 0
+Bit v n b = v / 2 ^ n % 2 ≡ cond b 1 0
+
+-- bit n of word k is source 32 k + n: setip reads its pending bit, setie its enable bit, and in_clrip the
+-- level of its wire if it is active, with no regard to what its mode makes of the wire; source 0 reads 0
+unfoldable pub Claim-132 : Type 0
+Claim-132 =
+    (d : Domain) (wires : List ℕ) (k : ℕ)
+    → let reads : Word → ℕ = registerValue d wires in
+    ((n : ℕ) → n < 32 → let i = 32 * k + n in let mode = sourceAt d i .mode in
+    Bit (reads (Setip k)) n (sourceAt d i .pending) × Bit (reads (Setie k)) n (sourceAt d i .enabled)
+    × ((reads (InClrip k) / 2 ^ n % 2 ≡ 1)
+    ↔ ((1 ≤ i) × (mode ≢ 0) × (mode < 1024) × (member wires i ≡ true))))
+    × (reads (InClrip k) < 2 ^ 32) × (WordsFit (d .pending) → reads (Setip k) < 2 ^ 32)
+    × (WordsFit (d .enable) → reads (Setie k) < 2 ^ 32)
+
+-- domaincfg: 0x80 in bits 31:24, IE in bit 8, DM in bit 2, and 0 in every other bit, BE in bit 0 among them
+unfoldable pub Claim-133 : Type 0
+Claim-133 =
+    (w : Wired) → Sound w → (c : Bool)
+    → let word = readIn w c Domaincfg in let d = domainIn w c in
+    (word ≡ 0x80000000 + cond (isEnabled d) 256 0 + cond (byMessages d) 4 0)
+    × (word / 2 ^ 24 ≡ 0x80) × Bit word 8 (isEnabled d) × Bit word 2 (byMessages d) × (word % 2 ≡ 0)
+
+-- the modes: 0 is inactive and 1024 delegated; 6 and 7 are the level modes; the rectified value is the wire
+-- for 4 (Edge1) and 6 (Level1), its opposite for 5 (Edge0) and 7 (Level0), and low for every other
+unfoldable pub Claim-139 : Type 0
+Claim-139 =
+    (m : ℕ)
+    → ((isActive m ≡ true) ↔ ((m ≢ 0) × (m < 1024))) × ((isLevel m ≡ true) ↔ ((m ≡ 6) ⊎ (m ≡ 7)))
+    × ((wire : Bool)
+    → (isRectified m wire ≡ true)
+    ↔ ((((m ≡ 4) ⊎ (m ≡ 6)) × (wire ≡ true)) ⊎ (((m ≡ 5) ⊎ (m ≡ 7)) × (wire ≡ false))))
