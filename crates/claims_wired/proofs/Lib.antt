@@ -14,3 +14,5 @@ pub mod Modes
 pub mod Fields
 pub mod Region
 pub mod Registers
+pub mod Enables
+pub mod Settings

@@ -92,12 +92,12 @@ module _ (d : Domain) (ws : List ℕ) (k : ℕ) where
       let active = isActive (sourceAt d i .mode) in
       let there = leb 1 i && active in (
         λ e. let has = and-first there _ e in
-        let both = active-iff (sourceAt d i .mode) .0 (and-second (leb 1 i) active has) in (
-          leb-true 1 i (and-first (leb 1 i) active has),
-          both .0,
-          both .1,
-          and-second there (member ws i) e,
-        ),
+            let both = active-iff (sourceAt d i .mode) .0 (and-second (leb 1 i) active has) in (
+              leb-true 1 i (and-first (leb 1 i) active has),
+              both .0,
+              both .1,
+              and-second there (member ws i) e,
+            ),
         λ p. rw (le-leb 1 i (p .0), active-iff (sourceAt d i .mode) .1 (p .1, p .2)) (p .3),
       )
 
