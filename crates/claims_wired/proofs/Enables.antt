@@ -92,7 +92,9 @@ claim-134 c d wires v shaped = (
     enables-written false (named k v) (NamedIn k v) (word-iff k v) d _
         (touched-wordChanged d wires Disable v shaped k h),
   ),
-  enables-written true (eqb v) (λ j. j ≡ v) (number-iff v) d _ (touched-numberChanged d wires Enable v shaped),
-  enables-written false (eqb v) (λ j. j ≡ v) (number-iff v) d _ (touched-numberChanged d wires Disable v shaped),
+  enables-written true (eqb v) (λ j. j ≡ v) (number-iff v) d _
+      (touched-numberChanged d wires Enable v shaped),
+  enables-written false (eqb v) (λ j. j ≡ v) (number-iff v) d _
+      (touched-numberChanged d wires Disable v shaped),
   λ none. (number-none d wires Enable v none, number-none d wires Disable v none),
 )

@@ -14,3 +14,4 @@ pub mod Region
 pub mod Registers
 pub mod Enables
 pub mod Settings
+pub mod Sourcecfg

@@ -1,9 +1,9 @@
 -- Claims 135 and 136, on the settable numbers of the delivery structures and on genmsi: what a write stores,
 -- what is read, and that the rest stays. 01, "Direct delivery and signals", "The wired controller".
---   NumbersAre d d′ wires h a b t    d′ has idelivery a, iforce b and ithreshold t for hart h, stored and read,
---                                    and everything else as d has it
---   Became d d′ w g f                d′ has domaincfg w and genmsi g, each source j of 1 to 63 as f j makes it
---                                    from that of d, and the rest as d has it
+--   NumbersAre d d′ wires h a b t    d′ has idelivery a, iforce b and ithreshold t for hart h, stored and
+--                                    read, and everything else as d has it
+--   Became d d′ w g f                d′ has domaincfg w and genmsi g, each source j of 1 to 63 as f j makes
+--                                    it from that of d, and the rest as d has it
 -- c says that a domain is the child.
 -- Premises: `DomainShaped d`, the lists of d have their lengths, as those of 144 words have; for the Busy bit
 -- of whatever is stored `Sound w`, the state rules. No axioms.
@@ -35,8 +35,8 @@ pub record NumbersAre (d d′ : Domain) (wires : List ℕ) (h a b t : ℕ) : Typ
   pub generated : generatedAt d′ ≡ generatedAt d
   pub sources : (i : ℕ) → sourceAt d′ i ≡ sourceAt d i
 
--- in direct mode idelivery and iforce store 0 and 1 and keep the old value otherwise, and ithreshold keeps the
--- low 8 bits; by messages all three read 0, ignore writes, and so keep what is stored
+-- in direct mode idelivery and iforce store 0 and 1 and keep the old value otherwise, and ithreshold keeps
+-- the low 8 bits; by messages all three read 0, ignore writes, and so keep what is stored
 unfoldable pub Claim-135 : Type 0
 Claim-135 =
     (c : Bool) (d : Domain) (wires : List ℕ) (h v : ℕ) → DomainShaped d → h < 4
@@ -53,8 +53,8 @@ Claim-135 =
     → (reads (Idelivery h) ≡ 0) × (reads (Iforce h) ≡ 0) × (reads (Ithreshold h) ≡ 0)
     × (written (Idelivery h) ≡ d) × (written (Iforce h) ≡ d) × (written (Ithreshold h) ≡ d))
 
--- genmsi: by messages a write keeps the hart, bits 19:18, and the identity, bits 7:0, which are read again, and
--- changes nothing else; in direct mode it reads 0 and ignores writes; Busy, bit 12, always reads 0
+-- genmsi: by messages a write keeps the hart, bits 19:18, and the identity, bits 7:0, which are read again,
+-- and changes nothing else; in direct mode it reads 0 and ignores writes; Busy, bit 12, always reads 0
 unfoldable pub Claim-136 : Type 0
 Claim-136 =
     ((c : Bool) (d : Domain) (wires : List ℕ) (v : ℕ) → DomainShaped d
