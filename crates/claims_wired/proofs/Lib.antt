@@ -17,3 +17,4 @@ pub mod Registers
 pub mod Enables
 pub mod Settings
 pub mod Sourcecfg
+pub mod Accesses

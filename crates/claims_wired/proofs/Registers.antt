@@ -42,7 +42,7 @@ module _ (w n : ℕ) where
   bit-one = (eq-eqb (w / 2 ^ n % 2) 1, eqb-true (w / 2 ^ n % 2) 1)
 
 -- a number of a set is a bit of one of its words
-member-at : (ws : List ℕ) (k n : ℕ) → n < 32 → hasBit (getD ws k 0) n ≡ member ws (32 * k + n)
+pub member-at : (ws : List ℕ) (k n : ℕ) → n < 32 → hasBit (getD ws k 0) n ≡ member ws (32 * k + n)
 unfolding member
 member-at ws k n h =
     let word : (32 * k + n) / 32 ≡ k = omega arith in

@@ -66,7 +66,8 @@ module _ (d : Domain) (i : ℕ) where
       }
 
   -- the word of a source that was written
-  stored-word : DomainShaped d → i < 64 → (m : ℕ) (wire : Bool) → sourceAt (sourceModed d i m wire) i .mode ≡ m
+  stored-word : DomainShaped d → i < 64 → (m : ℕ) (wire : Bool)
+      → sourceAt (sourceModed d i m wire) i .mode ≡ m
   unfolding sourceModed Claim-94
   stored-word shaped h m wire =
       ap (λ (s : Source). s .mode) (sourceAt-withSource-same d i _ shaped h)

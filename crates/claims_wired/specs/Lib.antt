@@ -15,3 +15,4 @@ pub mod Registers
 pub mod Enables
 pub mod Settings
 pub mod Sourcecfg
+pub mod Accesses
