@@ -1,4 +1,5 @@
--- Claims 135 and 136, from the laws of direct delivery, of genmsi and of replaced parts. Assumes nothing.
+-- Claims 135, 136 and 142, from the laws of direct delivery, of genmsi and of replaced parts. Assumes
+-- nothing.
 use Prim.Native.Nat.{ℕ, _+_, _*_, _/_, _%_, _^_, _≤_, _<_}
 use mathlib.Core.Path.{_≡_, refl, sym, ap, _∙_}
 use mathlib.Core.Bool.{Bool, true, false}
@@ -9,7 +10,7 @@ use Rattle.words.proofs.TestsLaws.{tested}
 use Rattle.source_target.specs.Target.{hartOf, numberOf}
 use Rattle.source_target.proofs.TargetLaws.{numberOf-lt}
 use Rattle.domain_delivery.specs.declared.Delivery.{Delivery}
-use Rattle.domain_delivery.specs.Delivery.{withIdelivery, withIforce, withIthreshold}
+use Rattle.domain_delivery.specs.Delivery.{withIdelivery, withIforce, withIthreshold, withoutForce}
 use Rattle.domain_delivery.proofs.DeliveryLaws.{switch-new, switch-kept}
 use Rattle.domain.specs.Domain.{Domain, configOf, byMessages, generatedAt, withGenerated}
 use Rattle.domain.specs.Structure.{structureAt, withStructure}
@@ -27,10 +28,11 @@ use Rattle.domain_direct.specs.declared.Setting.the-variants.{Idelivery, Iforce
 use Rattle.domain_direct.specs.Direct.{numberAt, writtenAt, settingWritten}
 use Rattle.domain_direct.proofs.DirectLaws.{setting-messages, setting-direct, written-messages}
 use Rattle.domain_direct.proofs.DirectLaws.{written-direct}
+use Rattle.domain_direct_laws.proofs.ClaimEffects.{claim-zero}
 use Rattle.domain_registers.specs.Read.{registerValue}
 use Rattle.domain_registers.specs.Write.{registerWritten}
 use Rattle.wired_state.specs.Wires.{domainIn}
-use Rattle.claims_wired.specs.Settings.{NumbersAre, Claim-135, Claim-136}
+use Rattle.claims_wired.specs.Settings.{NumbersAre, Claim-135, Claim-136, Claim-142}
 use Rattle.claims_wired.proofs.SourceRules.{generated-is}
 use Rattle.claims_wired.proofs.Registers.{rules-in}
 
@@ -119,6 +121,12 @@ claim-135 c d wires h v shaped l = (
     written-messages d h Ithreshold v m,
   ),
 )
+
+pub claim-142 : Claim-142
+unfolding Claim-142 withoutForce
+claim-142 d wires h shaped l direct none =
+    rw (claim-zero d h direct none)
+    (numbers-put d wires h shaped l direct (withoutForce (structureAt d h)))
 
 -- ---- genmsi
 

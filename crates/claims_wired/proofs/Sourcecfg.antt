@@ -56,7 +56,7 @@ module _ (d : Domain) (i : ℕ) where
   alone-none =
       record { others = λ j n. refl; config = refl; generated = refl; structures = λ h. refl }
 
-  alone-put : 1 ≤ i → (s : Source) → SourceAlone i d (withSource d i s)
+  pub alone-put : 1 ≤ i → (s : Source) → SourceAlone i d (withSource d i s)
   alone-put l s =
       record {
         others = sourceAt-withSource-other d i s;

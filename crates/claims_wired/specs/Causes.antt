@@ -1,11 +1,12 @@
 -- Claims 40 to 42, the table of causes: what sets, clears or keeps the pending bit of a source, for each
 -- source mode and each delivery mode. Its rows are the sentences of the standard's 4.7. 01, "The wired
--- controller". Claim-59 says which operation each cause is. Assumes nothing.
+-- controller". Claim-59 says which operation each cause is.
 --   Cause          the wire goes from one level to another; a write of the setip family, with the wire at a
 --                  level; a write of the in_clrip family; a claim; the message is sent
 --   Effect         what becomes of the bit
 --   Row            some source modes, some delivery modes and some causes that have one effect
 --   happens s m k  source s after the cause k, in the delivery mode m: true by messages, false direct
+-- Premises: none. No axioms.
 use Prim.Native.Nat.{ℕ, _+_}
 use mathlib.Core.Path.{_≡_}
 use mathlib.Core.Bool.{Bool, true, false, Bool·beq, cond, _&&_}

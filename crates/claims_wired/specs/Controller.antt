@@ -1,6 +1,7 @@
 -- Claims 76 to 79, on the calls of the wired controller with what they send: what each leaves, which messages
 -- it sends, that the log has room for them, and that the state rules hold again. 01, "The wired controller".
--- Assumes nothing.
+-- Premises: 76 has none but what the contracts let a caller learn; 77 to 79 have `Sound w`, the state rules,
+-- with wires 1 to 63 and registers whose numbers are in their ranges (`Within`). No axioms.
 use Prim.Native.Nat.{ℕ, _≤_, _<_}
 use mathlib.Core.Path.{_≡_}
 use mathlib.Core.Bool.{Bool, true, false}

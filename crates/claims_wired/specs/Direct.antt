@@ -1,7 +1,9 @@
 -- Claims 43 to 49, on direct delivery: topi, claimi and the signal to a hart. 01, "Direct delivery and
 -- signals"; the standard 4.8. `eligible d h i`: source i is pending and enabled, for hart h, and passes its
 -- ithreshold.
--- Assumes nothing.
+-- Premises: 43, 44, 46 and 49 have direct mode, 45 message mode; 44 and 49 have that a source qualifies, 46
+-- that none does; 49 has `DomainShaped d`, the lists of d have their lengths, as those of 144 words have; 47
+-- and 48 have none. No axioms.
 use Prim.Native.Nat.{ℕ, _+_, _*_, _≤_, _<_}
 use mathlib.Core.Path.{_≡_}
 use mathlib.Core.Bool.{true, false}

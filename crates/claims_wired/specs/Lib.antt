@@ -1,4 +1,5 @@
--- The claims on the wired controller, by topic: each a statement written out in full. Assumes nothing.
+-- The claims on the wired controller, by topic: each a statement written out in full. Premises: each file's
+-- header names its own. No axioms.
 pub mod Causes
 pub mod Sending
 pub mod WiredCalls
@@ -16,3 +17,4 @@ pub mod Enables
 pub mod Settings
 pub mod Sourcecfg
 pub mod Accesses
+pub mod Wires

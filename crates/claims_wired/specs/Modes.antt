@@ -1,6 +1,9 @@
 -- Claims 94 and 95, on a write to sourcecfg: what becomes of the source, and of the child's where the
--- delegation changes. 01, "The wired controller"; the standard 4.5.2, 4.7. Assumes nothing.
+-- delegation changes. 01, "The wired controller"; the standard 4.5.2, 4.7. What number is stored, Claim-137
+-- says.
 --   Remoded m wire s v s′   s′ is s after its sourcecfg word became v; m: the delivery mode, true by messages
+-- Premises: 94 has none; 95 has that the lists of the child have their lengths (`DomainShaped`), and i < 64.
+-- No axioms.
 use Prim.Native.Nat.{ℕ, _<_}
 use mathlib.Core.Path.{_≡_}
 use mathlib.Core.Bool.{Bool, true, false, cond, not, _&&_, _||_}

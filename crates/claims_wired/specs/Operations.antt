@@ -1,6 +1,8 @@
 -- Claim-59: the causes of Claim-40 are what the registers, the wires and the messages do. 01, "The wired
--- controller"; the standard 4.7. Assumes nothing.
+-- controller"; the standard 4.7.
 --   Does d d′ i k    what becomes of source i from d to d′ is what the cause k does
+-- Premises: sources 1 to 63 of a domain or a controller whose lists have their lengths (`DomainShaped d`,
+-- `Long w`), as those of a block have. No axioms.
 use Prim.Native.Nat.{ℕ, _/_, _%_, _≤_, _<_}
 use mathlib.Core.Path.{_≡_}
 use mathlib.Core.Bool.{Bool, true, false, _&&_}

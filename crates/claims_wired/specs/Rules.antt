@@ -1,11 +1,13 @@
 -- Claims 72 to 75, on the state rules of the wired controller: the test, what it tests in the words of the
--- paper, and that every operation keeps them. 01, "State rules". Assumes nothing.
+-- paper, and that every operation keeps them. 01, "State rules".
 --   Long w                      the lists of w have their lengths, as those of 290 words have
 --   Sound w                     they have, and w passes the test
 --   ModeStored, TargetStored    a number that a write of a sourcecfg or a target stores
 --   SourceRules, DomainRules, WiredRules
 --                               the rules in plain statements
 -- c says that a domain is the child; m is its delivery mode, true by messages; sends: it has IE and DM.
+-- Premises: 72 has none but the length of the words; 73 has `Long w`; 74 and 75 have `Sound w`, with sources
+-- 1 to 63 and registers whose numbers are in their ranges (`Within`). No axioms.
 use Prim.Native.Nat.{ℕ, _+_, _*_, _^_, _≤_, _<_}
 use mathlib.Core.Path.{_≡_}
 use mathlib.Core.Bool.{Bool, true, false, cond, _&&_}

@@ -1,6 +1,7 @@
 -- Claims 50 to 54, on what a domain sends: which messages, in which order, and what is left. 01, "The wired
 -- controller": each domain with DM = 1 and IE = 1 sends for each source that is active, pending and enabled,
--- lowest source first, and clears its pending bit. c says that the domain is the child. Assumes nothing.
+-- lowest source first, and clears its pending bit. c says that the domain is the child.
+-- Premises: none but IE and DM, as each line says. No axioms.
 use Prim.Native.Nat.{ℕ, _+_, _*_, _≤_, _<_}
 use mathlib.Core.Path.{_≡_}
 use mathlib.Core.Bool.{Bool, true, false, cond, not, _&&_}

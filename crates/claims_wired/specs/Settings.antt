@@ -1,5 +1,6 @@
--- Claims 135 and 136, on the settable numbers of the delivery structures and on genmsi: what a write stores,
--- what is read, and that the rest stays. 01, "Direct delivery and signals", "The wired controller".
+-- Claims 135, 136 and 142, on the settable numbers of the delivery structures and on genmsi: what a write
+-- or a claim stores, what is read, and that the rest stays. 01, "Direct delivery and signals", "The wired
+-- controller".
 --   NumbersAre d d′ wires h a b t    d′ has idelivery a, iforce b and ithreshold t for hart h, stored and
 --                                    read, and everything else as d has it
 --   Became d d′ w g f                d′ has domaincfg w and genmsi g, each source j of 1 to 63 as f j makes
@@ -19,6 +20,7 @@ use Rattle.domain.specs.Slot.{sourceAt}
 use Rattle.domain.specs.Structure.{structureAt}
 use Rattle.domain_laws.specs.Shape.{DomainShaped}
 use Rattle.domain_laws.specs.Became.{Became}
+use Rattle.domain_direct.specs.Direct.{topiOf, hartClaimed}
 use Rattle.domain_registers.specs.Read.{registerValue}
 use Rattle.domain_registers.specs.Write.{registerWritten}
 use Rattle.wired_state.specs.Wires.{Wired}
@@ -63,3 +65,10 @@ Claim-136 =
     → Became d after (configOf d) word (λ j s. s) × (registerValue after wires Genmsi ≡ word))
     × (byMessages d ≡ false → (after ≡ d) × (registerValue d wires Genmsi ≡ 0)))
     × ((w : Wired) → Sound w → (c : Bool) → readIn w c Genmsi / 2 ^ 12 % 2 ≡ 0)
+
+-- a claimi of 0 in direct mode clears iforce, and that alone: Claim-46 in plain numbers
+unfoldable pub Claim-142 : Type 0
+Claim-142 =
+    (d : Domain) (wires : List ℕ) (h : ℕ) → DomainShaped d → h < 4 → byMessages d ≡ false → topiOf d h ≡ 0
+    → let x = structureAt d h in
+    NumbersAre d (hartClaimed d h) wires h (x .idelivery) 0 (x .ithreshold)

@@ -1,7 +1,10 @@
--- Claims 60 to 71, on the calls of one domain: whatever a contract lets a function answer and leave behind is
--- what the definitions say and nothing else. `Learnt l a r a′` is what a caller learns of a call with the
--- arguments a that answered r and left a′. 01, "The wired controller", "Direct delivery and signals".
--- Assumes nothing.
+-- Claims 60 to 71, on the functions that the calls are made of: those on one domain, on both domains, and on
+-- the files that messages reach. What they fix: whatever the contract of a function lets it answer and leave
+-- is what the definition says, and nothing else. That the code meets its contract is not said here: the check
+-- of each crate proves it. `Learnt l a r a′` is what its contract lets a caller learn of a function that was
+-- given a, answered r and left a′. 01, "The wired controller", "Direct delivery and signals".
+-- Premises: none but what is learnt; 66, 67 and the words of 65 have the lengths of the blocks, 144, 290 and
+-- 360 words. No axioms.
 use Prim.Native.Nat.{ℕ}
 use mathlib.Core.Path.{_≡_}
 use mathlib.Core.Bool.{Bool}
@@ -46,7 +49,7 @@ Claim-61 =
     → (r ≡ registerValue (domainOf (now b)) ws w) × (domainOf (now b′) ≡ claimedBy (domainOf (now b)) w)
 
 -- a write to a register that concerns its domain alone, before anything is sent; a sourcecfg is left as it is
--- here, for it is written by the call of Claim-69
+-- here, for it is written by the function of Claim-69
 unfoldable pub Claim-62 : Type 0
 Claim-62 =
     (l : Lfts 1) (b b′ : RefT (List ℕ)) (c : Bool) (ws : List ℕ) (w : Word) (v : ℕ)

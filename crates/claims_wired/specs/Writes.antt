@@ -1,11 +1,14 @@
 -- Claims 55 to 58, on what a write leaves, before anything is sent: which sources it changes, and that the
--- rest stays. 01, "The wired controller". Assumes nothing.
+-- rest stays. 01, "The wired controller".
 --   Became d d′ w g f    d′ has domaincfg w and genmsi g, each source j of 1 to 63 as f j makes it from that
 --                        of d, and the rest as d has it
 --   Touched d d′ f       the same where domaincfg and genmsi stay too
 --   Restarted m x s s′   s′ is what a change of DM to m makes of source s; x is its wire
 --   TargetKept c m v t   t is what a write of v to a target stores
 -- c says that a domain is the child; m is its delivery mode, true by messages.
+-- Premises: 55, 56 and 58 have `DomainShaped d`, the lists of d have their lengths, as those of 144 words
+-- have; 57 has `Sound w`, the state rules; what 56 says of one source, and 58 of one target, has none. No
+-- axioms.
 use Prim.Native.Nat.{ℕ, _+_, _/_, _%_, _^_, _≤_, _<_}
 use mathlib.Core.Path.{_≡_}
 use mathlib.Core.Bool.{Bool, true, false, cond, _&&_}
