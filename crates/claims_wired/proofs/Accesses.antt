@@ -1,6 +1,6 @@
 -- Claims 138 and 140, from claims 56, 131, 135 to 137 and the laws of writes and claims. Assumes nothing.
 use Prim.Native.Nat.{ℕ, zero, suc, _+_, _*_, _/_, _%_, _^_, _≤_, _<_}
-use mathlib.Core.Path.{_≡_, refl, sym, ap, subst, _∙_}
+use mathlib.Core.Path.{_≡_, refl, sym, ap, _∙_}
 use mathlib.Core.Bool.{Bool, true, false, cond, not, _&&_, _||_, or-true, or-false, true≢false}
 use mathlib.Core.Bool.{false≢true}
 use mathlib.Core.List.{List}
@@ -8,7 +8,7 @@ use mathlib.Core.Logic.{_≢_}
 use native.Mathlib.Omega.{arith}
 use lib.Dec.{eqb, leb}
 use borrow.Author.Tests.{eq-eqb, leb-true}
-use Rattle.words.specs.Bits.{hasBit, putBit}
+use Rattle.words.specs.Bits.{hasBit}
 use Rattle.words.specs.Sets.{member}
 use Rattle.words.proofs.TestsLaws.{tested}
 use Rattle.words.specs.Parts.{fieldOf, packed}
@@ -18,7 +18,7 @@ use Rattle.domain_region.specs.declared.Word.{Word}
 use Rattle.domain_region.specs.declared.Word.the-variants.{Domaincfg, Sourcecfg, Setip, InClrip, Setie}
 use Rattle.domain_region.specs.declared.Word.the-variants.{Genmsi, Target, Idelivery, Iforce, Ithreshold}
 use Rattle.domain_region.specs.declared.Word.the-variants.{Clrie, Topi, Claimi}
-use Rattle.domain_region.specs.declared.role.Role.the-variants.{Claims, Configures}
+use Rattle.domain_region.specs.declared.role.Role.the-variants.{Claims}
 use Rattle.domain_region.specs.Role.{roleOf}
 use Rattle.domain_region.proofs.RoleLaws.{claims-only}
 use Rattle.source.specs.declared.Source.{Source}
@@ -31,15 +31,15 @@ use Rattle.domain.specs.Slot.{sourceAt}
 use Rattle.domain.specs.Structure.{structureAt}
 use Rattle.domain_laws.specs.Shape.{DomainShaped}
 use Rattle.domain_config.specs.Config.{keptConfig}
-use Rattle.domain_writes.specs.Writes.{wordChanged, targetWritten}
+use Rattle.domain_writes.specs.Writes.{wordChanged}
 use Rattle.domain_writes_laws.specs.Named.{named}
 use Rattle.domain_writes_laws.proofs.ConfigEffects.{became-configWritten}
 use Rattle.domain_writes_laws.proofs.WritesEffects.{touched-wordChanged, sourceAt-targetWritten-same}
 use Rattle.domain_inputs.specs.Inputs.{inputBit, inputsTo, inputWord}
 use Rattle.domain_direct.specs.declared.Setting.the-variants as setting
-use Rattle.domain_direct.specs.Direct.{numberAt, hartClaimed}
+use Rattle.domain_direct.specs.Direct.{numberAt}
 use Rattle.domain_direct.proofs.DirectLaws.{setting-direct}
-use Rattle.domain_registers.specs.Read.{registerValue, claimedBy}
+use Rattle.domain_registers.specs.Read.{registerValue}
 use Rattle.domain_registers.specs.Write.{registerWritten}
 use Rattle.domain_registers.proofs.ReadLaws.{claimed-by, claimed-none}
 use Rattle.wired_state.specs.Wires.{Wired, domainIn, withDomain}
@@ -48,7 +48,7 @@ use Rattle.claims_wired.specs.Rules.{Long, Sound}
 use Rattle.claims_wired.specs.Registers.{Bit, Claim-132}
 use Rattle.claims_wired.specs.Settings.{Claim-135, Claim-136}
 use Rattle.claims_wired.specs.Sourcecfg.{ModeOf, Claim-137}
-use Rattle.claims_wired.specs.Accesses.{readBack, setsPending, ReadsBack, Claim-138}
+use Rattle.claims_wired.specs.Accesses.{readBack, setsPending, Claim-138}
 use Rattle.claims_wired.specs.Accesses.{Claim-140}
 use Rattle.claims_wired.proofs.Registers.{rules-in, claim-132}
 use Rattle.claims_wired.proofs.Settings.{claim-135, claim-136}

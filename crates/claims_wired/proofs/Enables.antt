@@ -1,24 +1,20 @@
 -- Claim-134, from what a write does to each source of its domain. Assumes nothing.
-use Prim.Native.Nat.{ℕ, _/_, _%_, _^_, _≤_, _<_}
-use mathlib.Core.Path.{_≡_, refl, sym, ap, _∙_}
-use mathlib.Core.Bool.{Bool, true, false, cond, _&&_, and-false}
+use Prim.Native.Nat.{ℕ, _/_, _%_, _<_}
+use mathlib.Core.Path.{_≡_, refl, sym}
+use mathlib.Core.Bool.{Bool, true, false, cond, and-false}
 use mathlib.Core.List.{List}
 use mathlib.Core.Logic.{_⊎_, _↔_, ⊎-elim}
 use native.Mathlib.Omega.{arith}
-use lib.Dec.{eqb, leb}
+use lib.Dec.{eqb}
 use borrow.Author.Tests.{eqb-true, eq-eqb, lt-leb}
-use Rattle.words.specs.Bits.{hasBit}
-use Rattle.words.specs.Sets.{member}
-use Rattle.words.proofs.TestsLaws.{tested, and-first, and-second, and-both, not-same}
+use Rattle.words.proofs.TestsLaws.{tested, and-first, and-second, and-both}
 use Rattle.source_mode.specs.Mode.{isActive}
-use Rattle.domain_region.specs.declared.Word.{Word}
 use Rattle.source.specs.declared.Source.{Source}
 use Rattle.source.specs.declared.Change.{Change}
 use Rattle.source.specs.declared.Change.the-variants.{Enable, Disable}
 use Rattle.source.specs.Pending.{switched, changed}
 use Rattle.domain.specs.Domain.{Domain}
 use Rattle.domain.specs.Slot.{sourceAt}
-use Rattle.domain_laws.specs.Shape.{DomainShaped}
 use Rattle.domain_laws.specs.Became.{Touched}
 use Rattle.domain_writes.specs.Writes.{numberChanged}
 use Rattle.domain_writes_laws.specs.Named.{named}

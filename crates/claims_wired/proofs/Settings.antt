@@ -1,8 +1,8 @@
 -- Claims 135, 136 and 142, from the laws of direct delivery, of genmsi and of replaced parts. Assumes
 -- nothing.
 use Prim.Native.Nat.{ℕ, _+_, _*_, _/_, _%_, _^_, _≤_, _<_}
-use mathlib.Core.Path.{_≡_, refl, sym, ap, _∙_}
-use mathlib.Core.Bool.{Bool, true, false}
+use mathlib.Core.Path.{_≡_, refl, ap, _∙_}
+use mathlib.Core.Bool.{false}
 use mathlib.Core.List.{List}
 use native.Mathlib.Omega.{arith}
 use Rattle.words.specs.Parts.{fieldOf}
@@ -12,7 +12,7 @@ use Rattle.source_target.proofs.TargetLaws.{numberOf-lt}
 use Rattle.domain_delivery.specs.declared.Delivery.{Delivery}
 use Rattle.domain_delivery.specs.Delivery.{withIdelivery, withIforce, withIthreshold, withoutForce}
 use Rattle.domain_delivery.proofs.DeliveryLaws.{switch-new, switch-kept}
-use Rattle.domain.specs.Domain.{Domain, configOf, byMessages, generatedAt, withGenerated}
+use Rattle.domain.specs.Domain.{Domain, byMessages, generatedAt}
 use Rattle.domain.specs.Structure.{structureAt, withStructure}
 use Rattle.domain_laws.specs.Shape.{DomainShaped}
 use Rattle.domain_laws.proofs.BecameEffects.{became-withGenerated}

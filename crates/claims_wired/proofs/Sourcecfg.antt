@@ -9,12 +9,12 @@ use borrow.Author.Tests.{lt-leb, le-leb}
 use Rattle.words.specs.Bits.{hasBit}
 use Rattle.words.specs.Parts.{fieldOf}
 use Rattle.words.specs.Sets.{member}
-use Rattle.words.proofs.TestsLaws.{tested, not-same}
+use Rattle.words.proofs.TestsLaws.{tested}
 use Rattle.source_mode.specs.Mode.{keptMode, sourceWord}
 use Rattle.source_mode.proofs.ModeLaws.{kept-reserved, kept-other, word-child-bit, word-child-has}
 use Rattle.source_mode.proofs.ModeLaws.{word-child-not, word-delegated, word-machine}
 use Rattle.source.specs.declared.Source.{Source}
-use Rattle.source.specs.Pending.{moded, inactive}
+use Rattle.source.specs.Pending.{inactive}
 use Rattle.domain.specs.Domain.{Domain, byMessages}
 use Rattle.domain.specs.Slot.{sourceAt, withSource}
 use Rattle.domain_laws.specs.Shape.{DomainShaped}
@@ -31,7 +31,7 @@ use Rattle.claims_wired.specs.Modes.{Claim-94}
 use Rattle.claims_wired.specs.Sourcecfg.{ModeOf, SourceAlone, WrittenInMachine, WrittenInChild}
 use Rattle.claims_wired.specs.Sourcecfg.{Claim-137}
 use Rattle.claims_wired.proofs.Modes.{claim-94}
-use Rattle.claims_wired.proofs.Registers.{bit-of, bit-one, rules-in}
+use Rattle.claims_wired.proofs.Registers.{bit-one, rules-in}
 use Rattle.claims_wired.proofs.Writes.{word-written}
 
 -- ---- the number

@@ -1,5 +1,5 @@
 -- Claim-141, from the laws of sets and of replaced sources. Assumes nothing.
-use Prim.Native.Nat.{ℕ, _/_, _<_}
+use Prim.Native.Nat.{_/_, _<_}
 use native.Mathlib.Omega.{arith}
 use lib.ListN.{length}
 use Rattle.words.proofs.SetsLaws.{member-put-same, member-put-other}

@@ -18,3 +18,4 @@ pub mod Settings
 pub mod Sourcecfg
 pub mod Accesses
 pub mod Wires
+pub mod Effects
