@@ -95,13 +95,14 @@ pub record ReadsBack (w : Wired) (c : Bool) (v : ℕ) : Type 0 where
   pub claimi : (h : ℕ) → h < 4 → readBack w c v (Claimi h) ≡ readIn w c (Claimi h)
   pub unused : readBack w c v Unused ≡ 0
 
+-- what every register reads where v was just written to it, before anything is sent
 unfoldable pub Claim-138 : Type 0
 Claim-138 = (w : Wired) → Sound w → (c : Bool) (v : ℕ) → ReadsBack w c v
 
 -- ---- what a read leaves
 
--- the controller as it was, if the register is no claimi; a claimi leaves its domain as a claim leaves it,
--- and the rest as it was
+-- a read leaves the controller as it was, if the register is no claimi; a claimi leaves its domain as a
+-- claim leaves it, and the rest as it was
 unfoldable pub Claim-140 : Type 0
 Claim-140 =
     ((d : Domain) (r : Word) → ((h : ℕ) → r ≢ Claimi h) → claimedBy d r ≡ d)

@@ -120,6 +120,8 @@ rowHolds r =
     Bool·beq (happens (sourceOf mode p e) m k .pending) (bitAfter (r .effect) p)) both) both)
     (r .causes)) (r .deliveries)) (r .modes)
 
+-- the table holds: each mode, delivery mode and cause of a row has the row's effect on the pending bit,
+-- whatever the bits were
 unfoldable pub Claim-40 : Type 0
 Claim-40 = every rowHolds table ≡ true
 
@@ -162,6 +164,7 @@ rowsOf mode m k =
     count (λ r. eqb (count (eqb mode) (r .modes)) 1 && eqb (count (Bool·beq m) (r .deliveries)) 1
     && eqb (count (sameCause k) (r .causes)) 1) table
 
+-- nothing is left out of the table: each active mode, delivery mode and cause has one row and no more
 unfoldable pub Claim-41 : Type 0
 Claim-41 =
     every (λ mode. every (λ k. eqb (rowsOf mode false k) 1) (clrip ∷ claim ∷ anyWrite ++ up ++ down)
@@ -170,6 +173,7 @@ Claim-41 =
 
 -- ---- the pending bit afterwards depends on the mode and the bits alone
 
+-- the pending bit afterwards depends on the mode and the bits alone: a source's target plays no part
 unfoldable pub Claim-42 : Type 0
 Claim-42 =
     (s : Source) (m : Bool) (k : Cause)

@@ -25,7 +25,7 @@ use Rattle.wired.proofs.read.Reads as read
 use Rattle.wired.proofs.write.Reads as write
 use Rattle.claims_wired.specs.Rules.{Sound}
 
--- what each call answers, and leaves of its words and of the log
+-- what each function of the wired controller answers, and leaves of its words and of the log
 unfoldable pub Claim-76 : Type 0
 Claim-76 =
     ((l : Lfts 2) (b b′ g g′ : RefT (List ℕ)) (i n : ℕ) (level : Bool)

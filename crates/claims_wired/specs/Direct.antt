@@ -28,8 +28,8 @@ Claim-43 =
     (d : Domain) (h : ℕ) → byMessages d ≡ false
     → (topiOf d h ≡ 0) ↔ ((i : ℕ) → 1 ≤ i → i ≤ 63 → eligible d h i ≡ false)
 
--- else it is source × 65536 + priority of a source that qualifies, with the least priority number, and the
--- lowest source among equals
+-- in direct mode topi that is not 0 is source × 65536 + priority of a source that qualifies, with the least
+-- priority number, and the lowest source among equals
 unfoldable pub Claim-44 : Type 0
 Claim-44 =
     (d : Domain) (h : ℕ) → byMessages d ≡ false → topSource d h ≢ 0
@@ -49,7 +49,7 @@ Claim-46 =
     (d : Domain) (h : ℕ) → byMessages d ≡ false → topiOf d h ≡ 0
     → hartClaimed d h ≡ withStructure d h (withoutForce (structureAt d h))
 
--- the signal: DM = 0, IE = 1, idelivery = 1, and iforce or topi not 0
+-- a domain signals a hart exactly if DM = 0, IE = 1, idelivery = 1, and iforce or topi not 0
 unfoldable pub Claim-47 : Type 0
 Claim-47 =
     (d : Domain) (h : ℕ)

@@ -56,6 +56,8 @@ OneDomain =
     × (writtenIn w true r v
     ≡ record { wires = w .wires; root = w .root; child = registerWritten true (w .child) (w .wires) r v })
 
+-- which change the write to each register makes, and that it changes its own domain alone if it is no
+-- sourcecfg
 unfoldable pub Claim-143 : Type 0
 Claim-143 = ChangesMade × OneDomain
 

@@ -39,8 +39,8 @@ pub record EnablesWritten (on : Bool) (Names : ℕ → Type 0) (d d′ : Domain)
 abbrev pub NamedIn : ℕ → ℕ → ℕ → Type 0
 NamedIn k v j = (j / 32 ≡ k) × (v / 2 ^ (j % 32) % 2 ≡ 1)
 
--- setie and setienum set, clrie and clrienum clear: the number registers the source of that number, and
--- nothing if there is none
+-- setie and setienum set enable bits, clrie and clrienum clear them: of the active sources whose bits are 1,
+-- or of the one of that number; nothing else changes
 unfoldable pub Claim-134 : Type 0
 Claim-134 =
     (c : Bool) (d : Domain) (wires : List ℕ) (v : ℕ) → DomainShaped d

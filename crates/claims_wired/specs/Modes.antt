@@ -39,6 +39,8 @@ pub record Remoded (m wire : Bool) (s : Source) (v : ℕ) (s′ : Source) : Type
   pub messages : isActive v ≡ true → isLevel v ≡ true → m ≡ true
       → s′ .pending ≡ (isRectified v wire && ((isActive (s .mode) && s .pending) || rises wire s v))
 
+-- what a sourcecfg write makes of its source: zeros if it becomes inactive, a start if it becomes active, and
+-- its pending bit by 4.7
 unfoldable pub Claim-94 : Type 0
 Claim-94 = (m wire : Bool) (s : Source) (v : ℕ) → Remoded m wire s v (moded s m v wire)
 

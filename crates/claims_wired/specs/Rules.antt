@@ -40,7 +40,7 @@ Sound w = Long w × (wiredSound w ≡ true)
 
 -- ---- the test
 
--- what the test answers, of words whose lists have their lengths
+-- what the test of the state rules answers, of 290 words
 unfoldable pub Claim-72 : Type 0
 Claim-72 =
     ((l : Lfts 1) (b : RefT (List ℕ)) (r : Bool) → sound.Learnt l (b, tt) r (b, tt)
@@ -91,13 +91,13 @@ pub record WiredRules (w : Wired) : Type 0 where
   pub undelegated : (i : ℕ) → 1 ≤ i → i ≤ 63 → sourceAt (w .root) i .mode ≢ 1024
       → sourceAt (w .child) i .mode ≡ 0
 
--- the test passes exactly if these hold
+-- the test of the state rules passes exactly if the rules hold as plain statements
 unfoldable pub Claim-73 : Type 0
 Claim-73 = (w : Wired) → Long w → (wiredSound w ≡ true) ↔ WiredRules w
 
 -- ---- they are kept
 
--- by each operation with the messages sent after it
+-- the state rules are kept by each operation with the messages sent after it
 unfoldable pub Claim-74 : Type 0
 Claim-74 =
     (w : Wired) → Sound w

@@ -15,14 +15,15 @@ use Rattle.domain_sending.specs.Sending.{candidate, sent}
 use Rattle.domain_genmsi.specs.Genmsi.{generatedSent}
 use Rattle.domain_sending_laws.specs.Candidates.{candidates, messageAt, DomainPendingOnly, Names}
 
--- the messages are those of the candidates, ascending, and none if IE and DM are not both 1
+-- a domain sends the messages of its active, pending and enabled sources, ascending, and none if IE and DM
+-- are not both 1
 unfoldable pub Claim-50 : Type 0
 Claim-50 =
     (c : Bool) (d : Domain)
     → ((isEnabled d && byMessages d) ≡ true → sent c d .messages ≡ map (messageAt c d) (candidates d))
     × ((isEnabled d && byMessages d) ≡ false → (sent c d .messages ≡ []) × (sent c d .domain ≡ d))
 
--- afterwards none is left
+-- after the pass of messages no source of a domain that sends is left to be sent
 unfoldable pub Claim-51 : Type 0
 Claim-51 =
     (c : Bool) (d : Domain) → (isEnabled d && byMessages d) ≡ true

@@ -47,6 +47,9 @@ WrittenInChild w i v =
     × (v / 1024 % 2 ≡ 0 → machine ≡ 1024 → ModeOf v stored)
     × SourceAlone i (w .child) (after .child) × (after .root ≡ w .root) × (after .wires ≡ w .wires)
 
+-- a sourcecfg write stores, of every number: in the machine domain 1024 if bit 10 is set, else bits 2:0, of
+-- which 2 and 3 become 0; in the child bits 2:0 likewise, but 0 if bit 10 is set or the source is not
+-- delegated; and every other source stays
 unfoldable pub Claim-137 : Type 0
 Claim-137 =
     (w : Wired) → Long w → (i : ℕ) → 1 ≤ i → i ≤ 63 → (v : ℕ) → WrittenInMachine w i v × WrittenInChild w i v

@@ -12,6 +12,7 @@ use Rattle.wired_state.specs.Wires.{Wired, wireSet}
 use Rattle.claims_wired.specs.Rules.{Long}
 use Rattle.claims_wired.specs.Sourcecfg.{SourceAlone}
 
+-- a wire that is set has its level, and no other wire and no source but its own changes
 unfoldable pub Claim-141 : Type 0
 Claim-141 =
     (w : Wired) → Long w → (i : ℕ) → 1 ≤ i → i ≤ 63 → (level : Bool)
