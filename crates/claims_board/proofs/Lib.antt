@@ -7,3 +7,4 @@ pub mod ClosureSent
 pub mod ClosureFiles
 pub mod Closure
 pub mod ClosureCall
+pub mod Asked

@@ -4,3 +4,4 @@ pub mod BoardCalls
 pub mod BoardFacts
 pub mod Accepted
 pub mod Closure
+pub mod Asked
