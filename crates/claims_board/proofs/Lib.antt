@@ -8,3 +8,4 @@ pub mod ClosureFiles
 pub mod Closure
 pub mod ClosureCall
 pub mod Asked
+pub mod Numbers

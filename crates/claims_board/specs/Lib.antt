@@ -5,3 +5,4 @@ pub mod BoardFacts
 pub mod Accepted
 pub mod Closure
 pub mod Asked
+pub mod Numbers
