@@ -9,3 +9,4 @@ pub mod Closure
 pub mod ClosureCall
 pub mod Asked
 pub mod Numbers
+pub mod BoardRules

@@ -6,3 +6,4 @@ pub mod Accepted
 pub mod Closure
 pub mod Asked
 pub mod Numbers
+pub mod BoardRules
