@@ -10,3 +10,4 @@ pub mod ClosureCall
 pub mod Asked
 pub mod Numbers
 pub mod BoardRules
+pub mod Start

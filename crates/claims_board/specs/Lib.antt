@@ -7,3 +7,4 @@ pub mod Closure
 pub mod Asked
 pub mod Numbers
 pub mod BoardRules
+pub mod Start
