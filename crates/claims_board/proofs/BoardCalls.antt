@@ -1,5 +1,5 @@
 -- Claims 80 to 90, by the laws of the calls. Assumes nothing.
-use Prim.Native.Nat.{ℕ, suc}
+use Prim.Native.Nat.{ℕ, zero, suc, _≤_, _<_}
 use mathlib.Core.Path.{_≡_, refl, sym, _∙_}
 use mathlib.Core.Bool.{true, _&&_}
 use mathlib.Core.List.{List}
@@ -8,6 +8,8 @@ use native.Mathlib.Decide.{ℕ-discrete}
 use native.Mathlib.Omega.{arith}
 use lib.Dec.{eqb, ltb}
 use borrow.Author.Tests.{eq-eqb, ne-eqb, eqb-true, lt-ltb, ltb-true}
+use Rattle.words.specs.Bits.{putBit}
+use Rattle.words.proofs.BitsLaws.{withBit-lt, withoutBit-le}
 use Rattle.words.proofs.TestsLaws.{tested, and-first, and-second, and-both, or-cases, or-left, or-right}
 use Rattle.file.specs.Top.{signals}
 use Rattle.files.specs.Files.{fileNumber, theFile}
@@ -19,8 +21,9 @@ use Rattle.board_block_laws.proofs.BlockBack.{block-back, board-back, length-bl
 use Rattle.board_block_laws.proofs.StartEffects.{start-sound}
 use Rattle.board_call.specs.declared.Call.{Call}
 use Rattle.board_call.specs.Refusal.{testsRules, present, blockRefusal, nameRefusal, refusalOf}
-use Rattle.board_call.specs.Change.{signalAt}
-use Rattle.board_call.specs.Outcome.{outcome}
+use Rattle.board_call.specs.declared.Call.the-variants.{Signals}
+use Rattle.board_call.specs.Change.{signalAt, signalsTo, change}
+use Rattle.board_call.specs.Outcome.{thenSent, step, outcome}
 use Rattle.board_call.proofs.RefusalLaws.{refused-state, refused-log, refused-rules, blocks-sound}
 use Rattle.board_call.proofs.RefusalLaws.{blocks-untested}
 use Rattle.board_call.proofs.RefusalLaws.{refused-name, refused-address, refused-select, numbers-name}
@@ -29,12 +32,13 @@ use Rattle.board_call_laws.proofs.GivesEffects.{gives-one}
 use Rattle.board_call_laws.proofs.FitEffects.{fit-block}
 use Rattle.board_call_laws.proofs.HartCallEffects.{signal-bit}
 use Rattle.board_call_laws.proofs.KeepsEffects.{kept-step}
+use Rattle.board_call_laws.proofs.OutcomeEffects.{outcome-refused, outcome-done}
 use Rattle.board_call_laws.proofs.StepEffects.{step-reset}
 use Rattle.claims_file.specs.FileFacts.{Claim-33}
 use Rattle.claims_file.proofs.FileFacts.{claim-33}
 use Rattle.claims_board.specs.BoardCalls.{Claim-80, Claim-81, Claim-82, Claim-83, Passes, Claim-84}
 use Rattle.claims_board.specs.BoardCalls.{Claim-85}
-use Rattle.claims_board.specs.BoardCalls.{Claim-86, Claim-87, Claim-88, Claim-89, Claim-90}
+use Rattle.claims_board.specs.BoardCalls.{Claim-86, Claim-87, Claim-88, Claim-89, Claim-90, Claim-161}
 
 pub claim-80 : Claim-80
 unfolding Claim-80
@@ -154,3 +158,24 @@ claim-89 b h f l =
           (and-both low takes (lt-ltb f 2 (q .0)) (eq-eqb (x .delivery) 0x40000000 (q .1)))
           (signal-iff d h .1 (q .2, q .3, q .4, q .5)))) p),
     )
+
+-- each signal is one of the five lowest bits
+signals-fit : (b : Board) (h n : ℕ) → n ≤ 5 → signalsTo b h n < 32
+unfolding signalsTo putBit
+signals-fit b h zero few = omega arith
+signals-fit b h (suc n) few =
+    let lower = signals-fit b h n (omega arith) in
+    tested (signalAt b h n) (λ t. rw t (withBit-lt 5 (signalsTo b h n) n lower (omega arith)))
+    (λ f. rw f (omega (arith, withoutBit-le (signalsTo b h n) n, lower)))
+
+pub claim-161 : Claim-161
+unfolding Claim-161 step thenSent change
+claim-161 = (
+  (λ b h. signals-fit b h 5 (omega arith)),
+  (λ l g s h. at l g s h (ℕ-discrete (refusalOf (Signals h) l g) 0)),
+)
+  where
+    at : (l g s : List ℕ) (h : ℕ) → Dec (refusalOf (Signals h) l g ≡ 0)
+        → outcome (Signals h) l g s .value < 32
+    at l g s h (yes e) = rw (outcome-done (Signals h) l g s e) (signals-fit (boardOf l) h 5 (omega arith))
+    at l g s h (no n) = rw (outcome-refused (Signals h) l g s _ refl n) (omega arith)

@@ -38,8 +38,10 @@ use Rattle.transfer_laws.specs.Premises.{ByMessages}
 use Rattle.transfer_laws.proofs.ShiftEffects.{started-ready}
 use Rattle.transfer_cases.specs.Example.{start as shift-start}
 use Rattle.transfer_cases.proofs.ExampleShift.{example}
+use Rattle.monitor_answer.specs.declared.VskAnswer.{VskAnswer}
+use Rattle.monitor_answer.proofs.ToldLaws.{told-one}
 use Rattle.claims_board.specs.BoardCalls.{Passes, Claim-84}
-use Rattle.claims_board.specs.BoardFacts.{OnlyFile, Claim-91, Given, Claim-92, Claim-93}
+use Rattle.claims_board.specs.BoardFacts.{OnlyFile, Claim-91, Given, Claim-92, Claim-93, Claim-162}
 use Rattle.claims_board.proofs.BoardCalls.{claim-84}
 
 -- ---- one file
@@ -190,3 +192,15 @@ claim-93 l b b′ g g′ r = (
   (λ h f learnt. learnt),
   (λ h learnt. learnt),
 )
+
+pub claim-162 : Claim-162
+unfolding Claim-162
+claim-162 o r r′ l l′ g g′ s s′ t u =
+    let one = told-one o r r′ l l′ g g′ s s′ t u in (
+      ap (λ (x : VskAnswer). x .refusal) (one .0),
+      ap (λ (x : VskAnswer). x .value) (one .0),
+      ap (λ (x : VskAnswer). x .count) (one .0),
+      one .1,
+      one .2,
+      one .3,
+    )

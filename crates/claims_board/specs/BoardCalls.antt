@@ -162,3 +162,9 @@ Claim-89 =
     ↔ (((x .delivery ≡ 1) × (topOf 255 x ≢ 0))
     ⊎ ((f < 2) × (x .delivery ≡ 0x40000000) × (byMessages d ≡ false) × (isEnabled d ≡ true)
     × (structureAt d h .idelivery ≡ 1) × ((structureAt d h .iforce ≢ 0) ⊎ (topiOf d h ≢ 0))))
+
+-- and no other bit is: the signals of a hart, and so what a call on them answers, are below 32
+unfoldable pub Claim-161 : Type 0
+Claim-161 =
+    ((b : Board) (h : ℕ) → signalsTo b h 5 < 32)
+    × ((l g s : List ℕ) (h : ℕ) → outcome (Signals h) l g s .value < 32)

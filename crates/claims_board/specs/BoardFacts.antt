@@ -17,9 +17,9 @@ use Rattle.board_call.specs.declared.Call.the-variants.{Reset, Wire, DomainRead
 use Rattle.board_call.specs.declared.Call.the-variants.{PageWrite}
 use Rattle.board_call.specs.declared.Call.the-variants.{Register, Top, Claim, Signals, Move}
 use Rattle.board_call.specs.Refusal.{testsRules, refusalOf}
-use Rattle.board_call.specs.Outcome.{step}
+use Rattle.board_call.specs.Outcome.{Outcome, step}
 use Rattle.monitor_answer.specs.declared.VskAnswer.{VskAnswer}
-use Rattle.monitor_answer.specs.Told.{Tells}
+use Rattle.monitor_answer.specs.Told.{Told, Tells}
 use Rattle.monitor.proofs.vsk_reset.Reads as vsk-reset
 use Rattle.monitor.proofs.vsk_wire.Reads as vsk-wire
 use Rattle.monitor.proofs.vsk_domain_read.Reads as vsk-domain-read
@@ -110,3 +110,11 @@ Claim-93 =
     → Tells (Claim h f) (now b) (now g) r (now b′) (now g′))
     × ((h : ℕ) → vsk-signals.Learnt l (b, (g, (h, tt))) r (b′, (g′, (h, tt)))
     → Tells (Signals h) (now b) (now g) r (now b′) (now g′))
+
+-- two results that such a function's contract allows are equal: the refusal, the value and the count, both
+-- blocks and the record of a move
+unfoldable pub Claim-162 : Type 0
+Claim-162 =
+    (o : Outcome) (r r′ : VskAnswer) (l l′ g g′ s s′ : List ℕ) → Told o r l g s → Told o r′ l′ g′ s′
+    → (r .refusal ≡ r′ .refusal) × (r .value ≡ r′ .value) × (r .count ≡ r′ .count)
+    × (l ≡ l′) × (g ≡ g′) × (s ≡ s′)
