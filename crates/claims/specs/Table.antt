@@ -1,5 +1,6 @@
 -- The table cases of the paper, T1 to T11: what the definitions give, beside what the table says.
--- 01, "Table cases". Assumes nothing.
+-- 01, "Table cases".
+-- Premises: none. No axioms.
 use Prim.Native.Nat.{ℕ}
 use mathlib.Core.Bool.{Bool, true, false, _&&_}
 use mathlib.Core.List.{List, [], _∷_}

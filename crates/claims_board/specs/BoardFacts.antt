@@ -1,6 +1,8 @@
--- Claims 91 to 93, on the calls of the board: a call on one file leaves the others, each number of the table
--- of refusals is given for some input, and what the functions that C calls answer. 01, "Calls and their
--- refusals". Assumes nothing.
+-- Claims 91 to 93 and 162, on the calls of the board: a call on one file leaves the others, each number of
+-- the table of refusals is given for some input, and what the functions that C calls answer, which settles
+-- everything. 01, "Calls and their refusals", "What the auditor will try".
+-- Premises: of Claim-91 that the board keeps the state rules; of Claim-93 what the contract ensures,
+-- `X.Learnt`, for which nothing is asked (Claim-113). The others have none. No axioms.
 --   Given c n       there are a block and a log with which the call c gets the number n
 --   OnlyFile k b b′   b′ is b but for file number k
 use Prim.Native.Nat.{ℕ}

@@ -1,8 +1,10 @@
 -- Claims 96 to 99: a wire concerns its own source and no other, and a write to a target its own. 01, "The
--- wired controller"; the standard 4.7, 4.9. Assumes nothing.
+-- wired controller"; the standard 4.7, 4.9.
 --   SentNone b x       the step x sends nothing and leaves the files of b
 --   SentOne c i b x    it sends the message of source i of a domain, and this alone reaches its file
 -- c says that the domain is the child.
+-- Premises: `Sound w`, the lists have their lengths and the state rules hold, as in every block that is not
+-- refused; and sources 1 to 63. No axioms.
 use Prim.Native.Nat.{ℕ, _≤_}
 use mathlib.Core.Path.{_≡_}
 use mathlib.Core.Bool.{Bool, true, false, not, _&&_}

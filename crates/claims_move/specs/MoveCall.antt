@@ -1,6 +1,6 @@
 -- Claims 100 to 103: one access of the move of a station: what the call gives; and, in numbers and bits,
 -- when it is barred, what it does to the file old, to the file new and to the record, and that it does
--- nothing else. 01, "The move, with its premises"; the standard 6.1.2. Assumes nothing.
+-- nothing else. 01, "The move, with its premises"; the standard 6.1.2.
 --   Fit b                  b has its lengths, its files have words of 32 bits, and it keeps the state rules
 --   isMove .. n            what Claim-101 says of old, new and n, without the child domain
 --   WordOf ws k w          w is word k of the set ws, 64 identities to a word: bit j is identity 64 k + j
@@ -10,6 +10,9 @@
 -- oh and of are the hart and the file of old, nh and nf those of new, n is the number of the access, and s is
 -- the record of ten numbers: at 0 the delivery, at 1 the threshold, at 2 to 5 the words of pending bits, at 6
 -- to 9 those of enable bits. What is past the end of a shorter record is read as 0 and is not stored.
+-- Premises: of claims 102 and 103 `Fit b`, as the board of every block of words of 32 bits is that is not
+-- refused, and that old, new and n are not barred (`isMove`). Claims 100 and 101 have none but, in Claim-100,
+-- what the contract ensures. No axioms.
 use Prim.Native.Nat.{ℕ, _+_, _-_, _*_, _/_, _%_, _^_, _≤_, _<_}
 use mathlib.Core.Path.{_≡_}
 use mathlib.Core.Bool.{Bool, true, cond, not, _&&_, _||_}

@@ -1,9 +1,13 @@
 -- Claims 104 to 112, the auditor's question: when the monitor moves a station in the middle of a shift, can
--- a scan be dropped, doubled or handed to the wrong station? 01, "The move, with its premises". Assumes
--- nothing.
+-- a scan be dropped, doubled or handed to the wrong station? 01, "The move, with its premises".
 --   MovedWhere P     P holds of what is lent after every shift with a move and after the same shift without
 --                    it, where the premises of 01 are met: each is a definition of Rattle.transfer_laws,
 --                    Premises
+-- Premises: of Claim-104 `Ready x`, 650 words of a board that keeps the rules and whose files have words of
+-- 32 bits, 63 words of log and a record of numbers of 64 bits, and `Small c`, a value of 64 bits; of claims
+-- 105 to 110 the six of 01, `Started`, `TwoGuests`, `ByMessages`, `NoneNamesNew`, `AllAccesses` and
+-- `PagesKept`, which Claim-111 shows can be met, and Claim-112 that each is needed. Claims 111 and 112 have
+-- none. No axioms.
 use Prim.Native.Nat.{ℕ, _+_, _*_, _<_}
 use mathlib.Core.Path.{_≡_}
 use mathlib.Core.Bool.{Bool, true, false}
