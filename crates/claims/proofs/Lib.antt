@@ -1,3 +1,2 @@
--- The proofs of these claims, each by citing the crates below. Assumes nothing.
-pub mod Table
-pub mod Runs
+-- The proofs of the three demands, by citing the claims. Assumes nothing.
+pub mod Demands

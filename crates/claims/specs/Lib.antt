@@ -1,3 +1,2 @@
--- The claims on the table cases, by topic: each a statement written out in full. Assumes nothing.
-pub mod Table
-pub mod Runs
+-- The three demands, each a conjunction of claims. No axioms.
+pub mod Demands

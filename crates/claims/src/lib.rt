@@ -1,1 +1,1 @@
-// No code: every claim that is made to the auditor, numbered, written out and proved from the crates below.
+// No code: the three demands, each a conjunction of the claims that answer it.

@@ -1,13 +1,10 @@
 -- The proofs of these claims, each by citing the crates below. Assumes nothing.
 pub mod OneSource
-pub mod BoardCalls
-pub mod BoardFacts
 pub mod Accepted
 pub mod ClosureSent
 pub mod ClosureFiles
 pub mod Closure
 pub mod ClosureCall
-pub mod Asked
 pub mod Numbers
 pub mod BoardRules
 pub mod Start

@@ -1,3 +1,4 @@
--- The claims on the move of a station, by topic: each a statement written out in full. Assumes nothing.
+-- The claims on the move of a station: each a statement written out in full. The header of each file
+-- names its premises. No axioms.
 pub mod MoveCall
 pub mod Station

@@ -1,5 +1,5 @@
--- The claims on the wired controller, by topic: each a statement written out in full. Premises: each file's
--- header names its own. No axioms.
+-- The claims on the wired controller: each a statement written out in full. The header of each file
+-- names its premises. No axioms.
 pub mod Causes
 pub mod Sending
 pub mod WiredCalls

@@ -40,9 +40,9 @@ use Rattle.transfer_cases.specs.Example.{start as shift-start}
 use Rattle.transfer_cases.proofs.ExampleShift.{example}
 use Rattle.monitor_answer.specs.declared.VskAnswer.{VskAnswer}
 use Rattle.monitor_answer.proofs.ToldLaws.{told-one}
-use Rattle.claims_board.specs.BoardCalls.{Passes, Claim-84}
-use Rattle.claims_board.specs.BoardFacts.{OnlyFile, Claim-91, Given, Claim-92, Claim-93, Claim-162}
-use Rattle.claims_board.proofs.BoardCalls.{claim-84}
+use Rattle.claims_calls.specs.BoardCalls.{Passes, Claim-84}
+use Rattle.claims_calls.specs.BoardFacts.{OnlyFile, Claim-91, Given, Claim-92, Claim-93, Claim-162}
+use Rattle.claims_calls.proofs.BoardCalls.{claim-84}
 
 -- ---- one file
 

@@ -27,7 +27,7 @@ use Rattle.domain_direct.specs.Direct.{standing, eligible, precedes, topFrom, t
 use Rattle.domain_registers.specs.Read.{registerValue as readOf}
 use Rattle.domain_region.specs.Region.{wordAt, wordIn, nameIn, registers, addressLegal}
 use Rattle.board_call.specs.Refusal.{nameRefusal, nameTests, firstFailed, present, addressed, selected}
-use Rattle.claims.specs.Table.{table, same, holds}
+use Rattle.claims_cases.specs.Table.{Claim-170, table, same, holds}
 
 pub table-holds : holds table ≡ true
 unfolding holds table same topOf topIdentity lowest qualifies passes member hasBit bitOf pageWritten arrived
@@ -38,6 +38,10 @@ unfolding holds table same topOf topIdentity lowest qualifies passes member hasB
     withoutBit wordAt wordIn nameIn registers nameRefusal nameTests firstFailed present addressed
     selected addressLegal
 table-holds = refl
+
+pub claim-170 : Claim-170
+unfolding Claim-170
+claim-170 = table-holds
 
 -- what the test says of one row: the two lists are equal
 pub same-equal : (xs ys : List ℕ) → same xs ys ≡ true → xs ≡ ys

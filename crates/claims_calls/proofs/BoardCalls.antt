@@ -36,9 +36,9 @@ use Rattle.board_call_laws.proofs.OutcomeEffects.{outcome-refused, outcome-done
 use Rattle.board_call_laws.proofs.StepEffects.{step-reset}
 use Rattle.claims_file.specs.FileFacts.{Claim-33}
 use Rattle.claims_file.proofs.FileFacts.{claim-33}
-use Rattle.claims_board.specs.BoardCalls.{Claim-80, Claim-81, Claim-82, Claim-83, Passes, Claim-84}
-use Rattle.claims_board.specs.BoardCalls.{Claim-85}
-use Rattle.claims_board.specs.BoardCalls.{Claim-86, Claim-87, Claim-88, Claim-89, Claim-90, Claim-161}
+use Rattle.claims_calls.specs.BoardCalls.{Claim-80, Claim-81, Claim-82, Claim-83, Passes, Claim-84}
+use Rattle.claims_calls.specs.BoardCalls.{Claim-85}
+use Rattle.claims_calls.specs.BoardCalls.{Claim-86, Claim-87, Claim-88, Claim-89, Claim-90, Claim-161}
 
 pub claim-80 : Claim-80
 unfolding Claim-80

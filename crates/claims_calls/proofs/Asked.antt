@@ -11,7 +11,7 @@ use Rattle.monitor.proofs.vsk_claim.Met as vsk-claim-code
 use Rattle.monitor.proofs.vsk_signals.Met as vsk-signals-code
 use Rattle.monitor.proofs.vsk_move.Met as vsk-move-code
 use Rattle.board.proofs.apply.Met as apply-code
-use Rattle.claims_board.specs.Asked.{Claim-113, Claim-114}
+use Rattle.claims_calls.specs.Asked.{Claim-113, Claim-114}
 
 pub claim-113 : Claim-113
 unfolding Claim-113

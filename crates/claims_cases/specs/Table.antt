@@ -2,6 +2,7 @@
 -- 01, "Table cases".
 -- Premises: none. No axioms.
 use Prim.Native.Nat.{ℕ}
+use mathlib.Core.Path.{_≡_}
 use mathlib.Core.Bool.{Bool, true, false, _&&_}
 use mathlib.Core.List.{List, [], _∷_}
 use lib.Dec.{eqb}
@@ -124,3 +125,7 @@ same (x ∷ xs) (y ∷ ys) = eqb x y && same xs ys
 unfoldable pub holds : List Row → Bool
 holds [] = true
 holds (r ∷ rs) = same (r .given) (r .says) && holds rs
+
+-- the table cases T1 to T11, by the definitions: every row gives what the paper says
+unfoldable pub Claim-170 : Type 0
+Claim-170 = holds table ≡ true

@@ -65,7 +65,7 @@ use Rattle.board_runs.specs.Runs.{Lent, outcomeOn, after, ran}
 use Rattle.board_runs.specs.Ready.{boardIn, Ready, AllSmall}
 use Rattle.board_runs.proofs.RunsEffects.{after-refused, ready-refusal, after-done, after-board, after-saved}
 use Rattle.board_runs.proofs.RunsEffects.{ready-after, ready-ran}
-use Rattle.claims.specs.Runs.{atStart, answered, fiveAndNineAt, detached, delegated, Claim-163}
+use Rattle.claims_cases.specs.Runs.{atStart, answered, fiveAndNineAt, detached, delegated, Claim-163}
 
 pub record Held : Type 0 where
   pub board : Board
