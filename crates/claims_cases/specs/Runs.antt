@@ -39,6 +39,8 @@ delegated =
     DomainWrite 0 0x1C 0x400 ∷ DomainWrite 1 0 0x104 ∷ DomainWrite 1 0x1C 1
     ∷ DomainWrite 1 0x301C 0x00081028 ∷ DomainWrite 1 0x1EDC 7 ∷ []
 
+-- the table cases T1 to T11 by whole calls: from the block that a reset leaves, what the last call answers,
+-- with the first word of the log, and what it leaves
 unfoldable pub Claim-163 : Type 0
 Claim-163 =
     -- T1, T2, T3
