@@ -112,8 +112,8 @@ unfoldable pub Demand-3 : Type 0
 Demand-3 =
     -- one access, in plain numbers and bits
     Claim-102 × Claim-103
-    -- the new file is the one that the station would have had, and nothing else differs; none of the 89 accesses
-    -- is refused
+    -- the new file is the one that the station would have had, and nothing else differs; none of the 89
+    -- accesses is refused
     × Claim-105 × Claim-106
     -- no scan is dropped, doubled or handed to another station, and the shift goes on
     × Claim-107 × Claim-108 × Claim-109 × Claim-110

@@ -24,7 +24,8 @@ use Rattle.board_call.specs.Outcome.{Outcome, Stepped, thenSent, step, doneAs}
 use Rattle.board_call.specs.Refusal.{nameRefusal}
 use Rattle.board_call_laws.specs.Small.{Small}
 use Rattle.board_call_laws.proofs.OutcomeEffects.{outcome-done}
-use Rattle.board_call_laws.proofs.StepEffects.{wiredStep, step-wire, step-domainRead, step-domainWrite, step-onFile}
+use Rattle.board_call_laws.proofs.StepEffects.{wiredStep, step-wire, step-domainRead, step-domainWrite}
+use Rattle.board_call_laws.proofs.StepEffects.{step-onFile}
 use Rattle.board_runs.specs.Runs.{Lent, outcomeOn, after}
 use Rattle.board_runs.specs.Ready.{boardIn, Ready}
 use Rattle.board_runs.proofs.RunsEffects.{ready-refusal, accepted-named, after-board, ready-after}

@@ -1,6 +1,6 @@
 -- Claim-146, on the parts of a target and of a message, in plain numbers. 01, "The wired controller".
--- Premises: the parts of a message are in their ranges, as those that a domain sends are (Claim-52). No
--- axioms.
+-- Premises: the parts of a message are in their ranges, as those that a domain sends are (Claim-52).
+-- No axioms.
 use Prim.Native.Nat.{ℕ, _+_, _*_, _/_, _%_, _^_, _<_}
 use mathlib.Core.Path.{_≡_}
 use mathlib.Core.Bool.{Bool, true, false}

@@ -7,8 +7,8 @@
 --   TargetKept c m v t   t is what a write of v to a target stores
 -- c says that a domain is the child; m is its delivery mode, true by messages.
 -- Premises: 55, 56 and 58 have `DomainShaped d`, the lists of d have their lengths, as those of 144 words
--- have; 57 has `Sound w`, the state rules; what 56 says of one source, and 58 of one target, has none. No
--- axioms.
+-- have; 57 has `Sound w`, the state rules; what 56 says of one source, and 58 of one target, has none.
+-- No axioms.
 use Prim.Native.Nat.{ℕ, _+_, _/_, _%_, _^_, _≤_, _<_}
 use mathlib.Core.Path.{_≡_}
 use mathlib.Core.Bool.{Bool, true, false, cond, _&&_}
