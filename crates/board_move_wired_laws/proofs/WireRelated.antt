@@ -12,7 +12,7 @@ use Rattle.words.specs.Sets.{member, put}
 use Rattle.words.proofs.TestsLaws.{tested, and-first, and-second}
 use Rattle.source_target.specs.Target.{messageOf}
 use Rattle.source.specs.Pending.{settled, wireChanged}
-use Rattle.domain.specs.Domain.{Domain, configOf, isEnabled, byMessages, withTargets, withPendings}
+use Rattle.domain.specs.Domain.{Domain, configOf, isEnabled, byMessages, sends, withTargets, withPendings}
 use Rattle.domain.specs.Slot.{sourceAt, withSource}
 use Rattle.domain.proofs.DomainLaws.{domain-path}
 use Rattle.domain_laws.proofs.SetsBack.{put-back}
@@ -22,7 +22,7 @@ use Rattle.domain_sending.specs.Sending.{candidate, Sent, servedAt, sentFrom, s
 use Rattle.domain_sending.proofs.SendingLaws.{served-hit, served-miss, sent-on, sent-off}
 use Rattle.domain_sending_laws.specs.Candidates.{messageAt, DomainPendingOnly}
 use Rattle.domain_sending_laws.proofs.SendingEffects.{sent-rest}
-use Rattle.wired_rules_laws.specs.Steady.{sends, WiredSteady, WiredQuiet}
+use Rattle.wired_rules_laws.specs.Steady.{WiredSteady, WiredQuiet}
 use Rattle.wired.specs.Controller.{flushed, wireCall}
 use Rattle.wired_laws.proofs.WireEffects.{wire-message, wire-silent}
 use Rattle.board_move_wired_laws.specs.Retargeted.{TargetsOnly, Same, Rewritten, TargetsMoved}

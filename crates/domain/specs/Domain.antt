@@ -6,10 +6,11 @@
 --   configOf d             the stored domaincfg: IE at bit 8, DM at bit 2
 --   isEnabled d            IE
 --   byMessages d           DM: true by messages, false direct
+--   sends d                the domain sends: IE and DM
 --   generatedAt d          the stored genmsi
 -- The region has domaincfg in the place of a sourcecfg[0] and genmsi in that of a target[0]; so has this.
 use Prim.Native.Nat.{ℕ}
-use mathlib.Core.Bool.{Bool}
+use mathlib.Core.Bool.{Bool, _&&_}
 use mathlib.Core.List.{List}
 use lib.ListN.{getD, take, drop, set}
 use Rattle.sizes.specs.Sizes.{slotCount, sourceSetSize, structuresSize, targetsPlace, pendingsPlace}
@@ -47,6 +48,9 @@ isEnabled d = hasBit (configOf d) ieBit
 
 unfoldable pub byMessages : Domain → Bool
 byMessages d = hasBit (configOf d) dmBit
+
+abbrev pub sends : Domain → Bool
+sends d = isEnabled d && byMessages d
 
 unfoldable pub generatedAt : Domain → ℕ
 generatedAt d = getD (d .target) 0 0

@@ -2,7 +2,7 @@
 -- contract cites this file. Assumes nothing.
 use Prim.Native.Nat.{ℕ, zero, suc, _+_, _≤_, _<_}
 use mathlib.Core.Path.{_≡_, refl, sym, ap, ap₂, _∙_}
-use mathlib.Core.Bool.{Bool, true, false, _&&_}
+use mathlib.Core.Bool.{Bool, true, false}
 use mathlib.Core.List.{List, [], _∷_, _++_}
 use native.Mathlib.Omega.{arith}
 use lib.ListN.{length, take, drop, set, take-append-drop}
@@ -10,7 +10,7 @@ use lib.Seq.{length-take-le}
 use Rattle.words.proofs.TestsLaws.{tested}
 use Rattle.source_target.specs.Target.{messageOf}
 use Rattle.source.specs.Pending.{withPending}
-use Rattle.domain.specs.Domain.{Domain, isEnabled, byMessages}
+use Rattle.domain.specs.Domain.{Domain, sends}
 use Rattle.domain.specs.Slot.{sourceAt, withSource}
 use Rattle.domain_sending.specs.Sending.{Sent, candidate, sentNothing, servedAt, messagesAt, sentFrom}
 use Rattle.domain_sending.specs.Sending.{sent}
@@ -72,11 +72,11 @@ from-none c d i (suc n) none =
 -- ---- the pass of a domain that sends, and of one that does not
 
 module _ (c : Bool) (d : Domain) where
-  pub sent-on : (isEnabled d && byMessages d) ≡ true → sent c d ≡ sentFrom c d 1 63
+  pub sent-on : sends d ≡ true → sent c d ≡ sentFrom c d 1 63
   unfolding sent
   sent-on e = simp e
 
-  pub sent-off : (isEnabled d && byMessages d) ≡ false → sent c d ≡ sentNothing d
+  pub sent-off : sends d ≡ false → sent c d ≡ sentNothing d
   unfolding sent
   sent-off e = simp e
 

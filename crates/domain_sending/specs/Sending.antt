@@ -17,7 +17,7 @@ use Rattle.source_mode.specs.Mode.{isActive}
 use Rattle.source_target.specs.Target.{messageOf}
 use Rattle.source.specs.declared.Source.{Source}
 use Rattle.source.specs.Pending.{withPending}
-use Rattle.domain.specs.Domain.{Domain, isEnabled, byMessages}
+use Rattle.domain.specs.Domain.{Domain, sends}
 use Rattle.domain.specs.Slot.{sourceAt, withSource}
 
 unfoldable pub candidate : Source → Bool
@@ -43,7 +43,7 @@ sentFrom c d i (suc n) =
     record { domain = later .domain; messages = messagesAt c d i ++ later .messages }
 
 unfoldable pub sent : Bool → Domain → Sent
-sent c d = cond (isEnabled d && byMessages d) (sentFrom c d 1 sourceCount) (sentNothing d)
+sent c d = cond (sends d) (sentFrom c d 1 sourceCount) (sentNothing d)
 
 unfoldable pub logged : List ℕ → List ℕ → List ℕ
 logged l ms = ms ++ drop (length ms) l

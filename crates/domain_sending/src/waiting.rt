@@ -1,10 +1,9 @@
 // What is tested before a pass: that the domain sends, and that some source may be to be sent.
 ghost use mathlib.Core.Path.{_≡_};
-ghost use mathlib.Core.Bool.{_&&_};
 ghost use Prim.Native.Nat.{_<_};
 ghost use lib.ListN.{length};
 ghost use Rattle.sizes.specs.Sizes.{sourceSetSize, domainSize};
-ghost use Rattle.domain.specs.Domain.{domainOf, isEnabled, byMessages};
+ghost use Rattle.domain.specs.Domain.{domainOf, sends};
 ghost use Rattle.domain_sending.specs.Idle.{idleWord, idle};
 use domain::by_messages;
 use domain::enable_word;
@@ -13,8 +12,7 @@ use domain::pending_word;
 
 pub fn sends(part: &[u32]) -> bool
     requires { ⌜ length (now part) ≡ domainSize ⌝ }
-    ensures { λ r.
-        ⌜ r ≡ (isEnabled (domainOf (now (part .entry))) && byMessages (domainOf (now (part .entry)))) ⌝ }
+    ensures { λ r. ⌜ r ≡ sends (domainOf (now (part .entry))) ⌝ }
 {
     enabled(part) & by_messages(part)
 }

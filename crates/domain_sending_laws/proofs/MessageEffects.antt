@@ -2,7 +2,7 @@
 -- that exists. No contract cites this file. Assumes nothing.
 use Prim.Native.Nat.{ℕ, zero, suc, _+_, _-_, _≤_, _<_}
 use mathlib.Core.Path.{_≡_, refl, sym, ap, _∙_, subst}
-use mathlib.Core.Bool.{Bool, true, false, _&&_}
+use mathlib.Core.Bool.{Bool, true, false}
 use mathlib.Core.List.{List, [], _∷_, _++_}
 use native.Mathlib.Decide.{decLt}
 use native.Mathlib.Omega.{arith}
@@ -16,7 +16,7 @@ use Rattle.source_target.proofs.TargetLaws.{hartOf-lt, guestOf-lt, numberOf-lt,
 use Rattle.source_target.proofs.TargetLaws.{message-machine}
 use Rattle.file_message.proofs.MessageLaws.{fileIn-logWord}
 use Rattle.domain_genmsi.proofs.GenmsiLaws.{generated-child, generated-machine}
-use Rattle.domain.specs.Domain.{Domain, isEnabled, byMessages}
+use Rattle.domain.specs.Domain.{Domain, sends}
 use Rattle.domain.specs.Slot.{sourceAt}
 use Rattle.domain_sending.specs.Sending.{candidate, servedAt, messagesAt, sentFrom, sent, logged}
 use Rattle.domain_sending.proofs.SendingLaws.{messages-hit, messages-miss, sent-on, sent-off}
@@ -106,7 +106,7 @@ from-named c d i (suc n) =
 module _ (c : Bool) (d : Domain) where
   pub sent-named : (k : ℕ) → k < length (sent c d .messages) → Names c (getD (sent c d .messages) k 0)
   sent-named =
-      tested (isEnabled d && byMessages d) (λ t. rw (sent-on c d t) (from-named c d 1 63))
+      tested (sends d) (λ t. rw (sent-on c d t) (from-named c d 1 63))
       (λ f. rw (sent-off c d f) (every-none (Names c)))
 
 -- what holds of every message holds of the words that they take in the log

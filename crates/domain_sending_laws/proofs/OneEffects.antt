@@ -2,13 +2,13 @@
 -- other source stays. No contract cites this file. Assumes nothing.
 use Prim.Native.Nat.{ℕ, zero, suc, _+_, _≤_, _<_}
 use mathlib.Core.Path.{_≡_, refl, ap, _∙_}
-use mathlib.Core.Bool.{Bool, true, false, cond, _&&_}
+use mathlib.Core.Bool.{Bool, true, false, cond}
 use mathlib.Core.List.{List, [], _∷_, map}
 use mathlib.Core.Logic.{_≢_}
 use native.Mathlib.Decide.{ℕ-discrete}
 use native.Mathlib.Omega.{arith}
 use Rattle.words.proofs.TestsLaws.{tested}
-use Rattle.domain.specs.Domain.{Domain, isEnabled, byMessages}
+use Rattle.domain.specs.Domain.{Domain, sends}
 use Rattle.domain.specs.Slot.{sourceAt}
 use Rattle.domain_sending.specs.Sending.{candidate, Sent, sent, messagesAt}
 use Rattle.domain_sending.proofs.SendingLaws.{sent-off}
@@ -46,17 +46,17 @@ module _ (p : ℕ → Bool) where
 -- ---- the pass
 
 module _ (c : Bool) (d : Domain) (i : ℕ)
-    (one : (isEnabled d && byMessages d) ≡ true → (j : ℕ) → j ≢ i → 1 ≤ j → j < 64
+    (one : sends d ≡ true → (j : ℕ) → j ≢ i → 1 ≤ j → j < 64
     → candidate (sourceAt d j) ≡ false) where
   one-message : map (messageAt c d) (cond (candidate (sourceAt d i)) (i ∷ []) []) ≡ messagesAt c d i
   unfolding messagesAt
   one-message = tested (candidate (sourceAt d i)) (λ t. rw t) (λ f. rw f)
 
   pub sent-one : 1 ≤ i → i < 64
-      → sent c d .messages ≡ cond (isEnabled d && byMessages d) (messagesAt c d i) []
+      → sent c d .messages ≡ cond (sends d) (messagesAt c d i) []
   unfolding candidates
   sent-one l h =
-      tested (isEnabled d && byMessages d)
+      tested (sends d)
       (λ t. sent-messages c d t
       ∙ ap (map (messageAt c d))
       (those-one (λ j. candidate (sourceAt d j)) i 1 63 l (omega arith)
@@ -66,6 +66,6 @@ module _ (c : Bool) (d : Domain) (i : ℕ)
 
   pub sent-one-other : (j : ℕ) → j ≢ i → 1 ≤ j → j < 64 → sourceAt (sent c d .domain) j ≡ sourceAt d j
   sent-one-other j n l h =
-      tested (isEnabled d && byMessages d)
+      tested (sends d)
       (λ t. sent-source c d t j l h ∙ spent-miss (sourceAt d j) (one t j n l h))
       (λ f. ap (λ (r : Sent). sourceAt (r .domain) j) (sent-off c d f))

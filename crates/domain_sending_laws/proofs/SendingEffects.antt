@@ -16,7 +16,7 @@ use Rattle.words.proofs.TestsLaws.{tested, and-first, and-second, from-next}
 use Rattle.source_mode.specs.Mode.{isActive}
 use Rattle.source.specs.declared.Source.{Source}
 use Rattle.source.specs.Pending.{withPending}
-use Rattle.domain.specs.Domain.{Domain, isEnabled, byMessages, withPendings}
+use Rattle.domain.specs.Domain.{Domain, sends, withPendings}
 use Rattle.domain.specs.Slot.{sourceAt}
 use Rattle.domain.proofs.SlotLaws.{source-path}
 use Rattle.domain_laws.proofs.SetsBack.{member-within}
@@ -207,13 +207,13 @@ module _ (c : Bool) (d : Domain) where
   -- nothing but pending bits changes
   pub sent-rest : DomainPendingOnly d (sent c d .domain)
   sent-rest =
-      tested (isEnabled d && byMessages d) (λ t. rw (sent-on c d t) (from-rest c d 1 63))
+      tested (sends d) (λ t. rw (sent-on c d t) (from-rest c d 1 63))
       (λ f. rw (sent-off c d f) record { source = refl; target = refl; enable = refl; delivery = refl })
 
   -- and none of a source that is not there
   pub sent-other : (j : ℕ) → ((1 ≤ j) × (j < 64) → ⊥) → sourceAt (sent c d .domain) j ≡ sourceAt d j
   sent-other j n =
-      tested (isEnabled d && byMessages d)
+      tested (sends d)
       (λ t. ap (λ (r : Sent). sourceAt (r .domain) j) (sent-on c d t)
       ∙ from-other c d 1 63 j (λ k l h e. n (omega arith, omega arith)))
       (λ f. ap (λ (r : Sent). sourceAt (r .domain) j) (sent-off c d f))
@@ -221,26 +221,26 @@ module _ (c : Bool) (d : Domain) where
   -- the pending words are as many as before, of 32 bits each
   pub sent-long : length (sent c d .domain .pending) ≡ length (d .pending)
   sent-long =
-      tested (isEnabled d && byMessages d) (λ t. rw (sent-on c d t) (from-long c d 1 63))
+      tested (sends d) (λ t. rw (sent-on c d t) (from-long c d 1 63))
       (λ f. rw (sent-off c d f))
 
   pub sent-fit : WordsFit (d .pending) → WordsFit (sent c d .domain .pending)
   sent-fit fit =
-      tested (isEnabled d && byMessages d) (λ t. rw (sent-on c d t) (from-fit c d 1 63 fit))
+      tested (sends d) (λ t. rw (sent-on c d t) (from-fit c d 1 63 fit))
       (λ f. rw (sent-off c d f) fit)
 
   -- 63 log words suffice
   pub sent-count : length (sent c d .messages) ≤ 63
   sent-count =
-      tested (isEnabled d && byMessages d) (λ t. rw (sent-on c d t) (from-count c d 1 63))
+      tested (sends d) (λ t. rw (sent-on c d t) (from-count c d 1 63))
       (λ f. rw (sent-off c d f) (omega arith))
 
   pub sent-none : ((j : ℕ) → 1 ≤ j → j < 64 → candidate (sourceAt d j) ≡ false) → sent c d ≡ sentNothing d
   sent-none none =
-      tested (isEnabled d && byMessages d)
+      tested (sends d)
       (λ t. sent-on c d t ∙ from-none c d 1 63 (λ j l h. none j l (omega arith))) (sent-off c d)
 
-  module _ (on : (isEnabled d && byMessages d) ≡ true) where
+  module _ (on : sends d ≡ true) where
     -- each source after the pass
     pub sent-source : (j : ℕ) → 1 ≤ j → j < 64 → sourceAt (sent c d .domain) j ≡ spent (sourceAt d j)
     sent-source j l h =

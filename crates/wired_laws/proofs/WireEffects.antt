@@ -14,7 +14,7 @@ use Rattle.words.proofs.TestsLaws.{tested, and-first, and-second}
 use Rattle.source_target.specs.Target.{messageOf}
 use Rattle.source.specs.declared.Source.{Source}
 use Rattle.source.specs.Pending.{settled, wireChanged}
-use Rattle.domain.specs.Domain.{Domain, byMessages}
+use Rattle.domain.specs.Domain.{Domain, byMessages, sends}
 use Rattle.domain.specs.Slot.{sourceAt}
 use Rattle.domain_laws.specs.Shape.{DomainShaped}
 use Rattle.domain_laws.proofs.OwnEffects.{configOf-withSource}
@@ -25,7 +25,7 @@ use Rattle.domain_sending.proofs.SendingLaws.{messages-hit, messages-miss, sent
 use Rattle.domain_sending_laws.specs.Candidates.{messageAt, spent}
 use Rattle.domain_sending_laws.proofs.SendingEffects.{sent-source}
 use Rattle.domain_sending_laws.proofs.OneEffects.{sent-one, sent-one-other}
-use Rattle.wired_rules_laws.specs.Steady.{sends, WiredSteady, WiredQuiet}
+use Rattle.wired_rules_laws.specs.Steady.{WiredSteady, WiredQuiet}
 use Rattle.wired_rules_laws.proofs.QuietEffects.{sends-same}
 use Rattle.wired_rules_laws.proofs.PassEffects.{quiet-candidate}
 use Rattle.wired_rules_laws.proofs.WiredQuietEffects.{quiet-domainIn}

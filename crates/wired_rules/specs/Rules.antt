@@ -18,7 +18,7 @@ use Rattle.sizes.specs.Sizes.{hartCount, sourceCount}
 use Rattle.words.specs.Sets.{member}
 use Rattle.domain_genmsi.specs.Genmsi.{keptGenerated}
 use Rattle.domain_delivery.specs.Delivery.{deliverySound}
-use Rattle.domain.specs.Domain.{Domain, configOf, isEnabled, byMessages, generatedAt}
+use Rattle.domain.specs.Domain.{Domain, configOf, byMessages, sends, generatedAt}
 use Rattle.domain.specs.Slot.{sourceAt}
 use Rattle.domain.specs.Structure.{structureAt}
 use Rattle.domain_config.specs.Config.{keptConfig}
@@ -42,8 +42,7 @@ unfoldable pub generatedRule : Domain → Bool
 generatedRule d = byMessages d || eqb (generatedAt d) 0
 
 unfoldable pub sourceRule : Bool → List ℕ → Domain → ℕ → Bool
-sourceRule c ws d i =
-    sourceSound c (byMessages d) (isEnabled d && byMessages d) (member ws i) (sourceAt d i)
+sourceRule c ws d i = sourceSound c (byMessages d) (sends d) (member ws i) (sourceAt d i)
 
 unfoldable pub domainSound : Bool → List ℕ → Domain → Bool
 domainSound c ws d =

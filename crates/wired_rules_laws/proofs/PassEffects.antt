@@ -10,7 +10,7 @@ use borrow.Author.Tests.{not-true}
 use Rattle.words.specs.Sets.{member}
 use Rattle.words.proofs.TestsLaws.{tested, and-second}
 use Rattle.source.specs.declared.Source.{Source}
-use Rattle.domain.specs.Domain.{Domain, configOf, generatedAt, isEnabled, byMessages}
+use Rattle.domain.specs.Domain.{Domain, configOf, generatedAt, isEnabled, byMessages, sends}
 use Rattle.domain.specs.Slot.{sourceAt}
 use Rattle.domain.specs.Structure.{structureAt}
 use Rattle.domain_laws.specs.Shape.{DomainShaped}
@@ -22,7 +22,7 @@ use Rattle.domain_sending_laws.proofs.SendingEffects.{spent-hit, spent-miss, se
 use Rattle.domain_sending_laws.proofs.SendingEffects.{sent-source, sent-quiet, sent-none}
 use Rattle.source_rules.specs.SourceRules.{sourceSteady, sentRule}
 use Rattle.source_laws.proofs.SteadyEffects.{steady-unpended}
-use Rattle.wired_rules_laws.specs.Steady.{Steady, DomainKept, sends, Quiet}
+use Rattle.wired_rules_laws.specs.Steady.{Steady, DomainKept, Quiet}
 use Rattle.wired_rules_laws.proofs.ModeEffects.{spent-mode}
 use Rattle.wired_rules_laws.proofs.SteadyEffects.{steady-touched, became-modes}
 use Rattle.wired_rules_laws.proofs.QuietEffects.{sends-same}

@@ -8,7 +8,7 @@ use lib.Dec.{eqb}
 use borrow.Author.Tests.{eq-eqb, ne-eqb}
 use Rattle.source.specs.declared.Source.{Source}
 use Rattle.source.specs.Pending.{inactive}
-use Rattle.domain.specs.Domain.{Domain, configOf, byMessages}
+use Rattle.domain.specs.Domain.{Domain, configOf, byMessages, sends}
 use Rattle.domain.specs.Slot.{sourceAt, withSource}
 use Rattle.domain_laws.specs.Shape.{DomainShaped}
 use Rattle.domain_laws.specs.Became.{Became}
@@ -16,7 +16,7 @@ use Rattle.domain_laws.proofs.BecameEffects.{touched-withSource}
 use Rattle.domain_laws.proofs.OwnEffects.{isEnabled-same, byMessages-same}
 use Rattle.source_rules.specs.SourceRules.{sentRule}
 use Rattle.source_laws.proofs.SentEffects.{sent-silent, sent-start}
-use Rattle.wired_rules_laws.specs.Steady.{sends, Quiet}
+use Rattle.wired_rules_laws.specs.Steady.{Quiet}
 
 pub quiet-direct : (d : Domain) → byMessages d ≡ false → Quiet d
 quiet-direct d m i l h = rw (m, and-false) (sent-silent (sourceAt d i))

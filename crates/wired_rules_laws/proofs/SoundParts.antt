@@ -8,7 +8,7 @@ use native.Mathlib.Omega.{arith}
 use lib.ListN.{length}
 use Rattle.words.specs.Sets.{member}
 use Rattle.words.proofs.TestsLaws.{and-first, and-second, and-both}
-use Rattle.domain.specs.Domain.{Domain, byMessages}
+use Rattle.domain.specs.Domain.{Domain, byMessages, sends}
 use Rattle.domain.specs.Slot.{sourceAt}
 use Rattle.domain_laws.specs.Shape.{DomainShaped}
 use Rattle.wired_state.specs.Wires.{Wired}
@@ -18,7 +18,7 @@ use Rattle.wired_rules.specs.Rules.{configRange, generatedRange, structureRange
 use Rattle.wired_rules.specs.Rules.{generatedRule}
 use Rattle.wired_rules.specs.Rules.{sourceRule, domainSound, delegatedRule, wiredSound}
 use Rattle.words.proofs.EveryLaws.{every-each, every-of}
-use Rattle.wired_rules_laws.specs.Steady.{Steady, sends, Quiet, WiredSteady, WiredQuiet}
+use Rattle.wired_rules_laws.specs.Steady.{Steady, Quiet, WiredSteady, WiredQuiet}
 
 -- ---- a joined test
 

@@ -16,7 +16,7 @@ use Rattle.domain_region.specs.declared.Word.{Word}
 use Rattle.domain_region.specs.declared.Word.the-variants.{Genmsi, Target}
 use Rattle.source.specs.Pending.{retargeted}
 use Rattle.source_laws.proofs.SentEffects.{sent-retargeted}
-use Rattle.domain.specs.Domain.{Domain, byMessages}
+use Rattle.domain.specs.Domain.{Domain, byMessages, sends}
 use Rattle.domain.specs.Slot.{sourceAt}
 use Rattle.domain_writes.specs.Writes.{targetWritten}
 use Rattle.domain_registers.specs.Read.{claimedBy}
@@ -28,7 +28,7 @@ use Rattle.wired_registers.specs.Wired.{writtenAs, writtenIn}
 use Rattle.wired_sourcecfg.proofs.DelegationLaws.{root-stays, root-moves}
 use Rattle.wired_registers.proofs.WiredLaws.{written-cases}
 use Rattle.wired_rules.specs.Rules.{delegatedRule}
-use Rattle.wired_rules_laws.specs.Steady.{sends, Quiet, WiredSteady, WiredQuiet}
+use Rattle.wired_rules_laws.specs.Steady.{Quiet, WiredSteady, WiredQuiet}
 use Rattle.wired_rules_laws.proofs.QuietEffects.{quiet-started, quiet-withSource}
 use Rattle.wired_rules_laws.proofs.ConfigEffects.{quiet-generatedWritten}
 use Rattle.wired_rules_laws.proofs.ReadEffects.{quiet-claimedBy}

@@ -9,12 +9,12 @@
 -- c says that the domain is the child.
 use Prim.Native.Nat.{ℕ, _≤_, _<_}
 use mathlib.Core.Path.{_≡_}
-use mathlib.Core.Bool.{Bool, true, false, _&&_}
+use mathlib.Core.Bool.{Bool, true, false}
 use mathlib.Core.List.{List}
 use lib.ListN.{length}
 use Rattle.sizes.specs.Sizes.{hartCount, slotCount, sourceSetSize}
 use Rattle.words.specs.Sets.{member}
-use Rattle.domain.specs.Domain.{Domain, isEnabled, byMessages}
+use Rattle.domain.specs.Domain.{Domain, byMessages, sends}
 use Rattle.domain.specs.Slot.{sourceAt}
 use Rattle.domain_laws.specs.Shape.{DomainShaped}
 use Rattle.domain_sending.specs.Sending.{sent}
@@ -38,10 +38,6 @@ pub record Steady (c : Bool) (ws : List ℕ) (d : Domain) : Type 0 where
 pub record DomainKept (c : Bool) (ws : List ℕ) (d d′ : Domain) : Type 0 where
   pub steady : Steady c ws d′
   pub modes : (i : ℕ) → 1 ≤ i → i < slotCount → sourceAt d′ i .mode ≡ sourceAt d i .mode
-
--- the domain sends: IE and DM
-abbrev pub sends : Domain → Bool
-sends d = isEnabled d && byMessages d
 
 abbrev pub Quiet : Domain → Type 0
 Quiet d = (i : ℕ) → 1 ≤ i → i < slotCount → sentRule (sends d) (sourceAt d i) ≡ true
