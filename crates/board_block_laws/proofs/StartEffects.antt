@@ -21,6 +21,7 @@ use Rattle.domain_laws.specs.Shape.{DomainShaped}
 use Rattle.domain_config.specs.Config.{keptConfig}
 use Rattle.wired_state.specs.Wires.{isDelegated}
 use Rattle.source_rules.specs.SourceRules.{modeRange, targetRange, inactiveRule, levelRule, sourceSteady}
+use Rattle.source.specs.Pending.{candidate}
 use Rattle.source_rules.specs.SourceRules.{sentRule, sourceSound}
 use Rattle.wired_rules.specs.Rules.{configRange, generatedRange, structureRange, sourceZeroRule}
 use Rattle.wired_rules.specs.Rules.{generatedRule}
@@ -38,10 +39,10 @@ start-files-sound = refl
 
 start-wired-sound : wiredSound (startBoard .wired) ≡ true
 unfolding startBoard startDomain wiredSound domainSound configRange generatedRange structureRange
-    sourceZeroRule generatedRule sourceRule delegatedRule sourceSound sourceSteady sentRule modeRange
-    targetRange inactiveRule levelRule isDelegated keptConfig structureAt sourceAt configOf isEnabled
-    byMessages generatedAt deliverySound keptGenerated isActive isLevel keptMode sourceWord every member
-    hasBit bitOf hartOf numberOf fieldOf packed
+    sourceZeroRule generatedRule sourceRule delegatedRule sourceSound sourceSteady sentRule candidate
+    modeRange targetRange inactiveRule levelRule isDelegated keptConfig structureAt sourceAt configOf
+    isEnabled byMessages generatedAt deliverySound keptGenerated isActive isLevel keptMode sourceWord every
+    member hasBit bitOf hartOf numberOf fieldOf packed
 start-wired-sound = refl
 
 pub start-sound : boardSound startBoard ≡ true

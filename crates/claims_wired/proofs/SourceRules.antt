@@ -18,7 +18,7 @@ use Rattle.source_target.specs.Target.{hartOf, numberOf, receiverOf, keptTarget
 use Rattle.domain_genmsi.specs.Genmsi.{keptGenerated}
 use Rattle.source_target.proofs.TargetLaws.{kept-first, kept-priority}
 use Rattle.source.specs.declared.Source.{Source}
-use Rattle.source.specs.Pending.{inactive}
+use Rattle.source.specs.Pending.{inactive, candidate}
 use Rattle.domain_config.specs.Config.{keptConfig}
 use Rattle.source_rules.specs.SourceRules.{levelRule, sourceSteady, sentRule}
 use Rattle.source_laws.proofs.ModeEffects.{range-cases, range-delegated}
@@ -118,12 +118,12 @@ level-of true false true false a b = b refl refl refl
 level-of true false false true a b = a refl refl
 level-of true false false false a b = refl
 
-sent-on : (sends active p e : Bool) → not (sends && active && p && e) ≡ true
+sent-on : (sends active p e : Bool) → not (sends && (active && p && e)) ≡ true
     → sends ≡ true → active ≡ true → p ≡ true → e ≡ false
 sent-on sends active p e rule a b c = not-true e (rw (a, b, c) at rule)
 
 sent-of : (sends active p e : Bool) → (sends ≡ true → active ≡ true → p ≡ true → e ≡ false)
-    → not (sends && active && p && e) ≡ true
+    → not (sends && (active && p && e)) ≡ true
 sent-of true true true e f = rw (f refl refl refl)
 sent-of true true false e f = refl
 sent-of true false p e f = refl
@@ -131,7 +131,7 @@ sent-of false active p e f = refl
 
 module _ (c m sends wire : Bool) (s : Source) where
   pub source-on : sourceSteady c m wire s ≡ true → sentRule sends s ≡ true → SourceRules c m sends wire s
-  unfolding levelRule sentRule
+  unfolding levelRule sentRule candidate
   source-on e q =
       let level = level-on (isLevel (s .mode)) m (isRectified (s .mode) wire) (s .pending)
       (steady-level c m wire s e) in
@@ -163,5 +163,5 @@ module _ (c m sends wire : Bool) (s : Source) where
         rw same (steady-zeros c m wire (s .mode) range f))
 
     pub source-sent : sentRule sends s ≡ true
-    unfolding sentRule
+    unfolding sentRule candidate
     source-sent = sent-of sends (isActive (s .mode)) (s .pending) (s .enabled) (r .sent)

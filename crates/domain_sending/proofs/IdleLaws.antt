@@ -2,7 +2,7 @@
 -- file. Assumes nothing.
 use Prim.Native.Nat.{ℕ, zero, suc, _/_, _%_, _<_}
 use mathlib.Core.Path.{_≡_, sym, ap, ap₂, _∙_}
-use mathlib.Core.Bool.{Bool, true, false, _&&_, and-assoc, and-false}
+use mathlib.Core.Bool.{Bool, true, false, _&&_}
 use mathlib.Core.List.{List}
 use native.Mathlib.Omega.{arith}
 use lib.Bits.{bitAnd}
@@ -11,8 +11,7 @@ use borrow.Author.Tests.{eqb-true}
 use Rattle.words.specs.Bits.{hasBit}
 use Rattle.words.proofs.BitsLaws.{hasBit-and, hasBit-nothing}
 use Rattle.words.proofs.TestsLaws.{and-first, and-second}
-use Rattle.source_mode.specs.Mode.{isActive}
-use Rattle.source.specs.declared.Source.{Source}
+use Rattle.source.proofs.PendingLaws.{not-candidate}
 use Rattle.domain.specs.Domain.{Domain, domainOf}
 use Rattle.domain.specs.Slot.{sourceAt}
 use Rattle.domain.proofs.DomainLaws.{read-pending, read-enable}
@@ -20,12 +19,6 @@ use Rattle.domain.proofs.SlotLaws.{bit-pending, bit-enabled}
 use Rattle.domain_sending.specs.Sending.{candidate, sentNothing, sentFrom}
 use Rattle.domain_sending.specs.Idle.{idleWord, idle}
 use Rattle.domain_sending.proofs.SendingLaws.{from-none}
-
--- a source that is not both pending and enabled is no candidate
-not-candidate : (s : Source) → (s .pending && s .enabled) ≡ false → candidate s ≡ false
-unfolding candidate
-not-candidate s e =
-    and-assoc (isActive (s .mode)) (s .pending) (s .enabled) ∙ rw e (and-false (isActive (s .mode)))
 
 idle-words : (d : Domain) → idle d ≡ true → (k : ℕ) → k < 2 → idleWord d k ≡ true
 unfolding idle

@@ -1,6 +1,6 @@
 -- What a domain sends by messages. 01, "The wired controller"; the standard 4.5.1, 4.7, 4.9.
 -- Assumes nothing.
---   candidate s         a source that is to be sent: active, pending and enabled
+--   candidate s         a source that is to be sent: Rattle.source
 --   Sent                a domain after the pass over its sources, and the messages sent, in order
 --   servedAt d i        d after the turn of source i: if it was to be sent, its pending bit is clear
 --   messagesAt c d i    what source i sends at its turn: one message if it is to be sent, else none
@@ -9,19 +9,15 @@
 --   logged l ms         the log l after the messages ms: they come first, the later words stay
 -- c says that the domain is the child.
 use Prim.Native.Nat.{ℕ, zero, suc}
-use mathlib.Core.Bool.{Bool, false, cond, _&&_}
+use mathlib.Core.Bool.{Bool, false, cond}
 use mathlib.Core.List.{List, [], _∷_, _++_}
 use lib.ListN.{length, drop}
 use Rattle.sizes.specs.Sizes.{sourceCount}
-use Rattle.source_mode.specs.Mode.{isActive}
 use Rattle.source_target.specs.Target.{messageOf}
-use Rattle.source.specs.declared.Source.{Source}
 use Rattle.source.specs.Pending.{withPending}
 use Rattle.domain.specs.Domain.{Domain, sends}
 use Rattle.domain.specs.Slot.{sourceAt, withSource}
-
-unfoldable pub candidate : Source → Bool
-candidate s = isActive (s .mode) && s .pending && s .enabled
+unfoldable pub use Rattle.source.specs.Pending.{candidate}
 
 pub record Sent : Type 0 where
   pub domain : Domain

@@ -5,21 +5,13 @@ ghost use lib.ListN.{length};
 ghost use lib.Seq.{sets};
 ghost use Rattle.sizes.specs.Sizes.{sourceCount, slotCount, domainSize, logSize};
 ghost use Rattle.domain.specs.Domain.{domainOf};
-ghost use Rattle.domain_sending.specs.Sending.{candidate, servedAt, messagesAt, sentFrom, sent, logged};
+ghost use Rattle.domain_sending.specs.Sending.{servedAt, messagesAt, sentFrom, sent, logged};
 use super::waiting::idle;
 use super::waiting::sends;
 use domain::load;
 use domain::store;
 use sizes::SLOT_COUNT;
-use source::Source;
-use source_mode::active;
 use source_target::message;
-
-fn candidate(s: Source) -> bool
-    ensures { λ r. ⌜ r ≡ candidate s ⌝ }
-{
-    active(s.mode) & s.pending & s.enabled
-}
 
 // The turn of source `i`, with `n` messages in the log. Answers how many there are then.
 fn serve(part: &mut [u32], child: bool, log: &mut [u32], i: usize, n: usize) -> usize
@@ -31,7 +23,7 @@ fn serve(part: &mut [u32], child: bool, log: &mut [u32], i: usize, n: usize) -> 
         × (r ≡ n + length (messagesAt child (domainOf (now (part .entry))) i)) ⌝ }
 {
     let mut s = load(part, i);
-    if !candidate(s) {
+    if !s.candidate() {
         return n;
     }
     log[n] = message(child, s.target);

@@ -1,12 +1,13 @@
 -- Laws of specs/Pending.antt, one for each case. No contract cites this file. Assumes nothing.
 use Prim.Native.Nat.{ℕ}
-use mathlib.Core.Path.{_≡_}
-use mathlib.Core.Bool.{Bool, true, false, not, _&&_, _||_, or-false}
+use mathlib.Core.Path.{_≡_, _∙_}
+use mathlib.Core.Bool.{Bool, true, false, not, _&&_, _||_, and-assoc, and-false, or-false}
 use Rattle.source.specs.declared.Source.{Source}
 use Rattle.source_mode.specs.Mode.{isActive, isLevel, isRectified}
 use Rattle.source_target.specs.Target.{startTarget, keptTarget}
 use Rattle.source.specs.Pending.{withPending, withEnabled, withTarget, withMode, inactive, fresh}
 use Rattle.source.specs.Pending.{settled, pended, cleared, switched, moded, redelivered, retargeted}
+use Rattle.source.specs.Pending.{candidate}
 
 module _ (s : Source) (m : Bool) where
   pub settled-messages : (rose high : Bool) → isLevel (s .mode) ≡ true → m ≡ true
@@ -98,3 +99,9 @@ switched-inactive s on a = simp a
 pub switched-active : (s : Source) (on : Bool) → isActive (s .mode) ≡ true → switched s on ≡ withEnabled s on
 unfolding switched
 switched-active s on a = simp a
+
+-- a source that is not both pending and enabled is not to be sent
+pub not-candidate : (s : Source) → (s .pending && s .enabled) ≡ false → candidate s ≡ false
+unfolding candidate
+not-candidate s e =
+    and-assoc (isActive (s .mode)) (s .pending) (s .enabled) ∙ rw e (and-false (isActive (s .mode)))

@@ -9,6 +9,7 @@
 --   moded s m mode wire       s after its sourcecfg word became mode
 --   redelivered s m wire      s after the domain's delivery mode became m
 --   retargeted s c m v        s after v was written to its target, in the child domain (c) or the machine's
+--   candidate s               s is to be sent, where its domain sends: active, pending and enabled
 -- m is the delivery mode: true for messages, false for direct.
 use Prim.Native.Nat.{ℕ}
 use mathlib.Core.Bool.{Bool, true, false, cond, not, _&&_, _||_}
@@ -80,3 +81,6 @@ redelivered s m wire =
 
 unfoldable pub retargeted : Source → Bool → Bool → ℕ → Source
 retargeted s c m v = cond (isActive (s .mode)) (withTarget s (keptTarget c m v)) s
+
+unfoldable pub candidate : Source → Bool
+candidate s = isActive (s .mode) && s .pending && s .enabled

@@ -1,7 +1,7 @@
 // What happens to a source. `messages` is the domain's delivery mode: false is direct, true by messages.
 ghost use mathlib.Core.Path.{_≡_};
 ghost use Rattle.source.specs.Pending.{settled, wireChanged, pended, cleared, switched};
-ghost use Rattle.source.specs.Pending.{changed, moded, redelivered, retargeted};
+ghost use Rattle.source.specs.Pending.{changed, moded, redelivered, retargeted, candidate};
 use super::Change;
 use super::Source;
 use source_mode::active;
@@ -117,6 +117,13 @@ impl Source {
             self.target = kept_target(child, messages, value);
         }
         self
+    }
+
+    // To be sent, where the domain sends.
+    pub fn candidate(self) -> bool
+        ensures { λ r. ⌜ r ≡ candidate self ⌝ }
+    {
+        active(self.mode) & self.pending & self.enabled
     }
 
     // A write that names the source to one of the four families.

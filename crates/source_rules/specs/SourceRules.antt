@@ -6,7 +6,7 @@
 --   levelRule m wire s           a level source is pending only if its rectified value is high, and in direct
 --                                mode exactly then
 --   sourceSteady c m wire s      these four: they hold also in the middle of a call, before anything is sent
---   sentRule sends s             where the domain sends, s is not active, pending and enabled
+--   sentRule sends s             where the domain sends, s is not to be sent: it is no candidate
 --   sourceSound c m sends wire s all of these
 -- c says that the domain is the child, m is the delivery mode, true for messages; sends says that it has IE
 -- and DM. "Stored numbers lie in the ranges above" is said so: to write the number would store it as it is.
@@ -15,6 +15,7 @@ use lib.Dec.{eqb}
 use Rattle.source_mode.specs.Mode.{isActive, isLevel, isRectified, sourceWord}
 use Rattle.source_target.specs.Target.{keptTarget}
 use Rattle.source.specs.declared.Source.{Source}
+use Rattle.source.specs.Pending.{candidate}
 
 unfoldable pub modeRange : Bool → Source → Bool
 modeRange c s = eqb (s .mode) (sourceWord c true (s .mode))
@@ -34,7 +35,7 @@ unfoldable pub sourceSteady : Bool → Bool → Bool → Source → Bool
 sourceSteady c m wire s = modeRange c s && targetRange c m s && inactiveRule s && levelRule m wire s
 
 unfoldable pub sentRule : Bool → Source → Bool
-sentRule sends s = not (sends && isActive (s .mode) && s .pending && s .enabled)
+sentRule sends s = not (sends && candidate s)
 
 unfoldable pub sourceSound : Bool → Bool → Bool → Bool → Source → Bool
 sourceSound c m sends wire s = sourceSteady c m wire s && sentRule sends s

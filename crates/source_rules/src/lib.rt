@@ -36,7 +36,7 @@ pub fn level_rule(messages: bool, wire: bool, s: Source) -> bool
 pub fn sent_rule(sends: bool, s: Source) -> bool
     ensures { λ r. ⌜ r ≡ sentRule sends s ⌝ }
 {
-    !(sends & active(s.mode) & s.pending & s.enabled)
+    !(sends & s.candidate())
 }
 
 pub fn source_sound(child: bool, messages: bool, sends: bool, wire: bool, s: Source) -> bool

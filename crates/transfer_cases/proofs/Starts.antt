@@ -36,6 +36,7 @@ use Rattle.domain.specs.Structure.{structureAt}
 use Rattle.domain_config.specs.Config.{keptConfig}
 use Rattle.wired_state.specs.Wires.{wiredOf, isDelegated}
 use Rattle.source_rules.specs.SourceRules.{modeRange, targetRange, inactiveRule, levelRule, sourceSteady}
+use Rattle.source.specs.Pending.{candidate}
 use Rattle.source_rules.specs.SourceRules.{sentRule, sourceSound}
 use Rattle.wired_rules.specs.Rules.{configRange, generatedRange, structureRange, sourceZeroRule}
 use Rattle.wired_rules.specs.Rules.{generatedRule}
@@ -72,11 +73,11 @@ unfoldable pub blockTests : Board → Bool
 unfolding allBelow every wordsOf fileWords domainWords wiredWords blockOf file.fileSound file.deliveryRule
     file.thresholdRule file.zeroRule soundAt filesSound keptMode sourceWord keptGenerated deliverySound
     generatedAt structureAt keptConfig isDelegated modeRange targetRange inactiveRule levelRule sourceSteady
-    sentRule sourceSound configRange generatedRange structureRange sourceZeroRule generatedRule sourceRule
-    domainSound delegatedRule wiredSound boardSound sourceAt configOf isEnabled byMessages hartOf guestOf
-    numberOf receiverOf keptTarget isActive isLevel isRectified isGuest theFile deliveryLegal fieldOf packed
-    member bitOf hasBit startFile startFilesFrom startDomain startBoard renamed fileNumber withFile station
-    machineDomain childTo wiredTo boardWith boardOf filesOf filesFrom fileAt wiredOf domainOf
+    sentRule candidate sourceSound configRange generatedRange structureRange sourceZeroRule generatedRule
+    sourceRule domainSound delegatedRule wiredSound boardSound sourceAt configOf isEnabled byMessages hartOf
+    guestOf numberOf receiverOf keptTarget isActive isLevel isRectified isGuest theFile deliveryLegal fieldOf
+    packed member bitOf hasBit startFile startFilesFrom startDomain startBoard renamed fileNumber withFile
+    station machineDomain childTo wiredTo boardWith boardOf filesOf filesFrom fileAt wiredOf domainOf
 blockTests b = eqb (length (blockOf b)) 650 && allBelow (2 ^ 32) (blockOf b) && boardSound b
 
 unfoldable pub freshTest : Stations → Board → ℕ → Bool

@@ -1,8 +1,8 @@
 -- The pass of messages keeps the rules of a domain and leaves it with all sent, and where all is sent
 -- already it changes nothing and sends nothing. No contract cites this file. Assumes nothing.
 use Prim.Native.Nat.{ℕ, _≤_, _<_}
-use mathlib.Core.Path.{_≡_, refl, ap, _∙_}
-use mathlib.Core.Bool.{Bool, true, false, cond, not}
+use mathlib.Core.Path.{_≡_, ap, _∙_}
+use mathlib.Core.Bool.{Bool, true, false, cond}
 use mathlib.Core.List.{List}
 use native.Mathlib.Omega.{arith}
 use lib.ListN.{getD}
@@ -20,8 +20,9 @@ use Rattle.domain_sending.proofs.SendingLaws.{sent-off}
 use Rattle.domain_sending_laws.specs.Candidates.{spent}
 use Rattle.domain_sending_laws.proofs.SendingEffects.{spent-hit, spent-miss, sent-rest, sent-other, sent-long}
 use Rattle.domain_sending_laws.proofs.SendingEffects.{sent-source, sent-quiet, sent-none}
-use Rattle.source_rules.specs.SourceRules.{sourceSteady, sentRule}
+use Rattle.source_rules.specs.SourceRules.{sourceSteady}
 use Rattle.source_laws.proofs.SteadyEffects.{steady-unpended}
+use Rattle.source_laws.proofs.SentEffects.{sent-sends, sent-silent}
 use Rattle.wired_rules_laws.specs.Steady.{Steady, DomainKept, Quiet}
 use Rattle.wired_rules_laws.proofs.ModeEffects.{spent-mode}
 use Rattle.wired_rules_laws.proofs.SteadyEffects.{steady-touched, became-modes}
@@ -100,20 +101,15 @@ module _ (c : Bool) (ws : List ℕ) (d : Domain) (s : Steady c ws d) where
 
 -- ---- and all is sent
 
--- a domain that sends has a source sent where it is no candidate
-rule-candidate : (s : Source) → sentRule true s ≡ not (candidate s)
-unfolding sentRule candidate
-rule-candidate s = refl
-
 module _ (c : Bool) (d : Domain) where
   pub quiet-sent : Quiet (sent c d .domain)
   quiet-sent i l h =
       rw (sends-same d (sent c d .domain) (config-sent c d))
-      (tested (sends d) (λ t. rw (t, rule-candidate, sent-quiet c d t i l h))
-      (λ f. rw f (unfold sentRule in refl)))
+      (tested (sends d) (λ t. rw (t, sent-sends, sent-quiet c d t i l h))
+      (λ f. rw (f, sent-silent)))
 
   pub quiet-candidate : Quiet d → sends d ≡ true → (i : ℕ) → 1 ≤ i → i < 64 → candidate (sourceAt d i) ≡ false
-  quiet-candidate q t i l h = not-true (candidate (sourceAt d i)) (rw (t, rule-candidate) at (q i l h))
+  quiet-candidate q t i l h = not-true (candidate (sourceAt d i)) (rw (t, sent-sends) at (q i l h))
 
   pub sent-again : Quiet d → sent c d ≡ sentNothing d
   sent-again q = tested (sends d) (λ t. sent-none c d (quiet-candidate q t)) (sent-off c d)

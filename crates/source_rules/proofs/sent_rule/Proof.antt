@@ -6,15 +6,13 @@ use borrow.Author.Needs.{needs}
 use Rattle.source_rules.proofs.sent_rule.Statement.{statement}
 use Rattle.source_rules.proofs.sent_rule.Tie as tie
 
-active-requires : tie.Need-active-requires
-active-requires c κs = search needs
+candidate-requires : tie.Need-candidate-requires
+candidate-requires c κs = search needs
 
 returns : tie.Need-returns
 unfolding sentRule
 returns c =
-    let args = c .before .before .before .args in
-    ap (λ (b : Bool). not (args .sends && b && args .s .pending && args .s .enabled))
-    (c .before .before .active .ensures)
+    ap (λ (b : Bool). not (c .before .args .sends && b)) (c .candidate .ensures)
 
 pub sent-rule-spec : {M : Type 1} → statement M
-sent-rule-spec = tie.close (tie.spec active-requires returns)
+sent-rule-spec = tie.close (tie.spec candidate-requires returns)

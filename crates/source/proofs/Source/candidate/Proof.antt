@@ -1,10 +1,10 @@
--- `domain_sending::sources::candidate` meets its contract. Assumes nothing.
+-- `source::Source::candidate` meets its contract. Assumes nothing.
 use mathlib.Core.Path.{ap}
 use mathlib.Core.Bool.{Bool, _&&_}
-use Rattle.domain_sending.specs.Sending.{candidate}
+use Rattle.source.specs.Pending.{candidate}
 use borrow.Author.Needs.{needs}
-use Rattle.domain_sending.proofs.sources.candidate.Statement.{statement}
-use Rattle.domain_sending.proofs.sources.candidate.Tie as tie
+use Rattle.source.proofs.Source.candidate.Statement.{statement}
+use Rattle.source.proofs.Source.candidate.Tie as tie
 
 active-requires : tie.Need-active-requires
 active-requires c κs = search needs
@@ -12,7 +12,7 @@ active-requires c κs = search needs
 returns : tie.Need-returns
 unfolding candidate
 returns c =
-    let s = c .before .before .before .args .s in
+    let s = c .before .before .before .args .self in
     ap (λ (b : Bool). b && s .pending && s .enabled) (c .before .before .active .ensures)
 
 pub candidate-spec : {M : Type 1} → statement M
