@@ -1,6 +1,9 @@
 -- What happens to a source, its pending bit above all. 01, "The wired controller"; the standard 4.5.2, 4.7.
 -- Assumes nothing.
 --   settled s m rose high     s after its rectified value rose, or did not, and now is high, or is not
+--   otherPending s rose       the pending bit of s then, if it is no level source
+--   directPending high        of a level source in direct mode
+--   messagesPending s rose high    of a level source by messages
 --   wireChanged s m was is    s after its wire went from was to is
 --   pended s m wire           s after a write of the setip family
 --   cleared s m               s after a write of the in_clrip family, or a claim
@@ -39,11 +42,28 @@ inactive m = record { mode = m; target = 0; pending = false; enabled = false }
 abbrev pub fresh : Bool → ℕ → Source
 fresh m mode = record { mode = mode; target = startTarget m; pending = false; enabled = false }
 
--- in direct mode a level source is pending exactly while it is high; by messages it falls with a low value
+-- ---- the pending bit by the rectified value
+
+-- a source that is no level source: a rise sets it, else it stays (4.7); a detached source has no rise
+abbrev pub otherPending : Source → Bool → Bool
+otherPending s rose = s .pending || rose
+
+-- a level source in direct mode: a copy of the rectified value (4.7)
+abbrev pub directPending : Bool → Bool
+directPending high = high
+
+-- a level source by messages: a rise sets it, and it is cleared whenever the rectified value is low (4.7)
+abbrev pub messagesPending : Source → Bool → Bool → Bool
+messagesPending s rose high = high && (s .pending || rose)
+
+abbrev pub levelPending : Source → Bool → Bool → Bool → Bool
+levelPending s m rose high = cond m (messagesPending s rose high) (directPending high)
+
 unfoldable pub settled : Source → Bool → Bool → Bool → Source
 settled s m rose high =
-    withPending s
-    (cond (isLevel (s .mode)) (cond m (high && (s .pending || rose)) high) (s .pending || rose))
+    withPending s (cond (isLevel (s .mode)) (levelPending s m rose high) (otherPending s rose))
+
+-- ---- what happens to the source
 
 unfoldable pub wireChanged : Source → Bool → Bool → Bool → Source
 wireChanged s m was is =
