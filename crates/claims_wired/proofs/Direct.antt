@@ -10,6 +10,7 @@ use Rattle.words.proofs.TestsLaws.{tested, and-first, and-second, or-cases}
 use Rattle.source_target.specs.Target.{hartOf, numberOf}
 use Rattle.source.specs.declared.Source.{Source}
 use Rattle.domain_delivery.specs.declared.Delivery.{Delivery}
+use Rattle.words.specs.Threshold.{passes}
 use Rattle.domain_delivery.specs.Delivery.{lets}
 use Rattle.domain.specs.Domain.{Domain, configOf, generatedAt}
 use Rattle.domain.specs.Slot.{sourceAt}
@@ -47,13 +48,13 @@ claim-47 = signal-iff
 
 module _ (x : Delivery) (p : ℕ) where
   lets-on : lets x p ≡ true → (x .ithreshold ≡ 0) ⊎ (p < x .ithreshold)
-  unfolding lets
+  unfolding lets passes
   lets-on e =
       ⊎-elim (λ t. inl (eqb-true (x .ithreshold) 0 t)) (λ t. inr (ltb-true p (x .ithreshold) t))
       (or-cases (eqb (x .ithreshold) 0) (ltb p (x .ithreshold)) e)
 
   lets-of : (x .ithreshold ≡ 0) ⊎ (p < x .ithreshold) → lets x p ≡ true
-  unfolding lets
+  unfolding lets passes
   lets-of =
       ⊎-elim (λ z. simp (eq-eqb (x .ithreshold) 0 z)) (λ l. simp (lt-ltb p (x .ithreshold) l, or-true))
 

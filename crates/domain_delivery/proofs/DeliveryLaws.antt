@@ -1,14 +1,14 @@
 -- Laws of specs/Delivery.antt. No contract cites this file. Assumes nothing.
 use Prim.Native.Nat.{ℕ, _%_, _≤_, _<_}
-use mathlib.Core.Path.{_≡_, refl, _∙_}
+use mathlib.Core.Path.{_≡_, refl}
 use mathlib.Core.Bool.{Bool, true, false, not, _&&_, and-false, or-true}
 use mathlib.Core.Logic.{_≢_, _↔_, _⊎_, inl, inr, ⊎-elim}
-use native.Mathlib.Nat.{le-refl}
 use native.Mathlib.Omega.{arith}
 use lib.Dec.{eqb, leb, ltb}
 use borrow.Author.Tests.{eqb-true, eqb-false, leb-true, ltb-true, not-true}
-use borrow.Author.Tests.{lt-ltb, le-ltb, le-leb, lt-leb, eq-eqb, ne-eqb}
+use borrow.Author.Tests.{lt-ltb, le-leb, lt-leb, eq-eqb, ne-eqb}
 use Rattle.words.proofs.TestsLaws.{tested, and-first, and-second, and-both, or-cases}
+use Rattle.words.proofs.ThresholdLaws.{passes-itself}
 use Rattle.domain_delivery.specs.declared.Delivery.{Delivery}
 use Rattle.domain_delivery.specs.Delivery.{switchOf, withIdelivery, withIforce, withIthreshold}
 use Rattle.domain_delivery.specs.Delivery.{withoutForce}
@@ -107,18 +107,10 @@ module _ (d : Delivery) (sound : deliverySound d ≡ true) where
 
 -- ---- the threshold
 
-module _ (d : Delivery) where
-  pub lets-zero : (p : ℕ) → d .ithreshold ≡ 0 → lets d p ≡ true
-  unfolding lets
-  lets-zero p e = simp (eq-eqb (d .ithreshold) 0 e)
-
-  pub lets-below : (p : ℕ) → d .ithreshold ≢ 0 → lets d p ≡ ltb p (d .ithreshold)
-  unfolding lets
-  lets-below p n = simp (ne-eqb (d .ithreshold) 0 n)
-
-  -- a threshold shuts out its own priority
-  pub lets-threshold : d .ithreshold ≢ 0 → lets d (d .ithreshold) ≡ false
-  lets-threshold n = lets-below (d .ithreshold) n ∙ le-ltb (d .ithreshold) _ (le-refl _)
+-- it shuts out its own priority
+pub lets-threshold : (d : Delivery) → d .ithreshold ≢ 0 → lets d (d .ithreshold) ≡ false
+unfolding lets
+lets-threshold d n = passes-itself (d .ithreshold) n
 
 -- ---- the signal
 

@@ -6,12 +6,13 @@
 --   withIthreshold d v    d after a write to ithreshold, of which the low 8 bits are kept (4.8.1.3)
 --   withoutForce d        d after a claimi that answered 0 (4.8.1.5)
 --   deliverySound d       the numbers lie in their ranges: the first two 0 or 1, the threshold below 256
---   lets d p              the threshold lets priority p through: it is 0, or p is below it (4.8.1.3)
+--   lets d p              the threshold lets priority p through (4.8.1.3)
 --   structureSignals d e t   the signal to the hart, with IE e and topi t, in direct mode (4.8.2)
--- All 32 bits of a written v count for the first two. A threshold P shuts out P itself.
+-- All 32 bits of a written v count for the first two.
 use Prim.Native.Nat.{ℕ, _%_}
 use mathlib.Core.Bool.{Bool, cond, not, _&&_, _||_}
 use lib.Dec.{eqb, leb, ltb}
+use Rattle.words.specs.Threshold.{passes}
 use Rattle.domain_delivery.specs.declared.Delivery.{Delivery}
 
 unfoldable pub switchOf : ℕ → ℕ → ℕ
@@ -35,7 +36,7 @@ unfoldable pub deliverySound : Delivery → Bool
 deliverySound d = leb (d .idelivery) 1 && leb (d .iforce) 1 && ltb (d .ithreshold) 256
 
 unfoldable pub lets : Delivery → ℕ → Bool
-lets d p = eqb (d .ithreshold) 0 || ltb p (d .ithreshold)
+lets d p = passes (d .ithreshold) p
 
 unfoldable pub structureSignals : Delivery → Bool → ℕ → Bool
 structureSignals d e t = e && eqb (d .idelivery) 1 && (not (eqb (d .iforce) 0) || not (eqb t 0))

@@ -66,10 +66,7 @@ impl Delivery {
     pub fn lets(self, priority: u32) -> bool
         ensures { λ r. ⌜ r ≡ lets self priority ⌝ }
     {
-        if self.ithreshold == 0 {
-            return true;
-        }
-        priority < self.ithreshold
+        words::passes(self.ithreshold, priority)
     }
 
     // The signal to the hart of a domain in direct mode: `enabled` is its IE, `top` the structure's topi.

@@ -10,8 +10,8 @@ use mathlib.Core.Path.{_≡_, refl, sym, ap, ap₂, _∙_}
 use mathlib.Core.Bool.{Bool, true, false, not, _&&_, and-false}
 use mathlib.Core.Logic.{_≢_}
 use native.Mathlib.Omega.{arith}
-use lib.Dec.{eqb, ltb}
-use borrow.Author.Tests.{eq-eqb, ne-eqb, eqb-true, eqb-false, le-ltb}
+use lib.Dec.{eqb}
+use borrow.Author.Tests.{eq-eqb, ne-eqb, eqb-true, eqb-false}
 use Rattle.words.specs.Sets.{member, remove}
 use Rattle.words.proofs.TestsLaws.{tested, and-first, and-second, from-next}
 use Rattle.file.specs.declared.File.{File}
@@ -125,18 +125,6 @@ module _ (f : File) (i : ℕ) where
       → qualifies f i ≡ passes (f .threshold) i
   unfolding qualifies
   qualifies-standing p e = simp (p, e)
-
--- threshold 0 lets all through; any other what is below it, so never itself
-pub passes-zero : (i : ℕ) → passes 0 i ≡ true
-unfolding passes
-passes-zero i = refl
-
-pub passes-below : (t i : ℕ) → t ≢ 0 → passes t i ≡ ltb i t
-unfolding passes
-passes-below t i h = simp (ne-eqb t 0 h)
-
-pub passes-itself : (t : ℕ) → t ≢ 0 → passes t t ≡ false
-passes-itself t h = passes-below t t h ∙ le-ltb t t (omega arith)
 
 -- ---- the top
 

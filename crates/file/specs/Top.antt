@@ -1,6 +1,6 @@
 -- A file's top interrupt and what depends on it. 01, "One message file"; the standard 3.8, 3.10. Assumes
 -- nothing.
---   passes t i         threshold t lets identity i through: t is 0, or i is below t
+--   passes t i         threshold t lets identity i through: Rattle.words
 --   qualifies f i      i is pending and enabled, and the threshold lets it through
 --   lowest p i k       the least of the k numbers from i on at which p holds, or 0
 --   topIdentity n f    the lowest identity of 1 to n that qualifies, or 0
@@ -8,14 +8,12 @@
 --   claimed n f        f after a claim: the top's pending bit cleared; with no top, f
 --   signals n f        f signals by itself: delivery is 1 and the top is not 0
 use Prim.Native.Nat.{ℕ, zero, suc, _+_, _*_}
-use mathlib.Core.Bool.{Bool, cond, not, _&&_, _||_}
-use lib.Dec.{eqb, ltb}
+use mathlib.Core.Bool.{Bool, cond, not, _&&_}
+use lib.Dec.{eqb}
 use Rattle.words.specs.Sets.{member, remove}
 use Rattle.file.specs.declared.File.{File}
 use Rattle.file.specs.Parts.{withPendingSet}
-
-unfoldable pub passes : ℕ → ℕ → Bool
-passes t i = eqb t 0 || ltb i t
+unfoldable pub use Rattle.words.specs.Threshold.{passes}
 
 unfoldable pub qualifies : File → ℕ → Bool
 qualifies f i = member (f .pending) i && member (f .enable) i && passes (f .threshold) i

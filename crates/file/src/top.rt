@@ -20,17 +20,13 @@ impl File {
         ensures { λ r. ⌜ r ≡ qualifies self i ⌝ }
     {
         let at = (i / 32) as usize;
-        let threshold = self.threshold;
         if !words::has_bit(self.pending[at], i % 32) {
             return false;
         }
         if !words::has_bit(self.enable[at], i % 32) {
             return false;
         }
-        if threshold == 0 {
-            return true;
-        }
-        i < threshold
+        words::passes(self.threshold, i)
     }
 
     // The lowest identity that qualifies, or 0.

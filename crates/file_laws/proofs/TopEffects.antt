@@ -15,7 +15,8 @@ use Rattle.file.specs.declared.File.{File}
 use Rattle.file.specs.Top.{qualifies, topIdentity, topOf, claimed}
 use Rattle.file.proofs.TopLaws.{lowest-ge, lowest-found, lowest-first, lowest-none-1, lowest-none-2}
 use Rattle.file.proofs.TopLaws.{topIdentity-le, topOf-zero-1, topOf-zero-2, claimed-none, claimed-some}
-use Rattle.file.proofs.TopLaws.{qualifies-passes, passes-below}
+use Rattle.words.proofs.ThresholdLaws.{passes-below}
+use Rattle.file.proofs.TopLaws.{qualifies-passes}
 
 module _ (n : ℕ) (f : File) where
   -- the top reads 0 exactly if no identity qualifies

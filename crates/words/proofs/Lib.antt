@@ -4,4 +4,5 @@ pub mod EveryLaws
 pub mod PartsLaws
 pub mod SetsLaws
 pub mod TestsLaws
+pub mod ThresholdLaws
 pub mod ZerosLaws

@@ -3,3 +3,4 @@ pub mod Bits
 pub mod Sets
 pub mod Parts
 pub mod Every
+pub mod Threshold

@@ -1,6 +1,8 @@
-// Bits of words, their bytes, halves and fields: shifts and masks, with their meaning as arithmetic.
+// Bits of words, their bytes, halves and fields: shifts and masks, with their meaning as arithmetic; and the
+// test of a threshold.
 mod bits;
 mod parts;
+mod threshold;
 
 pub use bits::has_bit;
 pub use bits::put_bit;
@@ -14,3 +16,4 @@ pub use parts::joined64;
 pub use parts::low32;
 pub use parts::packed32;
 pub use parts::reversed32;
+pub use threshold::passes;

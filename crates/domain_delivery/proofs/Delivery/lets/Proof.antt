@@ -1,15 +1,15 @@
--- `domain_delivery::Delivery::lets` meets its contract: a threshold of 0, and any other. Assumes nothing.
-use mathlib.Core.Path.{sym}
-use native.Mathlib.Omega.{arith}
-use Rattle.domain_delivery.proofs.DeliveryLaws.{lets-zero, lets-below}
+-- `domain_delivery::Delivery::lets` meets its contract: the test of its threshold. Assumes nothing.
+use borrow.Author.Needs.{needs}
+use Rattle.domain_delivery.specs.Delivery.{lets}
 use Rattle.domain_delivery.proofs.Delivery.lets.Statement.{statement}
 use Rattle.domain_delivery.proofs.Delivery.lets.Tie as tie
 
-returns : tie.Need-returns
-returns c = sym (lets-zero _ _ (omega arith))
+passes-requires : tie.Need-passes-requires
+passes-requires c κs = search needs
 
-returns-2 : tie.Need-returns-2
-returns-2 c = sym (lets-below _ _ (omega arith))
+returns : tie.Need-returns
+unfolding lets
+returns c = c .passes .ensures
 
 pub lets-spec : {M : Type 1} → statement M
-lets-spec = tie.close (tie.spec returns returns-2)
+lets-spec = tie.close (tie.spec passes-requires returns)
