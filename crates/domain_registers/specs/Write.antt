@@ -1,8 +1,9 @@
 -- What a write to a register does to its domain, before anything is sent. 01, "The wired controller", "Direct
 -- delivery and signals"; the standard 4.5, 4.8.1. Assumes nothing.
 --   registerWritten c d ws w v   d after v was written to register w; c: d is the child; ws: the wires
+--   writtenElsewhere d           d as it is: what the write does is not said here, and not done here
 -- setipnum_le takes the value as it is, setipnum_be its four bytes reversed. topi, claimi and what is not
--- named ignore writes. A sourcecfg concerns both domains: it is written elsewhere, and not here.
+-- named ignore writes.
 use Prim.Native.Nat.{ℕ}
 use mathlib.Core.Bool.{Bool}
 use mathlib.Core.List.{List}
@@ -24,9 +25,13 @@ use Rattle.domain_genmsi.specs.Genmsi.{generatedWritten}
 use Rattle.domain_direct.specs.declared.Setting.the-variants as setting
 use Rattle.domain_direct.specs.Direct.{settingWritten}
 
+-- a sourcecfg concerns both domains: what a write to it does is `sourceWritten` of Rattle.wired_sourcecfg
+abbrev pub writtenElsewhere : Domain → Domain
+writtenElsewhere d = d
+
 unfoldable pub registerWritten : Bool → Domain → List ℕ → Word → ℕ → Domain
 registerWritten c d ws Domaincfg v = configWritten d ws v
-registerWritten c d ws (Sourcecfg i) v = d
+registerWritten c d ws (Sourcecfg i) v = writtenElsewhere d
 registerWritten c d ws (Setip k) v = wordChanged d ws Pend k v
 registerWritten c d ws Setipnum v = numberChanged d ws Pend v
 registerWritten c d ws (InClrip k) v = wordChanged d ws Clear k v
