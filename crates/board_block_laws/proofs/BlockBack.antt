@@ -7,7 +7,8 @@ use native.Mathlib.Omega.{arith}
 use lib.ListN.{length, take, drop, length-append, length-take, length-drop}
 use lib.Seq.{take-all, take-add}
 use Rattle.file.specs.declared.File.{File}
-use Rattle.file_laws.proofs.Stored.{Long, words-long}
+use Rattle.file.specs.Shape.{Long}
+use Rattle.file_laws.proofs.Stored.{words-long}
 use Rattle.file_words.specs.Stored.{fileWords}
 use Rattle.files.specs.Files.{filesOf, wordsOf, theFile}
 use Rattle.files.proofs.FilesLaws.{length-filesOf}

@@ -8,10 +8,11 @@ use Rattle.words.specs.Every.{every}
 use Rattle.words.specs.Parts.{fieldOf, packed}
 use Rattle.file_select.specs.Deliveries.{deliveryLegal}
 use Rattle.file.specs.Rules as file
-use Rattle.file_laws.proofs.Stored.{Long}
+use Rattle.file.specs.Shape.{Long}
 use Rattle.files.specs.Files.{isGuest, theFile, soundAt, filesSound}
 use Rattle.source_mode.specs.Mode.{isActive, isLevel, keptMode, sourceWord}
 use Rattle.source_target.specs.Target.{hartOf, numberOf}
+use Rattle.source.specs.Pending.{candidate}
 use Rattle.domain_genmsi.specs.Genmsi.{keptGenerated}
 use Rattle.domain_delivery.specs.Delivery.{deliverySound}
 use Rattle.domain.specs.Domain.{configOf, isEnabled, byMessages, generatedAt}
@@ -21,7 +22,6 @@ use Rattle.domain_laws.specs.Shape.{DomainShaped}
 use Rattle.domain_config.specs.Config.{keptConfig}
 use Rattle.wired_state.specs.Wires.{isDelegated}
 use Rattle.source_rules.specs.SourceRules.{modeRange, targetRange, inactiveRule, levelRule, sourceSteady}
-use Rattle.source.specs.Pending.{candidate}
 use Rattle.source_rules.specs.SourceRules.{sentRule, sourceSound}
 use Rattle.wired_rules.specs.Rules.{configRange, generatedRange, structureRange, sourceZeroRule}
 use Rattle.wired_rules.specs.Rules.{generatedRule}

@@ -4,7 +4,7 @@ use Prim.Native.Nat.{ℕ, _<_}
 use mathlib.Core.Path.{_≡_}
 use lib.ListN.{length}
 use Rattle.sizes.specs.Sizes.{fileCount, sourceSetSize}
-use Rattle.file_laws.proofs.Stored.{Long}
+use Rattle.file.specs.Shape.{Long}
 use Rattle.files.specs.Files.{theFile}
 use Rattle.domain_laws.specs.Shape.{DomainShaped}
 use Rattle.board_block.specs.Block.{Board}

@@ -1,6 +1,5 @@
 -- A file stored is loaded again, a block keeps what stands elsewhere, and a file loaded has the shape. No
 -- contract cites this file. Assumes nothing.
---   Long f    f has eight words in each of its sets
 use Prim.Native.Nat.{ℕ, zero, suc, _+_, _-_, _^_, _≤_, _<_}
 use mathlib.Core.Path.{_≡_, refl, sym, ap, ap₂, _∙_, subst}
 use mathlib.Core.List.{List, [], _∷_, _++_, append-assoc}
@@ -17,6 +16,7 @@ use Rattle.words.specs.Sets.{WordsFit}
 use Rattle.file.specs.declared.File.{File}
 use Rattle.file.specs.Shape.{Shaped}
 use Rattle.file_words.specs.Stored.{fileWords, fileAt, putFile}
+pub use Rattle.file.specs.Shape.{Long}
 
 -- ---- a run of stores, read at a place
 
@@ -70,11 +70,6 @@ part-is l ws at n hl hw h =
 pub file-path : {f h : File} → f .delivery ≡ h .delivery → f .threshold ≡ h .threshold
     → f .pending ≡ h .pending → f .enable ≡ h .enable → f ≡ h
 file-path d t p e = λ k. record { delivery = d k; threshold = t k; pending = p k; enable = e k }
-
--- nothing else of its shape is asked of a file that is stored
-pub record Long (f : File) : Type 0 where
-  pub pendingLong : length (f .pending) ≡ 8
-  pub enableLong : length (f .enable) ≡ 8
 
 pub shaped-long : (f : File) → Shaped f → Long f
 shaped-long f s = record { pendingLong = s .pendingLong; enableLong = s .enableLong }

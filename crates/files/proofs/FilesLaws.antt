@@ -15,7 +15,8 @@ use Rattle.file_message.specs.Message.{hartIn, fileIn, identityIn}
 use Rattle.file.specs.declared.File.{File}
 use Rattle.file.specs.Page.{arrived}
 use Rattle.file.specs.Rules.{fileSound}
-use Rattle.file_laws.proofs.Stored.{Long, long-back, long-apart}
+use Rattle.file.specs.Shape.{Long}
+use Rattle.file_laws.proofs.Stored.{long-back, long-apart}
 use Rattle.file_words.specs.Stored.{fileAt, putFile}
 use Rattle.files.specs.Files.{fileNumber, isGuest, zeroFile, filesFrom, filesOf, theFile, withFile}
 use Rattle.files.specs.Files.{namedBy, reached, allReached, Named, soundAt}

@@ -8,7 +8,8 @@ use native.Mathlib.Omega.{arith}
 use lib.ListN.{length, getD, take, drop}
 use lib.Seq.{take-all, take-add, drop-drop, take-at, drop-at, getD-append-add, drop-append-add}
 use Rattle.file.specs.declared.File.{File}
-use Rattle.file_laws.proofs.Stored.{Long, file-path, words-long, words-loaded}
+use Rattle.file.specs.Shape.{Long}
+use Rattle.file_laws.proofs.Stored.{file-path, words-long, words-loaded}
 use Rattle.file_words.specs.Stored.{fileWords, fileAt}
 use Rattle.files.specs.Files.{filesFrom, filesOf, wordsOf, theFile}
 use Rattle.files.proofs.FilesLaws.{length-filesOf, theFile-filesOf, files-same}

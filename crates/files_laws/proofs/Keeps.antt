@@ -11,11 +11,11 @@ use Rattle.words.specs.Sets.{WordsFit}
 use Rattle.words.proofs.EveryLaws.{every-each, every-of}
 use Rattle.sizes.specs.Sizes.{identities}
 use Rattle.file.specs.declared.File.{File}
-use Rattle.file.specs.Shape.{Shaped}
+use Rattle.file.specs.Shape.{Shaped, Long}
 use Rattle.file.specs.Page.{arrived}
 use Rattle.file.specs.Rules.{fileSound}
 use Rattle.file_laws.proofs.Keeps.{rules-of, sound-of, arrived-rules, arrived-shaped}
-use Rattle.file_laws.proofs.Stored.{Long, loaded-long, loaded-shaped}
+use Rattle.file_laws.proofs.Stored.{loaded-long, loaded-shaped}
 use Rattle.files.specs.Files.{isGuest, filesOf, theFile, withFile, allReached, soundAt, filesSound}
 use Rattle.files.proofs.FilesLaws.{theFile-filesOf, theFile-withFile-same, theFile-withFile-other}
 use Rattle.files_laws.proofs.ReachedEffects.{arrived-long, withFile-past, allReached-keeps}

@@ -20,7 +20,7 @@ use Rattle.file_message.proofs.MessageLaws.{identityIn-lt}
 use Rattle.file.specs.declared.File.{File}
 use Rattle.file.specs.Page.{arrived}
 use Rattle.file_laws.proofs.PageEffects.{arrived-ignored, arrived-pending, arrived-rest, arrived-length}
-use Rattle.file_laws.proofs.Stored.{Long}
+use Rattle.file.specs.Shape.{Long}
 use Rattle.files.specs.Files.{zeroFile, theFile, withFile, namedBy, reached, allReached}
 use Rattle.files.proofs.FilesLaws.{length-withFile, theFile-withFile-same, theFile-withFile-other}
 use Rattle.files_laws.specs.Messages.{names, brings, anyOf, PendingOnly}
