@@ -1,7 +1,7 @@
 -- What is to be sent after each change of a controller that keeps the rules: nothing by one domain at least.
 -- No contract cites this file. Assumes nothing.
 use Prim.Native.Nat.{ℕ, _≤_, _<_}
-use mathlib.Core.Path.{_≡_, refl, sym, ap, subst}
+use mathlib.Core.Path.{_≡_, refl, sym, ap, subst, _∙_}
 use mathlib.Core.Bool.{Bool, true, false}
 use mathlib.Core.List.{List, [], _++_}
 use mathlib.Core.Logic.{_⊎_, inl, inr}
@@ -15,6 +15,7 @@ use Rattle.wired_state.specs.Wires.{Wired, wiredOf, wireSet}
 use Rattle.wired_registers.specs.Wired.{writtenIn, claimedIn}
 use Rattle.wired_state.proofs.WiresLaws.{root-part, child-part, root-long, child-long, wires-read}
 use Rattle.wired_state.proofs.WiresLaws.{domain-root, domain-child}
+use Rattle.wired_state.proofs.PassLaws.{bothSent, flushed-both}
 use Rattle.wired_rules.specs.Rules.{wiredSound}
 use Rattle.domain_sending.specs.Sending.{Sent}
 use Rattle.wired_rules_laws.specs.Steady.{Quiet, WiredSteady, WiredQuiet}
@@ -37,14 +38,14 @@ module _ (l : List ℕ) (long : length l ≡ 290) (sound : wiredSound (wiredOf l
 
 -- a controller of which both domains have sent all
 pub flushed-quiet : (w : Wired) → WiredQuiet w → flushed w ≡ record { wired = w; messages = [] }
-unfolding flushed
 flushed-quiet w q =
     let a = sent-again false (w .root) (q .root) in
     let b = sent-again true (w .child) (q .child) in
-    λ k. record {
+    let silent : bothSent w ≡ record { wired = w; messages = [] } = λ k. record {
       wired = record { wires = w .wires; root = a k .domain; child = b k .domain };
       messages = a k .messages ++ b k .messages;
-    }
+    } in
+    flushed-both w ∙ silent
 
 -- ---- one domain at most sends
 

@@ -11,6 +11,7 @@ use Rattle.domain.specs.Domain.{Domain}
 use Rattle.wired_state.specs.Wires.{Wired, domainIn}
 use Rattle.wired_registers.specs.Wired.{writtenIn}
 use Rattle.wired_state.proofs.WiresLaws.{wired-path}
+use Rattle.wired_state.proofs.PassLaws.{flushed-both}
 use Rattle.domain_sending.specs.Sending.{Sent, sent, sentNothing, logged}
 use Rattle.domain_sending.proofs.SendingLaws.{logged-none}
 use Rattle.domain_genmsi.specs.Genmsi.{generatedSent}
@@ -32,6 +33,10 @@ pub answers-of : (c : Bool) (l : List ℕ) {d : Domain} {l′ : List ℕ} {n : �
     → Answers d l l′ n (sent c r) → Answers d l l′ n (sent c s)
 answers-of c l {d = d} {l′ = l′} {n = n} e = subst (λ (x : Domain). Answers d l l′ n (sent c x)) e
 
+pub leaves-of : {o p : Out} → o ≡ p → (w : Wired) (l l′ : List ℕ) (n : ℕ) → Leaves o w l l′ n
+    → Leaves p w l l′ n
+leaves-of e w l l′ n = subst (λ (x : Out). Leaves x w l l′ n) e
+
 no-length : (l : List ℕ) → length l ≡ 0 → l ≡ []
 no-length [] e = refl
 no-length (x ∷ l) e = absurd (omega arith)
@@ -46,12 +51,12 @@ module _ (w : Wired) where
   pub answered-first : (d : Domain) (l l′ : List ℕ) (n : ℕ) → Answers d l l′ n (sent false (w .root))
       → OneSends w → n ≢ 0
       → Leaves (flushed w) (record { wires = w .wires; root = d; child = w .child }) l l′ n
-  unfolding flushed
   answered-first d l l′ n (a, b, k) one h =
       let silent = second-silent one n h k in
       let alone : (sent false (w .root) .messages ++ sent true (w .child) .messages)
       ≡ sent false (w .root) .messages =
-      ap (λ (s : Sent). sent false (w .root) .messages ++ s .messages) silent ∙ append-nil _ in (
+      ap (λ (s : Sent). sent false (w .root) .messages ++ s .messages) silent ∙ append-nil _ in
+      leaves-of (sym (flushed-both w)) _ l l′ n (
         wired-path refl a (sym (ap (λ (s : Sent). s .domain) silent)),
         b ∙ ap (logged l) (sym alone),
         k ∙ ap length (sym alone),
@@ -60,13 +65,13 @@ module _ (w : Wired) where
   pub answered-second : (d e : Domain) (l k l′ : List ℕ) (m n : ℕ) → Answers d l k m (sent false (w .root))
       → m ≡ 0 → Answers e k l′ n (sent true (w .child))
       → Leaves (flushed w) (record { wires = w .wires; root = d; child = e }) l l′ n
-  unfolding flushed
   answered-second d e l k l′ m n (a, b, c) z (p, q, r) =
       let none = no-length (sent false (w .root) .messages) (sym c ∙ z) in
       let alone : (sent false (w .root) .messages ++ sent true (w .child) .messages)
       ≡ sent true (w .child) .messages =
       ap (λ (x : List ℕ). x ++ sent true (w .child) .messages) none in
-      let same : k ≡ l = b ∙ ap (logged l) none ∙ logged-none l in (
+      let same : k ≡ l = b ∙ ap (logged l) none ∙ logged-none l in
+      leaves-of (sym (flushed-both w)) _ l l′ n (
         wired-path refl a p,
         q ∙ ap (λ (x : List ℕ). logged x (sent true (w .child) .messages)) same ∙ ap (logged l) (sym alone),
         r ∙ ap length (sym alone),
@@ -117,10 +122,6 @@ module _ (c : Bool) (d : Domain) (r : Word) (v : ℕ) where
       (x ∙ ap (logged l) same, y ∙ ap length same)
 
 -- ---- a change and the pass after it
-
-pub leaves-of : {o p : Out} → o ≡ p → (w : Wired) (l l′ : List ℕ) (n : ℕ) → Leaves o w l l′ n
-    → Leaves p w l l′ n
-leaves-of e w l l′ n = subst (λ (x : Out). Leaves x w l l′ n) e
 
 module _ (w : Wired) (c : Bool) (r : Word) (v : ℕ) where
   abbrev own : List ℕ

@@ -1,7 +1,6 @@
 -- What a call does to the wired controller, and the messages that it sends. 01, "The wired controller"; the
 -- standard 4.5.15, 4.9. Assumes nothing.
---   Out                  the controller after a call, and the messages sent, in order
---   flushed w            each domain sends what is to be sent, the machine domain first
+--   Out, flushed w       the pass of both domains, and what they sent: Rattle.wired_state
 --   generatedAs c d v x  what a write of v to a register of d whose role is x sends at once: genmsi's
 --                        message, else nothing
 --   generatedBy c d r v  what a write of v to register r of d sends at once
@@ -27,19 +26,8 @@ use Rattle.wired_state.specs.Wires.{Wired, domainIn, wireSet}
 use Rattle.wired_registers.specs.Wired.{claimedIn, writtenIn}
 use Rattle.domain_sending.specs.Sending.{sent, sentNothing, logged}
 use Rattle.domain_genmsi.specs.Genmsi.{generatedSent}
-
-pub record Out : Type 0 where
-  pub wired : Wired
-  pub messages : List ℕ
-
-unfoldable pub flushed : Wired → Out
-flushed w =
-    let first = sent false (w .root) in
-    let second = sent true (w .child) in
-    record {
-      wired = record { wires = w .wires; root = first .domain; child = second .domain };
-      messages = first .messages ++ second .messages;
-    }
+pub use Rattle.wired_state.specs.Pass.{Out}
+unfoldable pub use Rattle.wired_state.specs.Pass.{flushed}
 
 unfoldable pub generatedAs : Bool → Domain → ℕ → Role → List ℕ
 generatedAs c d v (Claims h) = []

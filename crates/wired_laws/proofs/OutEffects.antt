@@ -91,7 +91,6 @@ module _ (w : Wired) (s : WiredSteady w) (q : WiredQuiet w) where
 -- ---- the rules hold again
 
 flushed-sound : (w : Wired) → WiredSteady w → wiredSound (flushed w .wired) ≡ true
-unfolding flushed
 flushed-sound w s = sound-passed w s
 
 module _ (w : Wired) (s : WiredSteady w) where

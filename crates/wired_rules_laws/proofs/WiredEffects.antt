@@ -16,6 +16,7 @@ use Rattle.domain.specs.Slot.{sourceAt}
 use Rattle.domain_registers.specs.Read.{claimedBy}
 use Rattle.domain_registers.specs.Write.{registerWritten}
 use Rattle.wired_state.specs.Wires.{Wired, domainIn, withDomain, wireSet, isDelegated}
+use Rattle.wired_state.specs.Pass.{flushed}
 use Rattle.wired_registers.specs.Wired.{claimedIn, partWritten}
 use Rattle.wired_rules.specs.Rules.{sourceZeroRule, delegatedRule, wiredSound}
 use Rattle.wired_rules_laws.specs.Steady.{Steady, DomainKept, WiredSteady, WiredQuiet, passed}
@@ -98,10 +99,12 @@ module _ (w : Wired) (s : WiredSteady w) where
 -- ---- the pass of messages of both domains, after which all is sent
 
 pub quiet-passed : (w : Wired) → WiredQuiet (passed w)
+unfolding flushed
 quiet-passed w = record { root = quiet-sent false (w .root); child = quiet-sent true (w .child) }
 
 module _ (w : Wired) (s : WiredSteady w) where
   pub steady-passed : WiredSteady (passed w)
+  unfolding flushed
   steady-passed =
       wired-kept w s (w .wires) _ _ (s .long) (s .zero) (kept-sent false (w .wires) (w .root) (s .root))
       (kept-sent true (w .wires) (w .child) (s .child))

@@ -17,8 +17,8 @@ use Rattle.words.specs.Sets.{member}
 use Rattle.domain.specs.Domain.{Domain, byMessages, sends}
 use Rattle.domain.specs.Slot.{sourceAt}
 use Rattle.domain_laws.specs.Shape.{DomainShaped}
-use Rattle.domain_sending.specs.Sending.{sent}
 use Rattle.wired_state.specs.Wires.{Wired}
+use Rattle.wired_state.specs.Pass.{flushed}
 use Rattle.source_rules.specs.SourceRules.{sourceSteady, sentRule}
 use Rattle.wired_rules.specs.Rules.{configRange, generatedRange, structureRange, sourceZeroRule}
 use Rattle.wired_rules.specs.Rules.{generatedRule}
@@ -54,9 +54,4 @@ pub record WiredQuiet (w : Wired) : Type 0 where
   pub child : Quiet (w .child)
 
 abbrev pub passed : Wired → Wired
-passed w =
-    record {
-      wires = w .wires;
-      root = sent false (w .root) .domain;
-      child = sent true (w .child) .domain;
-    }
+passed w = flushed w .wired

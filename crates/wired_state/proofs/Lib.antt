@@ -1,2 +1,3 @@
--- The laws of the wires and of both domains. Assumes nothing.
+-- The laws of the wires and of both domains, and of the pass. Assumes nothing.
+pub mod PassLaws
 pub mod WiresLaws
