@@ -1,5 +1,5 @@
--- What a call does to the wired controller, and the messages that it sends. 01, "The wired controller"; the
--- standard 4.5.15, 4.9. Assumes nothing.
+-- What a wire that is set, a read and a write do to the wired controller, and the messages that they send.
+-- 01, "The wired controller"; the standard 4.5.15, 4.9. Assumes nothing.
 --   Out, flushed w       the pass of both domains, and what they sent: Rattle.wired_state
 --   generatedAs c d v x  what a write of v to a register of d whose role is x sends at once: genmsi's
 --                        message, else nothing
@@ -8,7 +8,7 @@
 --   readCall w c r       register r of a domain is read; only a claimi changes anything
 --   writeCall w c r v    v is written to register r of a domain
 --   OneSends w           at most one of the two domains has something to send
---   Leaves o w l l′ n    a call that does o leaves the controller w, makes of the log l the log l′, and
+--   Leaves o w l l′ n    a function that does o leaves the controller w, makes of the log l the log l′, and
 --                        counts n messages
 -- c says that the domain is the child.
 use Prim.Native.Nat.{ℕ}

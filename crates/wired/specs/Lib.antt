@@ -1,2 +1,2 @@
--- The wired controller's calls, with what they send. Assumes nothing.
+-- A wire that is set, a read and a write of the wired controller, with what they send. Assumes nothing.
 pub mod Controller
