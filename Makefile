@@ -1,7 +1,7 @@
 # make proves and builds what there is, runs the example in C and prints the table cases; make test is the whole
 # gate; see make help.
 .DEFAULT_GOAL := all
-.PHONY: all test check example tools fmt style numbers layers clean help toolchain
+.PHONY: all test check example tools fmt style numbers layers claims clean help toolchain
 
 # rt check runs each program once it is proved, and keeps what it wrote
 all: check
@@ -37,6 +37,10 @@ numbers:
 layers:
 	@scripts/layers
 
+# to be kept: make claims >docs/CLAIMS.md
+claims:
+	@scripts/claims
+
 clean:
 	@rm -rf target
 
@@ -50,8 +54,9 @@ help:
 	@echo "make style    what the checker does not see: sizes, layers, width, headers, holes, contracts, names, paths"
 	@echo "make numbers  the numbers that README.md states"
 	@echo "make layers   the picture of the layers, from crates.txt"
+	@echo "make claims   the index of the claims, which docs/CLAIMS.md keeps"
 	@echo "make clean    remove target/, where all that is built lies"
-	@echo "All but tools, style, numbers, layers, clean and help need rt, the command of the Rattle toolchain, on PATH."
+	@echo "All but tools, style, numbers, layers, claims, clean and help need rt, the command of the Rattle toolchain, on PATH."
 
 toolchain:
 	@command -v rt >/dev/null 2>&1 || { \
