@@ -17,7 +17,7 @@ use Rattle.file.specs.Register.{written}
 use Rattle.board_move_files_laws.specs.Related.{Restored}
 use Rattle.board_move_files_laws.proofs.WrittenEffects.{stays, keptOf, kept-same, kept-other}
 use Rattle.board_move_files_laws.proofs.WrittenEffects.{member-written}
-use Rattle.board_move_files_laws.proofs.WrittenEffects.{hasBit-doubleword}
+use Rattle.file_laws.proofs.WordEffects.{hasBit-doubleword}
 
 -- nothing is written back before access 84
 pub restored-early : (n : ℕ) (f c : File) → n < 84 → Restored n f c

@@ -19,7 +19,7 @@ use Rattle.file.specs.Register.{written}
 use Rattle.board_move_files_laws.specs.Related.{Shared}
 use Rattle.board_move_files_laws.proofs.WrittenEffects.{stays, keptOf, kept-same, kept-other}
 use Rattle.board_move_files_laws.proofs.WrittenEffects.{member-written}
-use Rattle.board_move_files_laws.proofs.WrittenEffects.{hasBit-doubleword}
+use Rattle.file_laws.proofs.WordEffects.{hasBit-doubleword}
 
 -- ---- messages: those that b names are added
 

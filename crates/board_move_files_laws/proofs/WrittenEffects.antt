@@ -3,27 +3,25 @@
 --   stays i             identity i is kept; 0 is not
 --   keptOf ws k v i     i is in the set ws after v was written to its word k, of 64 bits
 use Prim.Native.Nat.{ℕ, _+_, _*_, _/_, _%_, _<_}
-use mathlib.Core.Path.{_≡_, sym, ap, ap₂, _∙_}
-use mathlib.Core.Bool.{Bool, cond, _&&_, and-true, and-false}
+use mathlib.Core.Path.{_≡_}
+use mathlib.Core.Bool.{Bool, cond, _&&_, and-true}
 use mathlib.Core.List.{List}
 use mathlib.Core.Logic.{_≢_}
-use native.Mathlib.Decide.{ℕ-discrete, decLt}
+use native.Mathlib.Decide.{ℕ-discrete}
 use native.Mathlib.Omega.{arith}
 use lib.Dec.{eqb, leb}
-use lib.ListN.{length, getD}
-use borrow.Author.Tests.{eq-eqb, ne-eqb, le-leb, lt-leb}
-use Rattle.words.specs.Bits.{hasBit, withoutBit}
-use Rattle.words.specs.Sets.{member, WordsFit}
-use Rattle.words.proofs.BitsLaws.{hasBit-withoutBit-same}
-use Rattle.words.proofs.PartsLaws.{hasBit-joined-low, hasBit-joined-high}
+use lib.ListN.{length}
+use borrow.Author.Tests.{eq-eqb, ne-eqb, le-leb}
+use Rattle.words.specs.Bits.{hasBit}
+use Rattle.words.specs.Sets.{member}
 use Rattle.file_select.specs.declared.Register.the-variants.{Pending, Enable}
 use Rattle.sizes.specs.Sizes.{identities}
-use Rattle.file_select.specs.Halves.{doubleword, putDoubleword}
+use Rattle.file_select.specs.Halves.{putDoubleword}
 use Rattle.file.specs.declared.File.{File}
 use Rattle.file.specs.Shape.{Shaped}
 use Rattle.file.specs.Register.{written}
 use Rattle.file_laws.proofs.Keeps.{Rules}
-use Rattle.file_laws.proofs.RegisterEffects.{member-halves, member-put, member-put-other}
+use Rattle.file_laws.proofs.WordEffects.{member-putDoubleword}
 
 unfoldable pub stays : ℕ → Bool
 stays i = leb 1 i
@@ -41,19 +39,8 @@ module _ (ws : List ℕ) (k v i : ℕ) where
   kept-other d = simp (ne-eqb (i / 64) k d)
 
   put-kept : 2 * k + 1 < length ws → member (putDoubleword ws k v) i ≡ keptOf ws k v i
-  unfolding putDoubleword stays
-  put-kept fits = at (ℕ-discrete (i / 64) k) (ℕ-discrete i 0)
-    where
-      at : Dec (i / 64 ≡ k) → Dec (i ≡ 0) → member (putDoubleword ws k v) i ≡ keptOf ws k v i
-      at (no d) z = member-put-other ws k v fits i d ∙ sym (kept-other d)
-      at (yes e) (yes z) =
-          ap₂ (λ (j l : ℕ). member (putDoubleword ws j v) l) (omega arith) z
-          ∙ member-halves ws 0 (withoutBit v 0) (omega arith) 0 (omega arith) ∙ hasBit-withoutBit-same v 0
-          ∙ sym (kept-same e ∙ simp (lt-leb 1 i (omega arith), and-false))
-      at (yes e) (no z) =
-          ap (member (putDoubleword ws k v)) (omega arith)
-          ∙ member-put ws k v fits (i % 64) (omega arith) (λ q. z (omega arith))
-          ∙ sym (kept-same e ∙ simp (le-leb 1 i (omega arith), and-true))
+  unfolding keptOf stays
+  put-kept fits = member-putDoubleword ws k v i fits
 
 -- the one law on what a write keeps, for either set of a file
 pub member-written : (g : Bool) (f : File) (k v : ℕ) → Shaped f → k < 4 → (i : ℕ)
@@ -77,23 +64,3 @@ member-stays g f r i = at (ℕ-discrete i 0)
         × ((member (f .enable) i && leb 1 i) ≡ member (f .enable) i)
     at (yes z) = (simp (z, r .pendingZero), simp (z, r .enableZero))
     at (no d) = (simp (le-leb 1 i (omega arith), and-true), simp (le-leb 1 i (omega arith), and-true))
-
--- bit i mod 64 of word i div 64 is identity i
-pub hasBit-doubleword : (ws : List ℕ) (k i : ℕ) → WordsFit ws → i / 64 ≡ k
-    → hasBit (doubleword ws k) (i % 64) ≡ member ws i
-unfolding doubleword member WordsFit
-hasBit-doubleword ws k i fit e = at (decLt (i % 64) 32)
-  where
-    lo : ℕ
-    lo = getD ws (2 * k) 0
-
-    hi : ℕ
-    hi = getD ws (2 * k + 1) 0
-
-    at : Dec (i % 64 < 32) → hasBit (doubleword ws k) (i % 64) ≡ hasBit (getD ws (i / 32) 0) (i % 32)
-    at (yes l) =
-        hasBit-joined-low lo hi (i % 64) (fit (2 * k)) l
-        ∙ ap₂ (λ (a b : ℕ). hasBit (getD ws a 0) b) (omega arith) (omega arith)
-    at (no l) =
-        ap (hasBit (doubleword ws k)) (omega arith) ∙ hasBit-joined-high lo hi (i % 32) (fit (2 * k))
-        ∙ ap (λ (a : ℕ). hasBit (getD ws a 0) (i % 32)) (omega arith)

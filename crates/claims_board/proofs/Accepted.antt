@@ -1,6 +1,6 @@
 -- The proofs of claims 171 to 173. Assumes nothing.
 use Prim.Native.Nat.{ℕ, _+_, _-_, _*_, _%_, _≤_, _<_}
-use mathlib.Core.Path.{_≡_, refl, sym, ap, subst, _∙_}
+use mathlib.Core.Path.{_≡_, refl, sym, ap, _∙_}
 use mathlib.Core.Bool.{Bool, true}
 use mathlib.Core.List.{List, _++_}
 use native.Mathlib.Omega.{arith}
@@ -19,15 +19,12 @@ use Rattle.domain_sending.specs.Sending.{logged}
 use Rattle.wired.specs.Controller.{Out}
 use Rattle.board_block.specs.Block.{Board, boardSound}
 use Rattle.board_call.specs.Change.{kindOf, onFile, change}
-use Rattle.board_call.specs.declared.Call.{Call}
 use Rattle.board_call.specs.Outcome.{Outcome, Stepped, thenSent, step, doneAs}
-use Rattle.board_call.specs.Refusal.{nameRefusal}
-use Rattle.board_call_laws.specs.Small.{Small}
 use Rattle.board_call_laws.proofs.OutcomeEffects.{outcome-done}
 use Rattle.board_call_laws.proofs.StepEffects.{wiredStep, step-wire, step-domainRead, step-domainWrite}
 use Rattle.board_call_laws.proofs.StepEffects.{step-onFile}
-use Rattle.board_runs.specs.Runs.{Lent, outcomeOn, after}
-use Rattle.board_runs.specs.Ready.{boardIn, Ready}
+use Rattle.board_runs.specs.Runs.{outcomeOn, after}
+use Rattle.board_runs.specs.Ready.{boardIn}
 use Rattle.board_runs.proofs.RunsEffects.{ready-refusal, accepted-named, after-board, ready-after}
 use Rattle.board_call_laws.specs.Fit.{Kept}
 use Rattle.board_call_laws.proofs.KeepsEffects.{kept-step}

@@ -1,18 +1,18 @@
 -- Claims 120 to 125, from the laws of the select numbers and of the two words behind one. Assumes nothing.
 use Prim.Native.Nat.{ℕ, _+_, _*_, _/_, _%_, _≤_, _<_}
-use mathlib.Core.Path.{_≡_, refl, sym, ap, ap₂, _∙_}
-use mathlib.Core.Bool.{Bool, true, not, cond, _&&_, _||_, and-true, and-false}
+use mathlib.Core.Path.{_≡_, refl, sym, ap, _∙_}
+use mathlib.Core.Bool.{Bool, true, not, cond, _&&_, _||_}
 use mathlib.Core.List.{List}
 use mathlib.Core.Logic.{_≢_, ⊎-elim}
-use native.Mathlib.Decide.{ℕ-discrete, decLt}
+use native.Mathlib.Decide.{ℕ-discrete}
 use native.Mathlib.Omega.{arith}
 use lib.Dec.{eqb, leb}
 use lib.ListN.{length, getD}
-use borrow.Author.Tests.{eq-eqb, ne-eqb, le-leb, lt-leb}
-use Rattle.words.specs.Bits.{hasBit, withoutBit, union, without}
+use borrow.Author.Tests.{ne-eqb}
+use Rattle.words.specs.Bits.{hasBit, union, without}
 use Rattle.words.specs.Sets.{member, WordsFit}
-use Rattle.words.proofs.BitsLaws.{hasBit-withoutBit-same, hasBit-union, hasBit-without}
-use Rattle.words.proofs.PartsLaws.{joined-lt, hasBit-joined-low, hasBit-joined-high}
+use Rattle.words.proofs.BitsLaws.{hasBit-union, hasBit-without}
+use Rattle.words.proofs.PartsLaws.{joined-lt}
 use Rattle.file_select.specs.declared.Register.{Register}
 use Rattle.file_select.specs.declared.Register.the-variants.{Delivery, Threshold, Pending, Enable, Unused}
 use Rattle.file_select.specs.Select.{selectLegal, registerOf}
@@ -28,7 +28,7 @@ use Rattle.file.specs.declared.register.Reply.the-variants.{Value}
 use Rattle.file.specs.Shape.{Shaped}
 use Rattle.file.specs.Register.{held, written, accessedAt, accessed}
 use Rattle.file.proofs.RegisterLaws.{written-legal, written-illegal, accessed-kind}
-use Rattle.file_laws.proofs.RegisterEffects.{member-halves, member-put, member-put-other}
+use Rattle.file_laws.proofs.WordEffects.{hasBit-doubleword, member-putDoubleword}
 use Rattle.claims_file.specs.FileRegisters.{Shows, PendingAlone, EnableAlone, OldAndNew, SetOrCleared}
 use Rattle.claims_file.specs.FileRegisters.{Claim-120, Claim-121, Claim-122, Claim-123, Claim-124}
 use Rattle.claims_file.specs.FileRegisters.{Claim-125}
@@ -99,65 +99,29 @@ claim-121 g f v = record { alone = refl; read = at-threshold g f Read v; write =
 -- ---- the two words behind a number
 
 module _ (ws : List ℕ) (j : ℕ) (fit : WordsFit ws) where
-  -- bit i mod 64 of word i div 64 is identity i
-  shown-bit : (i : ℕ) → i / 64 ≡ j → hasBit (doubleword ws j) (i % 64) ≡ member ws i
-  unfolding doubleword member WordsFit
-  shown-bit i e = at (decLt (i % 64) 32)
-    where
-      lo : ℕ
-      lo = getD ws (2 * j) 0
-
-      hi : ℕ
-      hi = getD ws (2 * j + 1) 0
-
-      at : Dec (i % 64 < 32) → hasBit (doubleword ws j) (i % 64) ≡ hasBit (getD ws (i / 32) 0) (i % 32)
-      at (yes l) =
-          hasBit-joined-low lo hi (i % 64) (fit (2 * j)) l
-          ∙ ap₂ (λ (a b : ℕ). hasBit (getD ws a 0) b) (omega arith) (omega arith)
-      at (no l) =
-          ap (hasBit (doubleword ws j)) (omega arith) ∙ hasBit-joined-high lo hi (i % 32) (fit (2 * j))
-          ∙ ap (λ (a : ℕ). hasBit (getD ws a 0) (i % 32)) (omega arith)
-
   shows : Shows ws j (doubleword ws j)
   unfolding doubleword WordsFit
   shows =
       record {
         fits = joined-lt (getD ws (2 * j) 0) (getD ws (2 * j + 1) 0) (fit (2 * j)) (fit (2 * j + 1));
-        bits = λ k h. ap (hasBit (doubleword ws j)) (omega arith) ∙ shown-bit (64 * j + k) (omega arith);
+        bits = λ k h. ap (hasBit (doubleword ws j)) (omega arith) ∙ hasBit-doubleword ws j (64 * j + k) fit (omega arith);
       }
 
 -- which identities a set has after v was written to its word j
 module _ (ws : List ℕ) (j v i : ℕ) (fits : 2 * j + 1 < length ws) where
-  put-bits : member (putDoubleword ws j v) i
-      ≡ cond (eqb (i / 64) j) (hasBit v (i % 64) && leb 1 i) (member ws i)
-  unfolding putDoubleword
-  put-bits = at (ℕ-discrete (i / 64) j) (ℕ-discrete i 0)
-    where
-      at : Dec (i / 64 ≡ j) → Dec (i ≡ 0) → member (putDoubleword ws j v) i
-          ≡ cond (eqb (i / 64) j) (hasBit v (i % 64) && leb 1 i) (member ws i)
-      at (no d) z = member-put-other ws j v fits i d ∙ sym (simp (ne-eqb (i / 64) j d))
-      at (yes e) (yes z) =
-          ap₂ (λ (l m : ℕ). member (putDoubleword ws l v) m) (omega arith) z
-          ∙ member-halves ws 0 (withoutBit v 0) (omega arith) 0 (omega arith) ∙ hasBit-withoutBit-same v 0
-          ∙ sym (simp (eq-eqb (i / 64) j e, lt-leb 1 i (omega arith), and-false))
-      at (yes e) (no z) =
-          ap (member (putDoubleword ws j v)) (omega arith)
-          ∙ member-put ws j v fits (i % 64) (omega arith) (λ q. z (omega arith))
-          ∙ sym (simp (eq-eqb (i / 64) j e, le-leb 1 i (omega arith), and-true))
-
   -- where v has what the word showed, joined with u by a test on bits
   put-joined : WordsFit ws → (u : ℕ) (join : Bool → Bool → Bool)
       → ((k : ℕ) → hasBit v k ≡ join (hasBit (doubleword ws j) k) (hasBit u k))
       → member (putDoubleword ws j v) i
       ≡ cond (eqb (i / 64) j) (join (member ws i) (hasBit u (i % 64)) && leb 1 i) (member ws i)
-  put-joined fit u join bits = put-bits ∙ at (ℕ-discrete (i / 64) j)
+  put-joined fit u join bits = member-putDoubleword ws j v i fits ∙ at (ℕ-discrete (i / 64) j)
     where
       at : Dec (i / 64 ≡ j) → cond (eqb (i / 64) j) (hasBit v (i % 64) && leb 1 i) (member ws i)
           ≡ cond (eqb (i / 64) j) (join (member ws i) (hasBit u (i % 64)) && leb 1 i) (member ws i)
       at (no d) = simp (ne-eqb (i / 64) j d)
       at (yes e) =
           ap (λ (b : Bool). cond (eqb (i / 64) j) (b && leb 1 i) (member ws i))
-          (bits (i % 64) ∙ ap (λ (b : Bool). join b (hasBit u (i % 64))) (shown-bit ws j fit i e))
+          (bits (i % 64) ∙ ap (λ (b : Bool). join b (hasBit u (i % 64))) (hasBit-doubleword ws j i fit e))
 
 -- ---- pending and enable
 
@@ -190,7 +154,7 @@ claim-122 g f j v s h =
       (doubleword (f .pending) j, at-pending g f Read v j h, shows (f .pending) j (s .pendingFit)),
       ap (λ (a : Accessed). a .answer) after,
       pending-alone g f j v Write h,
-      (λ i. ap (λ (a : Accessed). member (a .file .pending) i) after ∙ put-bits (f .pending) j v i fits),
+      (λ i. ap (λ (a : Accessed). member (a .file .pending) i) after ∙ member-putDoubleword (f .pending) j v i fits),
     )
 
 pub claim-123 : Claim-123
@@ -201,7 +165,7 @@ claim-123 g f j v s h =
       (doubleword (f .enable) j, at-enable g f Read v j h, shows (f .enable) j (s .enableFit)),
       ap (λ (a : Accessed). a .answer) after,
       enable-alone g f j v Write h,
-      (λ i. ap (λ (a : Accessed). member (a .file .enable) i) after ∙ put-bits (f .enable) j v i fits),
+      (λ i. ap (λ (a : Accessed). member (a .file .enable) i) after ∙ member-putDoubleword (f .enable) j v i fits),
     )
 
 -- ---- set and clear

@@ -35,7 +35,7 @@ use Rattle.wired_rules_laws.specs.Steady.{WiredSteady}
 use Rattle.wired_laws.proofs.TargetEffects.{target-own, target-other}
 use Rattle.board_move_steps.specs.Names.{namesFile, renamed}
 use Rattle.board_move_files_laws.proofs.WrittenEffects.{stays, keptOf, kept-same, kept-other, member-written}
-use Rattle.board_move_files_laws.proofs.WrittenEffects.{hasBit-doubleword}
+use Rattle.file_laws.proofs.WordEffects.{hasBit-doubleword}
 use Rattle.board_move_wired_laws.proofs.TargetNames.{names-number, hartOf-renamed, guestOf-renamed}
 use Rattle.board_move_wired_laws.proofs.TargetNames.{numberOf-renamed, kept-renamed}
 use Rattle.board_move_wired_laws.proofs.StepThree.{next-hit, next-miss, named-active}

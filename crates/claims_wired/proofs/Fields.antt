@@ -1,7 +1,6 @@
 -- The proof of Claim-146. Assumes nothing.
-use Prim.Native.Nat.{ℕ, _+_, _*_, _/_, _%_, _^_, _<_}
+use Prim.Native.Nat.{ℕ, _+_, _*_, _<_}
 use mathlib.Core.Path.{_≡_, refl}
-use mathlib.Core.Bool.{Bool, true, false}
 use native.Mathlib.Omega.{arith}
 use Rattle.words.specs.Parts.{fieldOf}
 use Rattle.file_message.specs.Message.{logWord}

@@ -30,7 +30,7 @@ use Rattle.domain_writes_laws.specs.Named.{changing, keepsMode}
 use Rattle.domain_writes_laws.proofs.WritesEffects.{touched-targetWritten}
 use Rattle.domain_writes_laws.proofs.ConfigEffects.{became-configWritten, became-generatedWritten}
 use Rattle.wired_rules_laws.proofs.ModeEffects.{changed-mode, redelivered-mode, retargeted-mode}
-use Rattle.claims_wired.specs.Kept.{Touch, none, sources, configures, generates, writes, Spares}
+use Rattle.claims_wired.specs.Kept.{Touch, none, sources, configures, generates, Spares}
 
 -- ---- what a change of sources keeps
 

@@ -3,7 +3,7 @@
 -- No axioms.
 use Prim.Native.Nat.{ℕ, _+_, _*_, _/_, _%_, _^_, _<_}
 use mathlib.Core.Path.{_≡_}
-use mathlib.Core.Bool.{Bool, true, false}
+use mathlib.Core.Bool.{true, false}
 use Rattle.file_message.specs.Message.{logWord, hartIn, fileIn, identityIn}
 use Rattle.files.specs.Files.{namedBy}
 use Rattle.source_target.specs.Target.{hartOf, guestOf, numberOf, startTarget, messageOf}

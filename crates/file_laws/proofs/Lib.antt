@@ -2,5 +2,6 @@
 pub mod PageEffects
 pub mod TopEffects
 pub mod RegisterEffects
+pub mod WordEffects
 pub mod Keeps
 pub mod Stored
