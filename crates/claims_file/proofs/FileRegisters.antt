@@ -104,7 +104,8 @@ module _ (ws : List ℕ) (j : ℕ) (fit : WordsFit ws) where
   shows =
       record {
         fits = joined-lt (getD ws (2 * j) 0) (getD ws (2 * j + 1) 0) (fit (2 * j)) (fit (2 * j + 1));
-        bits = λ k h. ap (hasBit (doubleword ws j)) (omega arith) ∙ hasBit-doubleword ws j (64 * j + k) fit (omega arith);
+        bits = λ k h. ap (hasBit (doubleword ws j)) (omega arith)
+            ∙ hasBit-doubleword ws j (64 * j + k) fit (omega arith);
       }
 
 -- which identities a set has after v was written to its word j
@@ -154,7 +155,8 @@ claim-122 g f j v s h =
       (doubleword (f .pending) j, at-pending g f Read v j h, shows (f .pending) j (s .pendingFit)),
       ap (λ (a : Accessed). a .answer) after,
       pending-alone g f j v Write h,
-      (λ i. ap (λ (a : Accessed). member (a .file .pending) i) after ∙ member-putDoubleword (f .pending) j v i fits),
+      (λ i. ap (λ (a : Accessed). member (a .file .pending) i) after
+          ∙ member-putDoubleword (f .pending) j v i fits),
     )
 
 pub claim-123 : Claim-123
@@ -165,7 +167,8 @@ claim-123 g f j v s h =
       (doubleword (f .enable) j, at-enable g f Read v j h, shows (f .enable) j (s .enableFit)),
       ap (λ (a : Accessed). a .answer) after,
       enable-alone g f j v Write h,
-      (λ i. ap (λ (a : Accessed). member (a .file .enable) i) after ∙ member-putDoubleword (f .enable) j v i fits),
+      (λ i. ap (λ (a : Accessed). member (a .file .enable) i) after
+          ∙ member-putDoubleword (f .enable) j v i fits),
     )
 
 -- ---- set and clear
