@@ -51,7 +51,7 @@ use Rattle.board.proofs.apply.Reads as apply
 
 -- ---- what a call gives
 
--- the calls on the wired controller, for any numbers and any blocks
+-- what the calls on the wired controller give, for any numbers and any blocks, is the outcome of the call
 unfoldable pub Claim-80 : Type 0
 Claim-80 =
     (l : Lfts 2) (b b′ g g′ : RefT (List ℕ)) (r : Answer)
@@ -62,7 +62,7 @@ Claim-80 =
     × ((d a v : ℕ) → domain-write.Learnt l (b, (g, (d, (a, (v, tt))))) r (b′, (g′, (d, (a, (v, tt)))))
     → Does (DomainWrite d a v) (now b) (now g) r (now b′) (now g′))
 
--- the calls on one message file
+-- what the calls on one message file give, for any numbers and any blocks, is the outcome of the call
 unfoldable pub Claim-81 : Type 0
 Claim-81 =
     (l : Lfts 2) (b b′ g g′ : RefT (List ℕ)) (r : Answer) (h f : ℕ)
@@ -79,7 +79,7 @@ Claim-81 =
     × (claim.Learnt l (b, (g, (h, (f, tt)))) r (b′, (g′, (h, (f, tt))))
     → Does (Claim h f) (now b) (now g) r (now b′) (now g′))
 
--- reset, and the signals of a hart
+-- what reset and the call on a hart's signals give, for any blocks and any hart, is the outcome of the call
 unfoldable pub Claim-82 : Type 0
 Claim-82 =
     (l : Lfts 2) (b b′ g g′ : RefT (List ℕ)) (r : Answer)
@@ -130,8 +130,9 @@ Claim-85 =
 
 -- ---- what an accepted call leaves
 
--- the state rules hold again, every list has its length and every word of a file 32 bits, and 63 log words
--- suffice, for every call: of words of 32 bits that keep the rules, a value of 64 bits, and a record of such
+-- an accepted call leaves a board that keeps the state rules and has its lengths, words of 32 bits in its
+-- files, and sends at most 63 messages; of words of 32 bits that keep the rules, a value of 64 bits, and a
+-- record of such
 unfoldable pub Claim-86 : Type 0
 Claim-86 =
     (l g s : List ℕ) → WordsFit l → SavedFit s → (c : Call) → Small c → boardSound (boardOf l) ≡ true
@@ -168,7 +169,7 @@ Claim-89 =
     ⊎ ((f < 2) × (x .delivery ≡ 0x40000000) × (byMessages d ≡ false) × (isEnabled d ≡ true)
     × (structureAt d h .idelivery ≡ 1) × ((structureAt d h .iforce ≢ 0) ⊎ (topiOf d h ≢ 0))))
 
--- and no other bit is: the signals of a hart, and so what a call on them answers, are below 32
+-- the signals of a hart, and so what a call on them answers, are below 32
 unfoldable pub Claim-161 : Type 0
 Claim-161 =
     ((b : Board) (h : ℕ) → signalsTo b h 5 < 32)

@@ -58,10 +58,11 @@ pub record Given (c : Call) (n : ℕ) : Type 0 where
   pub log : List ℕ
   pub refused : refusalOf c block log ≡ n
 
--- 1 and 2 by every call, 3 by every call that tests the rules; 4 for each thing that may not be there, and
--- by a move for each thing that bars it: its access, old and new the same, either of them no guest file,
--- and, with numbers that do not bar it, the child domain in direct mode; 5 by each call with an address, 6
--- by the one with a select number; and each call is done for some input
+-- every line of the table of refusals is given for some input: 1 and 2 by every call, 3 by every call that
+-- tests the rules; 4 for each thing that may not be there, and by a move for each thing that bars it: its
+-- access, old and new the same, either of them no guest file, and, with numbers that do not bar it, the child
+-- domain in direct mode; 5 by each call with an address, 6 by the one with a select number; and each call is
+-- done for some input
 unfoldable pub Claim-92 : Type 0
 Claim-92 =
     ((c : Call) → Given c 1 × Given c 2)
@@ -84,7 +85,8 @@ Claim-92 =
 
 -- ---- the functions that C calls
 
--- each answers the refusal, the value and the count of its call's outcome, and leaves both blocks as it says
+-- each function that C calls answers the refusal, the value and the count of its call's outcome, and leaves
+-- both blocks as it says
 unfoldable pub Claim-93 : Type 0
 Claim-93 =
     (l : Lfts 2) (b b′ g g′ : RefT (List ℕ)) (r : VskAnswer)
@@ -113,8 +115,8 @@ Claim-93 =
     × ((h : ℕ) → vsk-signals.Learnt l (b, (g, (h, tt))) r (b′, (g′, (h, tt)))
     → Tells (Signals h) (now b) (now g) r (now b′) (now g′))
 
--- two results that such a function's contract allows are equal: the refusal, the value and the count, both
--- blocks and the record of a move
+-- two results that the contract of a function that C calls allows are equal: the refusal, the value and the
+-- count, both blocks and the record of a move
 unfoldable pub Claim-162 : Type 0
 Claim-162 =
     (o : Outcome) (r r′ : VskAnswer) (l l′ g g′ s s′ : List ℕ) → Told o r l g s → Told o r′ l′ g′ s′

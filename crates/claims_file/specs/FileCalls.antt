@@ -40,64 +40,64 @@ use Rattle.file.proofs.File.sound.Reads as sound
 use Rattle.file_words.proofs.load.Reads as load
 use Rattle.file_words.proofs.store.Reads as store
 
--- a message arrives
+-- `arrive` gives the file after a message arrived
 unfoldable pub Claim-1 : Type 0
 Claim-1 = (f r : File) (i : ℕ) → arrive.Learnt tt (f, (i, tt)) r (f, (i, tt)) → r ≡ arrived 255 f i
 
--- a word of the page is written
+-- `page_write` gives the file after a word of its page was written
 unfoldable pub Claim-2 : Type 0
 Claim-2 = (f r : File) (a v : ℕ) → page-write.Learnt tt (f, (a, (v, tt))) r (f, (a, (v, tt)))
     → r ≡ pageWritten 255 f a v
 
--- a word of the page is read
+-- `page_read` answers what a word of the page reads
 unfoldable pub Claim-3 : Type 0
 Claim-3 = (f : File) (a r : ℕ) → page-read.Learnt tt (f, (a, tt)) r (f, (a, tt)) → r ≡ pageRead f a
 
--- the top's identity, or 0
+-- `top_identity` answers the identity of the file's top, or 0
 unfoldable pub Claim-4 : Type 0
 Claim-4 = (f : File) (r : ℕ) → top-identity.Learnt tt (f, tt) r (f, tt) → r ≡ topIdentity 255 f
 
--- the top: that identity twice
+-- `top` answers the file's top: that identity twice
 unfoldable pub Claim-5 : Type 0
 Claim-5 = (f : File) (r : ℕ) → top.Learnt tt (f, tt) r (f, tt) → r ≡ topOf 255 f
 
--- a claim: the top as it was, and the file after it
+-- `claim` gives the top as it was, and the file after the claim
 unfoldable pub Claim-6 : Type 0
 Claim-6 = (f : File) (r : Claimed) → claim.Learnt tt (f, tt) r (f, tt)
     → (r .top ≡ topOf 255 f) × (r .file ≡ claimed 255 f)
 
--- the signal
+-- `signals` answers whether the file signals by itself
 unfoldable pub Claim-7 : Type 0
 Claim-7 = (f : File) (r : Bool) → signals-of.Learnt tt (f, tt) r (f, tt) → r ≡ signals 255 f
 
--- which select numbers are legal
+-- `select_legal` answers whether a select number is legal
 unfoldable pub Claim-8 : Type 0
 Claim-8 = (s : ℕ) (r : Bool) → select-legal.Learnt tt (s, tt) r (s, tt) → r ≡ selectLegal s
 
--- which register a select number names
+-- `register_of` answers which register a legal select number names
 unfoldable pub Claim-9 : Type 0
 Claim-9 = (s : ℕ) (r : Register) → register-of.Learnt tt (s, tt) r (s, tt) → r ≡ registerOf 255 s
 
--- which deliveries are legal
+-- `delivery_legal` answers whether a delivery is legal
 unfoldable pub Claim-10 : Type 0
 Claim-10 = (g r : Bool) (d : ℕ) → delivery-legal.Learnt tt (g, (d, tt)) r (g, (d, tt)) → r ≡ deliveryLegal g d
 
--- an access to a register: the answer and the file after it
+-- `access` gives the answer of an access to a register, and the file after it
 unfoldable pub Claim-11 : Type 0
 Claim-11 =
     (f : File) (g : Bool) (k : Access) (s v : ℕ) (r : Accessed)
     → access.Learnt tt (f, (g, (k, (s, (v, tt))))) r (f, (g, (k, (s, (v, tt))))) → r ≡ accessed 255 g f k s v
 
--- the state rules of a file
+-- `sound` of a file answers whether it keeps its state rules
 unfoldable pub Claim-12 : Type 0
 Claim-12 = (f : File) (g r : Bool) → sound.Learnt tt (f, (g, tt)) r (f, (g, tt)) → r ≡ fileSound 255 g f
 
--- a file is loaded from its words
+-- `load` gives the file whose words stand at a place of a block
 unfoldable pub Claim-13 : Type 0
 Claim-13 = (l : Lfts 1) (b : RefT (List ℕ)) (at : ℕ) (r : File) → load.Learnt l (b, (at, tt)) r (b, (at, tt))
     → r ≡ fileAt (now b) at
 
--- a file's words are stored in a block
+-- `store` leaves the block with a file's words at a place
 unfoldable pub Claim-14 : Type 0
 Claim-14 =
     (l : Lfts 1) (b b′ : RefT (List ℕ)) (at : ℕ) (f : File)

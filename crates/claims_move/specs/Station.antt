@@ -67,7 +67,7 @@ Claim-105 =
     × (b .wired .root ≡ b′ .wired .root) × (b .wired .child .source ≡ b′ .wired .child .source)
     × (b .wired .child .delivery ≡ b′ .wired .child .delivery))
 
--- and every one of the 89 accesses is done: with these premises none is refused
+-- with the premises of a move every one of the 89 accesses is done, and none is refused
 unfoldable pub Claim-106 : Type 0
 Claim-106 =
     (m : Stations) (x : Lent) (es : List Event) → Started x → TwoGuests m → ByMessages x → NoneNamesNew m x
@@ -111,12 +111,12 @@ Claim-110 =
 
 -- ---- the premises
 
--- they can be met: a start and a shift in full, in which a device and a wire bring messages to old before
--- they change over, and to new after it
+-- the premises of a move can be met: a start and a shift in full, in which a device and a wire bring messages
+-- to old before they change over, and to new after it
 unfoldable pub Claim-111 : Type 0
 Claim-111 = Example
 
--- and each of them is needed: without it, or with a bound that is off by one, and with all the others,
+-- each premise of a move is needed: without it, or with a bound that is off by one, and with all the others,
 -- there is a start and a shift whose end differs
 unfoldable pub Claim-112 : Type 0
 Claim-112 =

@@ -37,11 +37,11 @@ use Rattle.wired_state.proofs.set_wire.Reads as set-wire
 use Rattle.wired_registers.proofs.read.Reads as wired-read
 use Rattle.wired_registers.proofs.write.Reads as wired-write
 
--- which register an address names
+-- `word_at` answers which register an address names
 unfoldable pub Claim-60 : Type 0
 Claim-60 = (a : ℕ) (r : Word) → word-at.Learnt tt (a, tt) r (a, tt) → r ≡ wordAt a
 
--- a read: its value, and the domain after it
+-- `read` of a domain answers what a register reads, and leaves the domain after that read
 unfoldable pub Claim-61 : Type 0
 Claim-61 =
     (l : Lfts 1) (b b′ : RefT (List ℕ)) (ws : List ℕ) (w : Word) (r : ℕ)
@@ -56,13 +56,13 @@ Claim-62 =
     → write.Learnt l (b, (c, (ws, (w, (v, tt))))) tt (b′, (c, (ws, (w, (v, tt)))))
     → domainOf (now b′) ≡ registerWritten c (domainOf (now b)) ws w v
 
--- the signal to a hart
+-- `signal` answers the signal of a domain to a hart
 unfoldable pub Claim-63 : Type 0
 Claim-63 =
     (l : Lfts 1) (b : RefT (List ℕ)) (h : ℕ) (r : Bool)
     → signal.Learnt l (b, (h, tt)) r (b, (h, tt)) → r ≡ signalOf (domainOf (now b)) h
 
--- sending: how many, the domain after it, and the log
+-- `send` answers how many messages a domain sent, and leaves the domain and the log after them
 unfoldable pub Claim-64 : Type 0
 Claim-64 =
     (l : Lfts 2) (b b′ g g′ : RefT (List ℕ)) (c : Bool) (r : ℕ)
@@ -71,7 +71,7 @@ Claim-64 =
     × (now g′ ≡ logged (now g) (sent c (domainOf (now b)) .messages))
     × (r ≡ length (sent c (domainOf (now b)) .messages))
 
--- what the messages do to the files, and so to each of their 360 words
+-- `deliver` leaves the files, and so each of their 360 words, as the messages make them
 unfoldable pub Claim-65 : Type 0
 Claim-65 =
     (l : Lfts 2) (f f′ g : RefT (List ℕ)) (n : ℕ)
@@ -83,25 +83,26 @@ Claim-65 =
 unfoldable pub Claim-66 : Type 0
 Claim-66 = (l m : List ℕ) → length l ≡ 144 → length m ≡ 144 → domainOf l ≡ domainOf m → l ≡ m
 
--- the same for the whole controller
+-- the words of the wired controller determine it, and it determines its words
 unfoldable pub Claim-67 : Type 0
 Claim-67 = (l m : List ℕ) → length l ≡ 290 → length m ≡ 290 → wiredOf l ≡ wiredOf m → l ≡ m
 
--- a wire is set; nothing is sent yet
+-- `set_wire` leaves the controller after a wire was set; nothing is sent yet
 unfoldable pub Claim-68 : Type 0
 Claim-68 =
     (l : Lfts 1) (b b′ : RefT (List ℕ)) (i : ℕ) (level : Bool)
     → set-wire.Learnt l (b, (i, (level, tt))) tt (b′, (i, (level, tt)))
     → wiredOf (now b′) ≡ wireSet (wiredOf (now b)) i level
 
--- a sourcecfg is written; nothing is sent yet
+-- `write` of the wired registers leaves the controller after a sourcecfg was written; nothing is sent yet
 unfoldable pub Claim-69 : Type 0
 Claim-69 =
     (l : Lfts 1) (b b′ : RefT (List ℕ)) (c : Bool) (i v : ℕ)
     → wired-write.Learnt l (b, (c, (Sourcecfg i, (v, tt)))) tt (b′, (c, (Sourcecfg i, (v, tt))))
     → wiredOf (now b′) ≡ sourceWritten (wiredOf (now b)) c i v
 
--- a register of a domain is read, or one that is no sourcecfg is written; nothing is sent yet
+-- `read` and `write` of the wired registers leave the controller after a register of a domain was read, or
+-- one that is no sourcecfg written; nothing is sent yet
 unfoldable pub Claim-70 : Type 0
 Claim-70 =
     (l : Lfts 1) (b b′ : RefT (List ℕ)) (c : Bool) (w : Word) (v r : ℕ)
@@ -110,7 +111,7 @@ Claim-70 =
     × (((i : ℕ) → w ≢ Sourcecfg i) → wired-write.Learnt l (b, (c, (w, (v, tt)))) tt (b′, (c, (w, (v, tt))))
     → wiredOf (now b′) ≡ partWritten (wiredOf (now b)) c w v)
 
--- the message of a write to genmsi: the log after it, and how many
+-- `send_generated` leaves the log with the message of a write to genmsi, and answers how many
 unfoldable pub Claim-71 : Type 0
 Claim-71 =
     (l : Lfts 2) (b g g′ : RefT (List ℕ)) (c : Bool) (v r : ℕ)
