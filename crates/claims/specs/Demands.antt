@@ -1,6 +1,7 @@
 -- The three demands: each a conjunction of the claims that answer it, so that whoever believes these three
 -- names and what they unfold to has the answer. docs/CLAIMS.md is the index of the claims. 01, "The build,
 -- stated with its exact rules", "What the auditor will try".
+-- Demands 2 and 3 speak of what a call does, `outcome` and `step`; that the code does it, demand 1 says.
 -- Premises: none here; each claim has its own, which the header of its file names. No axioms.
 use Rattle.claims_file.specs.FileCalls.{Claim-1, Claim-2, Claim-3, Claim-4, Claim-5, Claim-6, Claim-7}
 use Rattle.claims_file.specs.FileCalls.{Claim-8, Claim-9, Claim-10, Claim-11, Claim-12, Claim-13, Claim-14}

@@ -1,7 +1,7 @@
--- The proofs of claims 171 to 173. Assumes nothing.
+-- The proofs of claims 171 to 174. Assumes nothing.
 use Prim.Native.Nat.{ℕ, _+_, _-_, _*_, _%_, _≤_, _<_}
 use mathlib.Core.Path.{_≡_, refl, sym, ap, _∙_}
-use mathlib.Core.Bool.{Bool, true}
+use mathlib.Core.Bool.{Bool, true, false}
 use mathlib.Core.List.{List, _++_}
 use native.Mathlib.Omega.{arith}
 use lib.Dec.{leb}
@@ -16,8 +16,16 @@ use Rattle.file.specs.Reply.{replyValue}
 use Rattle.files.specs.Files.{fileNumber, isGuest, theFile}
 use Rattle.files.proofs.FilesLaws.{theFile-withFile-same}
 use Rattle.domain_sending.specs.Sending.{logged}
+use Rattle.domain_region.specs.declared.Word.{Word}
+use Rattle.domain_region.specs.declared.Word.the-variants.{Topi, Claimi}
+use Rattle.domain_region.specs.Region.{wordAt}
+use Rattle.domain_region.proofs.RegionLaws.{topi-at, claimi-at}
+use Rattle.domain_registers.specs.Read.{registerValue}
+use Rattle.wired_state.specs.Wires.{domainIn}
+use Rattle.wired_registers.specs.Wired.{readIn}
 use Rattle.wired.specs.Controller.{Out}
 use Rattle.board_block.specs.Block.{Board, boardSound}
+use Rattle.board_call.specs.declared.Call.the-variants.{DomainRead}
 use Rattle.board_call.specs.Change.{kindOf, onFile, change}
 use Rattle.board_call.specs.Outcome.{Outcome, Stepped, thenSent, step, doneAs}
 use Rattle.board_call_laws.proofs.OutcomeEffects.{outcome-done}
@@ -28,7 +36,7 @@ use Rattle.board_runs.specs.Ready.{boardIn}
 use Rattle.board_runs.proofs.RunsEffects.{ready-refusal, accepted-named, after-board, ready-after}
 use Rattle.board_call_laws.specs.Fit.{Kept}
 use Rattle.board_call_laws.proofs.KeepsEffects.{kept-step}
-use Rattle.claims_board.specs.Accepted.{AccessedBy, Claim-171, Claim-172, Claim-173}
+use Rattle.claims_board.specs.Accepted.{AccessedBy, Claim-171, Claim-172, Claim-173, Claim-174}
 
 module _ (g ms : List ℕ) where
   -- the messages come first, and past them the log is as it was
@@ -132,4 +140,21 @@ claim-173 b many sound s = (
     as-wired b s _ _ _ (step-domainRead b 1 a s),
   )),
   (λ a v. (as-wired b s _ _ _ (step-domainWrite b 0 a v s), as-wired b s _ _ _ (step-domainWrite b 1 a v s))),
+)
+
+-- what a read of a register answers is what the register reads
+module _ (b : Board) (s : List ℕ) (a : ℕ) (r : Word) (e : wordAt a ≡ r) where
+  read-root : step (DomainRead 0 a) b s .value ≡ readIn (b .wired) false r
+  read-root = ap (λ (x : Stepped). x .value) (step-domainRead b 0 a s) ∙ ap (readIn (b .wired) false) e
+
+  read-child : step (DomainRead 1 a) b s .value ≡ readIn (b .wired) true r
+  read-child = ap (λ (x : Stepped). x .value) (step-domainRead b 1 a s) ∙ ap (readIn (b .wired) true) e
+
+pub claim-174 : Claim-174
+unfolding Claim-174 registerValue domainIn
+claim-174 b s h l = (
+  read-root b s (0x4000 + 32 * h + 0x18) (Topi h) (topi-at h l),
+  read-child b s (0x4000 + 32 * h + 0x18) (Topi h) (topi-at h l),
+  read-root b s (0x4000 + 32 * h + 0x1C) (Claimi h) (claimi-at h l),
+  read-child b s (0x4000 + 32 * h + 0x1C) (Claimi h) (claimi-at h l),
 )

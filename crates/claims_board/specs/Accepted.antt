@@ -1,8 +1,8 @@
--- Claims 171 to 173, on what an accepted call answers and leaves: the numbers, the two blocks, and which file
+-- Claims 171 to 174, on what an accepted call answers and leaves: the numbers, the two blocks, and which file
 -- or domain it works on, and how. 01, "Calls and their refusals", "The wired controller".
 -- Premises: of 171, what is lent is `Ready` (650 words of 32 bits that keep the state rules, a log of 63
 -- words, a record of numbers of 64 bits) and a register's value has 64 bits (`Small`), as all that a program
--- can pass has, and no test refuses the call; 172 has none; of 173, the board has 20 files and keeps the
+-- can pass has, and no test refuses the call; 172 has none, and 174 a hart that is there; of 173, the board has 20 files and keeps the
 -- state rules, and the hart and the file are there. A reset of a block that breaks the rules is Claim-87's.
 -- No axioms.
 use Prim.Native.Nat.{ℕ, _+_, _*_, _≤_, _<_}
@@ -19,6 +19,7 @@ use Rattle.file.specs.Reply.{replyValue}
 use Rattle.file.specs.Top.{topOf, claimed}
 use Rattle.files.specs.Files.{theFile}
 use Rattle.domain_region.specs.Region.{wordAt}
+use Rattle.domain_direct.specs.Direct.{topiOf}
 use Rattle.wired_registers.specs.Wired.{readIn}
 use Rattle.wired.specs.Controller.{Out, wireCall, readCall, writeCall}
 use Rattle.board_block.specs.Block.{Board, boardOf, boardSound}
@@ -101,3 +102,13 @@ Claim-173 =
     × ((a v : ℕ)
     → DoneBy (writeCall (b .wired) false (wordAt a) v) b (step (DomainWrite 0 a v) b s)
     × DoneBy (writeCall (b .wired) true (wordAt a) v) b (step (DomainWrite 1 a v) b s))
+
+-- a read of topi, at 0x4000 + 32 h + 0x18, and of claimi, at + 0x1C, of a domain answers topi of hart h in that
+-- domain
+unfoldable pub Claim-174 : Type 0
+Claim-174 =
+    (b : Board) (s : List ℕ) (h : ℕ) → h < 4
+    → (step (DomainRead 0 (0x4000 + 32 * h + 0x18)) b s .value ≡ topiOf (b .wired .root) h)
+    × (step (DomainRead 1 (0x4000 + 32 * h + 0x18)) b s .value ≡ topiOf (b .wired .child) h)
+    × (step (DomainRead 0 (0x4000 + 32 * h + 0x1C)) b s .value ≡ topiOf (b .wired .root) h)
+    × (step (DomainRead 1 (0x4000 + 32 * h + 0x1C)) b s .value ≡ topiOf (b .wired .child) h)

@@ -2,3 +2,4 @@
 pub mod BoardCalls
 pub mod BoardFacts
 pub mod Asked
+pub mod Answers

@@ -3,3 +3,4 @@
 pub mod BoardCalls
 pub mod BoardFacts
 pub mod Asked
+pub mod Answers

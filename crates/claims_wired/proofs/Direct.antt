@@ -29,8 +29,9 @@ claim-43 = topi-zero-iff
 pub claim-44 : Claim-44
 unfolding Claim-44
 claim-44 d h m some =
-    let top = topi-least d h some in
-    (topi-is d h m some, top .0, top .3)
+    let source : topSource d h ≢ 0 = λ z. some (topi-zero d h m .1 z) in
+    let top = topi-least d h source in
+    (topi-is d h m source, top .0, top .3)
 
 pub claim-45 : Claim-45
 unfolding Claim-45

@@ -18,6 +18,8 @@ use Rattle.domain.specs.Slot.{sourceAt}
 use Rattle.domain_laws.proofs.SlotEffects.{sourceAt-withSource-same, sourceAt-withSource-other}
 use Rattle.wired_state.specs.Wires.{Wired, isDelegated}
 use Rattle.wired_sourcecfg.proofs.DelegationLaws.{root-stays, root-moves}
+use Rattle.wired_registers.specs.Wired.{writtenIn, writtenAs}
+use Rattle.wired_sourcecfg.specs.Delegation.{sourceWritten}
 use Rattle.claims_wired.specs.Modes.{Claim-94, Claim-95}
 
 -- ---- the source
@@ -53,7 +55,7 @@ delegates v =
     (omega (arith, word-machine v false false refl f, kept-small v)) ∙ sym f)
 
 pub claim-95 : Claim-95
-unfolding Claim-95
+unfolding Claim-95 writtenIn writtenAs sourceWritten
 claim-95 w i v shaped h =
     let word = leb 1024 (sourceWord false false v) in
     let child : Wired → Domain = λ x. x .child in (

@@ -21,7 +21,7 @@ use Rattle.domain_region.specs.Region.{Row, registers, nameIn, wordIn, wordAt}
 use Rattle.domain_region.proofs.RegionLaws.{domaincfg-at, sourcecfg-at, setip-at, setipnum-at, in-clrip-at}
 use Rattle.domain_region.proofs.RegionLaws.{clripnum-at, setie-at, setienum-at, clrie-at, clrienum-at}
 use Rattle.domain_region.proofs.RegionLaws.{config-unused, setipnum-le-at, setipnum-be-at, genmsi-at}
-use Rattle.domain_region.proofs.RegionLaws.{target-at}
+use Rattle.domain_region.proofs.RegionLaws.{target-at, word-within}
 use Rattle.domain_region.proofs.RegionLaws.{idelivery-at, iforce-at, ithreshold-at, topi-at, claimi-at}
 use Rattle.domain_registers.specs.Read.{registerValue}
 use Rattle.domain_registers.specs.Write.{registerWritten}
@@ -99,6 +99,7 @@ claim-130 = (
   config-unused 0x1BC4 (omega arith) (omega arith),
   config-unused 0x1BC8 (omega arith) (omega arith),
   config-unused 0x1BCC (omega arith) (omega arith),
+  word-within,
 )
 
 -- ---- what reads 0

@@ -1,7 +1,7 @@
 -- Claims 132, 133 and 139, from the laws of bits, sets and modes, and from the state rules of Claim-73.
 -- Assumes nothing.
 use Prim.Native.Nat.{ℕ, zero, suc, _+_, _*_, _/_, _%_, _^_, _≤_, _<_}
-use mathlib.Core.Path.{_≡_, sym, ap, _∙_}
+use mathlib.Core.Path.{_≡_, refl, sym, ap, _∙_}
 use mathlib.Core.Bool.{Bool, true, false, cond, not, _&&_, _||_}
 use mathlib.Core.List.{List}
 use mathlib.Core.Logic.{_≢_, _↔_, _⊎_, inl, inr, ⊎-elim}
@@ -21,9 +21,10 @@ use Rattle.domain.specs.Domain.{Domain, configOf, isEnabled, byMessages}
 use Rattle.domain.specs.Slot.{sourceAt}
 use Rattle.domain_inputs.specs.Inputs.{inputBit, inputsTo, inputWord}
 use Rattle.domain_registers.specs.Read.{registerValue}
+use Rattle.domain_direct_laws.proofs.TopEffects.{topi-zero-iff, topi-messages}
 use Rattle.wired_state.specs.Wires.{Wired, domainIn}
 use Rattle.claims_wired.specs.Rules.{Sound, DomainRules, Claim-73}
-use Rattle.claims_wired.specs.Registers.{Bit, Claim-132, Claim-133, Claim-139}
+use Rattle.claims_wired.specs.Registers.{Bit, Claim-132, Claim-133, Claim-139, Claim-145}
 use Rattle.claims_wired.proofs.Rules.{claim-73}
 
 -- ---- one bit
@@ -172,3 +173,12 @@ rectified-iff m wire =
 pub claim-139 : Claim-139
 unfolding Claim-139 isLevel
 claim-139 m = (active-iff m, either m 6 7, rectified-iff m)
+
+-- ---- what reads topi, and what reads a stored word
+
+pub claim-145 : Claim-145
+unfolding Claim-145 registerValue
+claim-145 d wires = (
+  (λ h. (refl, refl, (λ m. (topi-messages d h m .0, topi-messages d h m .0)), topi-zero-iff d h)),
+  (λ i. (refl, refl)),
+)

@@ -32,7 +32,7 @@ Claim-43 =
 -- priority number, and the lowest source among equals
 unfoldable pub Claim-44 : Type 0
 Claim-44 =
-    (d : Domain) (h : ℕ) → byMessages d ≡ false → topSource d h ≢ 0
+    (d : Domain) (h : ℕ) → byMessages d ≡ false → topiOf d h ≢ 0
     → (topiOf d h ≡ topSource d h * 65536 + priority d (topSource d h))
     × (eligible d h (topSource d h) ≡ true)
     × ((i : ℕ) → 1 ≤ i → i ≤ 63 → eligible d h i ≡ true

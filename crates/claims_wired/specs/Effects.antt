@@ -1,4 +1,4 @@
--- Claims 143 and 144: which change the write to each register makes, so that claims 55, 56, 58 and 136 speak
+-- Claims 143 and 144: which change the write to each register makes, so that claims 55, 56 and 58 speak
 -- of the registers; and that what sets or clears a pending bit changes nothing else. 01, "The wired
 -- controller". c says that a domain is the child.
 --   swapped v    the four bytes of v in the other order

@@ -12,7 +12,8 @@
 --   writesIn w c r v e, readsIn w c r e
 --                        the same for register r of a domain, and what it may change in either domain e
 --   Spares t d d′        d′ has all of d that t does not name
--- c and e say that a domain is the child; what becomes of a pending bit that is named, Claim-59 says.
+-- c and e say that a domain is the child; what becomes of a pending bit that is named, Claim-59 says, and
+-- for a domaincfg Claim-56, for a sourcecfg claims 94 and 95.
 -- Premises: `Long w`, the lists have their lengths, as those of every block have; and of a wire or a register
 -- that is written, that it is there: the wire is 1 to 63, and `Within r`. No axioms.
 use Prim.Native.Nat.{ℕ, _/_, _%_, _≤_, _<_}

@@ -11,11 +11,12 @@ use mathlib.Core.Logic.{_≢_}
 use Rattle.words.specs.Bits.{hasBit}
 use Rattle.source_mode.specs.Mode.{isActive, isLevel, isRectified}
 use Rattle.source.specs.declared.Source.{Source}
+use Rattle.domain_region.specs.declared.Word.the-variants.{Sourcecfg}
 use Rattle.source.specs.Pending.{moded}
 use Rattle.domain.specs.Slot.{sourceAt}
 use Rattle.domain_laws.specs.Shape.{DomainShaped}
 use Rattle.wired_state.specs.Wires.{Wired, isDelegated}
-use Rattle.wired_sourcecfg.specs.Delegation.{rootWritten}
+use Rattle.wired_registers.specs.Wired.{writtenIn}
 
 -- its rectified value rises by the write
 abbrev pub rises : Bool → Source → ℕ → Bool
@@ -50,8 +51,9 @@ unfoldable pub Claim-95 : Type 0
 Claim-95 =
     (w : Wired) (i v : ℕ) → DomainShaped (w .child) → i < 64
     → let now = hasBit v 10 in
-    (isDelegated w i ≡ now → rootWritten w i v .child ≡ w .child)
+    let after = writtenIn w false (Sourcecfg i) v .child in
+    (isDelegated w i ≡ now → after ≡ w .child)
     × (isDelegated w i ≢ now
-    → sourceAt (rootWritten w i v .child) i
+    → sourceAt after i
     ≡ record { mode = 0; target = 0; pending = false; enabled = false })
-    × ((j : ℕ) → j ≢ i → sourceAt (rootWritten w i v .child) j ≡ sourceAt (w .child) j)
+    × ((j : ℕ) → j ≢ i → sourceAt after j ≡ sourceAt (w .child) j)

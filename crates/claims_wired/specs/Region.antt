@@ -18,7 +18,7 @@ use Rattle.domain_region.specs.declared.Word.the-variants.{SetipnumBe}
 use Rattle.domain_region.specs.declared.Word.the-variants.{Genmsi, Target, Idelivery, Iforce, Ithreshold}
 use Rattle.domain_region.specs.declared.Word.the-variants.{Topi}
 use Rattle.domain_region.specs.declared.Word.the-variants.{Claimi, Unused}
-use Rattle.domain_region.specs.Region.{wordAt}
+use Rattle.domain_region.specs.Region.{wordAt, Within}
 use Rattle.domain.specs.Domain.{Domain}
 use Rattle.domain_registers.specs.Read.{registerValue}
 use Rattle.domain_registers.specs.Write.{registerWritten}
@@ -73,14 +73,14 @@ abbrev pub Unnamed : ℕ → Type 0
 Unnamed a = (r : Word) → Numbered r → a ≢ addressOf r
 
 -- each register is at its address, and at no other; every other address has none, the configurable message
--- addresses 0x1BC0 to 0x1BCC among them
+-- addresses 0x1BC0 to 0x1BCC among them; and every register that an address names is one that there is
 unfoldable pub Claim-130 : Type 0
 Claim-130 =
     ((r : Word) → Numbered r → wordAt (addressOf r) ≡ r)
     × ((a : ℕ) → wordAt a ≢ Unused → Numbered (wordAt a) × (a ≡ addressOf (wordAt a)))
     × ((a : ℕ) → Unnamed a → wordAt a ≡ Unused)
     × (wordAt 0x1BC0 ≡ Unused) × (wordAt 0x1BC4 ≡ Unused) × (wordAt 0x1BC8 ≡ Unused)
-    × (wordAt 0x1BCC ≡ Unused)
+    × (wordAt 0x1BCC ≡ Unused) × ((a : ℕ) → Within (wordAt a))
 
 -- the number registers, clrie and every address with no register read 0; such an address, topi and claimi
 -- ignore writes

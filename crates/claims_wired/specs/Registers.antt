@@ -1,8 +1,8 @@
--- Claims 132, 133 and 139, on what the registers of a domain read, bit by bit, and on the source modes. 01,
+-- Claims 132, 133, 139 and 145, on what the registers of a domain read, bit by bit, and on the source modes. 01,
 -- "The wired controller".
 --   Bit v n b    bit n of v is 1 exactly if b
 -- Premises: 132 has none for the bits, and `WordsFit` (each word has 32 bits, as every word of a block has)
--- where it says that a word has no others; 133 has `Sound w`, the state rules; 139 none. No axioms.
+-- where it says that a word has no others; 133 has `Sound w`, the state rules; 139 and 145 none. No axioms.
 use Prim.Native.Nat.{ℕ, _+_, _*_, _/_, _%_, _^_, _<_, _≤_}
 use mathlib.Core.Path.{_≡_}
 use mathlib.Core.Bool.{Bool, true, false, cond}
@@ -11,9 +11,11 @@ use mathlib.Core.Logic.{_≢_, _↔_, _⊎_}
 use Rattle.words.specs.Sets.{member, WordsFit}
 use Rattle.source_mode.specs.Mode.{isActive, isLevel, isRectified}
 use Rattle.domain_region.specs.declared.Word.{Word}
-use Rattle.domain_region.specs.declared.Word.the-variants.{Domaincfg, Setip, InClrip, Setie}
+use Rattle.domain_region.specs.declared.Word.the-variants.{Domaincfg, Sourcecfg, Setip, InClrip, Setie}
+use Rattle.domain_region.specs.declared.Word.the-variants.{Target, Topi, Claimi}
 use Rattle.domain.specs.Domain.{Domain, isEnabled, byMessages}
 use Rattle.domain.specs.Slot.{sourceAt}
+use Rattle.domain_direct.specs.Direct.{eligible, topiOf}
 use Rattle.domain_registers.specs.Read.{registerValue}
 use Rattle.wired_state.specs.Wires.{Wired, domainIn}
 use Rattle.wired_registers.specs.Wired.{readIn}
@@ -23,7 +25,8 @@ abbrev pub Bit : ℕ → ℕ → Bool → Type 0
 Bit v n b = v / 2 ^ n % 2 ≡ cond b 1 0
 
 -- bit n of word k is source 32 k + n: setip reads its pending bit, setie its enable bit, and in_clrip the
--- level of its wire if it is active, with no regard to what its mode makes of the wire; source 0 reads 0
+-- level of its wire if it is active, with no regard to what its mode makes of the wire; number 0 reads 0
+-- there
 unfoldable pub Claim-132 : Type 0
 Claim-132 =
     (d : Domain) (wires : List ℕ) (k : ℕ)
@@ -52,3 +55,17 @@ Claim-139 =
     × ((wire : Bool)
     → (isRectified m wire ≡ true)
     ↔ ((((m ≡ 4) ⊎ (m ≡ 6)) × (wire ≡ true)) ⊎ (((m ≡ 5) ⊎ (m ≡ 7)) × (wire ≡ false))))
+
+-- topi and claimi of a hart read the same: by messages 0, and in direct mode 0 exactly if no source counts for
+-- that hart (Claim-48 says which do), else what Claim-44 says; a sourcecfg and a target read what is stored of
+-- their source
+unfoldable pub Claim-145 : Type 0
+Claim-145 =
+    (d : Domain) (wires : List ℕ)
+    → let reads : Word → ℕ = registerValue d wires in
+    ((h : ℕ)
+    → (reads (Topi h) ≡ topiOf d h) × (reads (Claimi h) ≡ topiOf d h)
+    × (byMessages d ≡ true → (reads (Topi h) ≡ 0) × (reads (Claimi h) ≡ 0))
+    × (byMessages d ≡ false
+    → (reads (Topi h) ≡ 0) ↔ ((i : ℕ) → 1 ≤ i → i ≤ 63 → eligible d h i ≡ false)))
+    × ((i : ℕ) → (reads (Sourcecfg i) ≡ sourceAt d i .mode) × (reads (Target i) ≡ sourceAt d i .target))
