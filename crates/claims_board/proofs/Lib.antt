@@ -8,3 +8,4 @@ pub mod ClosureCall
 pub mod Numbers
 pub mod BoardRules
 pub mod Start
+pub mod Places

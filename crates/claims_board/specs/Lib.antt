@@ -6,3 +6,4 @@ pub mod Closure
 pub mod Numbers
 pub mod BoardRules
 pub mod Start
+pub mod Places
