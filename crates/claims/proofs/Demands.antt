@@ -18,7 +18,7 @@ use Rattle.claims_wired.proofs.Rules.{claim-72, claim-73, claim-74, claim-75}
 use Rattle.claims_wired.proofs.Controller.{claim-76, claim-77, claim-78, claim-79}
 use Rattle.claims_wired.proofs.Modes.{claim-94, claim-95}
 use Rattle.claims_wired.proofs.Region.{claim-130, claim-131}
-use Rattle.claims_wired.proofs.Registers.{claim-132, claim-133, claim-139}
+use Rattle.claims_wired.proofs.Registers.{claim-132, claim-133, claim-139, claim-145}
 use Rattle.claims_wired.proofs.Enables.{claim-134}
 use Rattle.claims_wired.proofs.Settings.{claim-135, claim-136, claim-142}
 use Rattle.claims_wired.proofs.Sourcecfg.{claim-137}
@@ -35,13 +35,16 @@ use Rattle.claims_board.proofs.ClosureSent.{claim-151, claim-154}
 use Rattle.claims_board.proofs.ClosureFiles.{claim-152, claim-153}
 use Rattle.claims_board.proofs.ClosureCall.{claim-156}
 use Rattle.claims_board.proofs.Start.{claim-160}
-use Rattle.claims_board.proofs.Accepted.{claim-171, claim-172, claim-173}
+use Rattle.claims_board.proofs.Accepted.{claim-171, claim-172, claim-173, claim-174}
+use Rattle.claims_board.proofs.Places.{claim-176}
 use Rattle.claims_calls.proofs.BoardCalls.{claim-80, claim-81, claim-82, claim-83, claim-84, claim-85}
 use Rattle.claims_calls.proofs.BoardCalls.{claim-86, claim-87, claim-88, claim-89, claim-90, claim-161}
 use Rattle.claims_calls.proofs.BoardFacts.{claim-91, claim-92, claim-93, claim-162}
 use Rattle.claims_calls.proofs.Asked.{claim-113, claim-114}
+use Rattle.claims_calls.proofs.Answers.{claim-177}
 use Rattle.claims_move.proofs.MoveCall.{claim-100, claim-101, claim-102, claim-103}
 use Rattle.claims_move.proofs.Station.{claim-104, claim-105, claim-106, claim-107, claim-108, claim-109}
+use Rattle.claims_move.proofs.Premises.{claim-175, claim-178}
 use Rattle.claims_move.proofs.Station.{claim-110, claim-111, claim-112}
 use Rattle.claims_cases.proofs.Runs.{claim-163}
 use Rattle.claims_cases.proofs.Table.{claim-170}
@@ -60,7 +63,9 @@ demand-1 = (
   claim-100,
   claim-83,
   claim-162,
+  claim-177,
   claim-88,
+  claim-176,
   claim-84,
   claim-92,
   claim-115,
@@ -78,6 +83,7 @@ demand-1 = (
   claim-85,
   claim-86,
   claim-104,
+  claim-178,
   claim-160,
 )
 
@@ -148,6 +154,7 @@ demand-2 = (
   claim-140,
   claim-141,
   claim-143,
+  claim-145,
   claim-146,
   claim-40,
   claim-41,
@@ -168,6 +175,7 @@ demand-2 = (
   claim-48,
   claim-49,
   claim-142,
+  claim-174,
   claim-50,
   claim-51,
   claim-52,
@@ -207,6 +215,7 @@ demand-3 = (
   claim-108,
   claim-109,
   claim-110,
+  claim-175,
   claim-111,
   claim-112,
 )

@@ -22,7 +22,7 @@ use Rattle.claims_wired.specs.Rules.{Claim-72, Claim-73, Claim-74, Claim-75}
 use Rattle.claims_wired.specs.Controller.{Claim-76, Claim-77, Claim-78, Claim-79}
 use Rattle.claims_wired.specs.Modes.{Claim-94, Claim-95}
 use Rattle.claims_wired.specs.Region.{Claim-130, Claim-131}
-use Rattle.claims_wired.specs.Registers.{Claim-132, Claim-133, Claim-139}
+use Rattle.claims_wired.specs.Registers.{Claim-132, Claim-133, Claim-139, Claim-145}
 use Rattle.claims_wired.specs.Enables.{Claim-134}
 use Rattle.claims_wired.specs.Settings.{Claim-135, Claim-136, Claim-142}
 use Rattle.claims_wired.specs.Sourcecfg.{Claim-137}
@@ -36,13 +36,16 @@ use Rattle.claims_board.specs.Numbers.{Claim-115, Claim-116, Claim-117}
 use Rattle.claims_board.specs.BoardRules.{Claim-118}
 use Rattle.claims_board.specs.Closure.{Claim-150, Claim-151, Claim-152, Claim-153, Claim-154, Claim-156}
 use Rattle.claims_board.specs.Start.{Claim-160}
-use Rattle.claims_board.specs.Accepted.{Claim-171, Claim-172, Claim-173}
+use Rattle.claims_board.specs.Accepted.{Claim-171, Claim-172, Claim-173, Claim-174}
+use Rattle.claims_board.specs.Places.{Claim-176}
 use Rattle.claims_calls.specs.BoardCalls.{Claim-80, Claim-81, Claim-82, Claim-83, Claim-84, Claim-85}
 use Rattle.claims_calls.specs.BoardCalls.{Claim-86, Claim-87, Claim-88, Claim-89, Claim-90, Claim-161}
 use Rattle.claims_calls.specs.BoardFacts.{Claim-91, Claim-92, Claim-93, Claim-162}
 use Rattle.claims_calls.specs.Asked.{Claim-113, Claim-114}
+use Rattle.claims_calls.specs.Answers.{Claim-177}
 use Rattle.claims_move.specs.MoveCall.{Claim-100, Claim-101, Claim-102, Claim-103}
 use Rattle.claims_move.specs.Station.{Claim-104, Claim-105, Claim-106, Claim-107, Claim-108, Claim-109}
+use Rattle.claims_move.specs.Premises.{Claim-175, Claim-178}
 use Rattle.claims_move.specs.Station.{Claim-110, Claim-111, Claim-112}
 use Rattle.claims_cases.specs.Runs.{Claim-163}
 use Rattle.claims_cases.specs.Table.{Claim-170}
@@ -57,7 +60,7 @@ Demand-1 =
     -- what each function answers and leaves is the outcome of its call, for any numbers and any blocks
     × Claim-80 × Claim-81 × Claim-82 × Claim-90 × Claim-93 × Claim-100
     -- and that settles it: the answer, both blocks and the record
-    × Claim-83 × Claim-162 × Claim-88
+    × Claim-83 × Claim-162 × Claim-177 × Claim-88 × Claim-176
     -- each refusal exactly when the paper says: the table, and what each line of it means in plain numbers
     × Claim-84 × Claim-92 × Claim-115 × Claim-116 × Claim-117 × Claim-101 × Claim-8 × Claim-30
     × Claim-31
@@ -66,7 +69,7 @@ Demand-1 =
     -- a refused call answers 0 and 0 and changes nothing
     × Claim-85
     -- and the block that a call leaves is taken by the next one
-    × Claim-86 × Claim-104 × Claim-160
+    × Claim-86 × Claim-104 × Claim-178 × Claim-160
 
 -- demand 2: every read, next state, hart signal and outgoing message is what the standard defines for the
 -- wired controller and the message files, the paper deciding wherever it speaks; a top interrupt reads zero
@@ -87,12 +90,13 @@ Demand-2 =
     × Claim-69 × Claim-70 × Claim-71 × Claim-76
     -- its registers: where they are, what they read, what a write stores
     × Claim-130 × Claim-131 × Claim-132 × Claim-133 × Claim-134 × Claim-135 × Claim-136 × Claim-137
-    × Claim-138 × Claim-139 × Claim-140 × Claim-141 × Claim-143 × Claim-146
+    × Claim-138 × Claim-139 × Claim-140 × Claim-141 × Claim-143 × Claim-145 × Claim-146
     -- pending bits, by the table of causes of 4.7, and nothing else
     × Claim-40 × Claim-41 × Claim-42 × Claim-59 × Claim-144 × Claim-55 × Claim-56 × Claim-57 × Claim-58
     × Claim-94 × Claim-95
     -- direct delivery: topi, claimi and the signal
     × Claim-43 × Claim-44 × Claim-45 × Claim-46 × Claim-47 × Claim-48 × Claim-49 × Claim-142
+    × Claim-174
     -- what is sent, and that it reaches its file
     × Claim-50 × Claim-51 × Claim-52 × Claim-53 × Claim-54 × Claim-77 × Claim-78 × Claim-96 × Claim-97
     × Claim-98 × Claim-99
@@ -118,5 +122,5 @@ Demand-3 =
     × Claim-105 × Claim-106
     -- no scan is dropped, doubled or handed to another station, and the shift goes on
     × Claim-107 × Claim-108 × Claim-109 × Claim-110
-    -- the premises can be met, and each is needed
-    × Claim-111 × Claim-112
+    -- the premises are the paper's, can be met, and each is needed
+    × Claim-175 × Claim-111 × Claim-112
