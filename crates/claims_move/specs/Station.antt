@@ -94,7 +94,7 @@ Claim-108 =
     × (i ≢ 0 → member (newIn m (boardIn (after new x)) .pending) i ≡ false)
     × (newIn m (boardIn (after new x)) ≡ oldIn m (boardIn (after old y)))))
 
--- none is handed to another station: every file but old and new is the same, bit by bit
+-- none is handed to another station: every file but old and new has the same pending bits
 unfoldable pub Claim-109 : Type 0
 Claim-109 =
     MovedWhere (λ m x y. (k : ℕ) → k < 20 → k ≢ oldNumber m → k ≢ newNumber m
