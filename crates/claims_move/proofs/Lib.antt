@@ -1,4 +1,5 @@
 -- The proofs of these claims, each by citing the crates below. Assumes nothing.
 pub mod MoveParts
 pub mod MoveCall
+pub mod Premises
 pub mod Station

@@ -69,7 +69,7 @@ claim-100 l b b′ g g′ s s′ oh of nh nf n = (tt, (λ r learnt. learnt), tt,
 
 -- ---- when an access is barred
 
-guest-joined : (h f : ℕ) → h < 4 → 2 ≤ f → f ≤ 4 → isGuestFile h f ≡ true
+pub guest-joined : (h f : ℕ) → h < 4 → 2 ≤ f → f ≤ 4 → isGuestFile h f ≡ true
 unfolding isGuestFile
 guest-joined h f a l u = simp (lt-ltb h 4 a, le-leb 2 f l, lt-ltb f 5 (omega arith))
 

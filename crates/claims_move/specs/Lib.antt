@@ -1,4 +1,5 @@
 -- The claims on the move of a station: each a statement written out in full. The header of each file
 -- names its premises. No axioms.
 pub mod MoveCall
+pub mod Premises
 pub mod Station

@@ -1,0 +1,134 @@
+-- Claims 175 and 178, from the definitions of the premises, line by line, and from the law that the board of
+-- a block that keeps the rules is fit. Assumes nothing.
+use Prim.Native.Nat.{ℕ, suc, _+_, _≤_, _<_}
+use mathlib.Core.Path.{_≡_, refl, sym, ap, subst}
+use mathlib.Core.Bool.{true, false, _&&_}
+use mathlib.Core.List.{_∷_}
+use mathlib.Core.Logic.{_↔_}
+use native.Mathlib.Omega.{arith}
+use lib.Dec.{eqb}
+use borrow.Author.Tests.{eqb-true, eq-eqb}
+use Rattle.words.specs.Sets.{WordsFit}
+use Rattle.words.proofs.TestsLaws.{tested, and-first, and-second, and-both, not-same}
+use Rattle.domain.specs.Slot.{sourceAt}
+use Rattle.board_move_steps.specs.Names.{namesFile}
+use Rattle.board_move_wired_laws.proofs.TargetNames.{names-number, number-names}
+use Rattle.board_call.specs.declared.Call.the-variants.{Move}
+use Rattle.board_call_laws.proofs.FitEffects.{fit-block}
+use Rattle.board_call_laws.proofs.MoveEffects.{guest-hart, guest-low, guest-high}
+use Rattle.board_runs.specs.Ready.{boardIn}
+use Rattle.transfer_laws.specs.Shift.{Stations, withMove, withoutMove}
+use Rattle.transfer_laws.specs.Premises.{TwoGuests, ByMessages, NoneNamesNew, accessesIn}
+use Rattle.transfer_laws.specs.Premises.{AllAccesses, PagesKept}
+use Rattle.claims_wired.proofs.Registers.{active-iff}
+use Rattle.claims_move.specs.Premises.{Claim-175, Claim-178}
+use Rattle.claims_move.proofs.MoveCall.{guest-joined}
+
+-- ---- a file is the one that is named, or it is not
+
+module _ (h f h′ f′ : ℕ) where
+  same-file : (eqb h h′ && eqb f f′) ≡ true → (h ≡ h′) × (f ≡ f′)
+  same-file e =
+      (eqb-true h h′ (and-first (eqb h h′) (eqb f f′) e), eqb-true f f′ (and-second (eqb h h′) (eqb f f′) e))
+
+  file-same : h ≡ h′ → f ≡ f′ → (eqb h h′ && eqb f f′) ≡ true
+  file-same p q = and-both (eqb h h′) (eqb f f′) (eq-eqb h h′ p) (eq-eqb f f′ q)
+
+  file-other : (h ≡ h′ → f ≡ f′ → ⊥) → (eqb h h′ && eqb f f′) ≡ false
+  file-other d =
+      tested (eqb h h′ && eqb f f′) (λ t. let e = same-file t in absurd (d (e .0) (e .1))) (λ e. e)
+
+-- ---- the premises
+
+two-guests : (m : Stations)
+    → TwoGuests m
+    ↔ ((m .oldHart < 4) × (2 ≤ m .oldFile) × (m .oldFile ≤ 4) × (m .newHart < 4) × (2 ≤ m .newFile)
+    × (m .newFile ≤ 4) × (m .oldHart ≡ m .newHart → m .oldFile ≡ m .newFile → ⊥))
+two-guests m =
+    let oh = m .oldHart in
+    let of = m .oldFile in
+    let nh = m .newHart in
+    let nf = m .newFile in (
+      (λ g. (
+        guest-hart oh of (g .old),
+        guest-low oh of (g .old),
+        omega (arith, guest-high oh of (g .old)),
+        guest-hart nh nf (g .new),
+        guest-low nh nf (g .new),
+        omega (arith, guest-high nh nf (g .new)),
+        (λ p q. not-same _ (file-same oh of nh nf p q) (g .different)),
+      )),
+      (λ p. record {
+        old = guest-joined oh of (p .0) (p .1) (p .2);
+        new = guest-joined nh nf (p .3) (p .4) (p .5);
+        different = file-other oh of nh nf (p .6);
+      }),
+    )
+
+pub claim-175 : Claim-175
+unfolding Claim-175 NoneNamesNew ByMessages WordsFit accessesIn AllAccesses PagesKept withMove withoutMove
+claim-175 m x es n j level h f a v =
+    let nh = m .newHart in
+    let nf = m .newFile in
+    let oh = m .oldHart in
+    let of = m .oldFile in
+    let next : suc n ≡ n + 1 = omega arith in (
+      two-guests m,
+      (
+        (λ none i l u z s p q. let t = sourceAt (boardIn x .wired .child) i .target in
+            not-same (namesFile t nh nf) (number-names t nh nf p q)
+            (none i l u (active-iff _ .1 (z, s)))),
+        (λ none i l u on. let t = sourceAt (boardIn x .wired .child) i .target in
+            let active = active-iff _ .0 on in
+            tested (namesFile t nh nf)
+            (λ y. let e = names-number t nh nf y in absurd (none i l u (active .0) (active .1) (e .0) (e .1)))
+            (λ y. y)),
+      ),
+      ((λ p. p), (λ p. p)),
+      (
+        (λ s. (s .block, s .words, s .rules, s .log, s .record-long, s .record-fit)),
+        (λ p. record {
+          block = p .0;
+          words = p .1;
+          rules = p .2;
+          log = p .3;
+          record-long = p .4;
+          record-fit = p .5;
+        }),
+      ),
+      ((λ p. p), (λ p. p)),
+      refl,
+      refl,
+      refl,
+      omega arith,
+      tt,
+      ((λ p. p), (λ p. p)),
+      (
+        (λ k. (
+          (λ p q. k .0 (file-same h f nh nf p q)),
+          (λ p q. k .1 (file-same h f oh of p q)),
+          k .2,
+        )),
+        (λ k. (
+          (λ e. let s = same-file h f nh nf e in k .0 (s .0) (s .1)),
+          (λ e. let s = same-file h f oh of e in k .1 (s .0) (s .1)),
+          k .2,
+        )),
+      ),
+      (subst (λ (k : ℕ). PagesKept m k es) next, subst (λ (k : ℕ). PagesKept m k es) (sym next)),
+      refl,
+      refl,
+      refl,
+      ap (λ (k : ℕ). Move oh of nh nf k ∷ withMove m k es) next,
+      refl,
+      refl,
+      (λ p q. rw (file-same h f nh nf p q) refl),
+      (λ d. rw (file-other h f nh nf d) refl),
+      refl,
+    )
+
+pub claim-178 : Claim-178
+unfolding Claim-178 WordsFit
+claim-178 x long words rules log saved =
+    let fit = fit-block (x .block) long words rules in
+    (record { long = long; full = log; fit = fit; saved = saved }, fit, fit .shaped)
