@@ -1,10 +1,10 @@
 -- Claims 171 to 174, on what an accepted call answers and leaves: the numbers, the two blocks, and which file
 -- or domain it works on, and how. 01, "Calls and their refusals", "The wired controller".
 -- Premises: of 171, what is lent is `Ready` (650 words of 32 bits that keep the state rules, a log of 63
--- words, a record of numbers of 64 bits) and a register's value has 64 bits (`Small`), as all that a program
--- can pass has, and no test refuses the call; 172 has none, and 174 a hart that is there; of 173, the board has 20 files and keeps the
--- state rules, and the hart and the file are there. A reset of a block that breaks the rules is Claim-87's.
--- No axioms.
+-- words, a record of numbers of 64 bits) and a register's value has 64 bits (`Small`), as all that a
+-- program can pass has, and no test refuses the call; 172 has none, and 174 a hart that is there; of 173,
+-- the board has 20 files and keeps the state rules, and the hart and the file are there. A reset of a
+-- block that breaks the rules is Claim-87's. No axioms.
 use Prim.Native.Nat.{ℕ, _+_, _*_, _≤_, _<_}
 use mathlib.Core.Path.{_≡_}
 use mathlib.Core.Bool.{true, false}
@@ -103,8 +103,8 @@ Claim-173 =
     → DoneBy (writeCall (b .wired) false (wordAt a) v) b (step (DomainWrite 0 a v) b s)
     × DoneBy (writeCall (b .wired) true (wordAt a) v) b (step (DomainWrite 1 a v) b s))
 
--- a read of topi, at 0x4000 + 32 h + 0x18, and of claimi, at + 0x1C, of a domain answers topi of hart h in that
--- domain
+-- a read of topi, at 0x4000 + 32 h + 0x18, and of claimi, at + 0x1C, of a domain answers topi of hart h in
+-- that domain
 unfoldable pub Claim-174 : Type 0
 Claim-174 =
     (b : Board) (s : List ℕ) (h : ℕ) → h < 4

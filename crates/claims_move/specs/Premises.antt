@@ -28,11 +28,11 @@ use Rattle.transfer_laws.specs.Shift.Event.{wire, page, access}
 use Rattle.transfer_laws.specs.Premises.{Started, TwoGuests, ByMessages, NoneNamesNew, accessesIn}
 use Rattle.transfer_laws.specs.Premises.{AllAccesses, PagesKept}
 
--- the premises of a move and the two shifts that are compared are those of 01, no more and no less: old and
--- new are two different files 2 to 4 of harts 0 to 3; at the start no active source of the child names new,
--- the child is not in direct mode, and what is lent has its lengths and keeps the rules; the accesses are 89,
--- with their numbers in order; nobody writes to new before access 8, nor to old from access 72 on; and the
--- compared shift has the same wires and page writes, those to new going to old, and no access
+-- the premises of a move, and the two shifts that are compared, ask this and no more: old and new are two
+-- different files 2 to 4 of harts 0 to 3; at the start no active source of the child names new, the child is
+-- not in direct mode, and what is lent has its lengths and keeps the rules; the accesses are 89, with their
+-- numbers in order; nobody writes to new before access 8, nor to old from access 72 on; and the compared
+-- shift has the same wires and page writes, those to new going to old, and no access
 unfoldable pub Claim-175 : Type 0
 Claim-175 =
     (m : Stations) (x : Lent) (es : List Event) (n j level h f a v : ℕ)

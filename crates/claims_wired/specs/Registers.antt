@@ -1,5 +1,5 @@
--- Claims 132, 133, 139 and 145, on what the registers of a domain read, bit by bit, and on the source modes. 01,
--- "The wired controller".
+-- Claims 132, 133, 139 and 145, on what the registers of a domain read, bit by bit, and on the source
+-- modes. 01, "The wired controller".
 --   Bit v n b    bit n of v is 1 exactly if b
 -- Premises: 132 has none for the bits, and `WordsFit` (each word has 32 bits, as every word of a block has)
 -- where it says that a word has no others; 133 has `Sound w`, the state rules; 139 and 145 none. No axioms.
@@ -56,9 +56,9 @@ Claim-139 =
     → (isRectified m wire ≡ true)
     ↔ ((((m ≡ 4) ⊎ (m ≡ 6)) × (wire ≡ true)) ⊎ (((m ≡ 5) ⊎ (m ≡ 7)) × (wire ≡ false))))
 
--- topi and claimi of a hart read the same: by messages 0, and in direct mode 0 exactly if no source counts for
--- that hart (Claim-48 says which do), else what Claim-44 says; a sourcecfg and a target read what is stored of
--- their source
+-- topi and claimi of a hart read the same: by messages 0, and in direct mode 0 exactly if no source counts
+-- for that hart (Claim-48 says which do), else what Claim-44 says; a sourcecfg and a target read what is
+-- stored of their source
 unfoldable pub Claim-145 : Type 0
 Claim-145 =
     (d : Domain) (wires : List ℕ)
