@@ -10,6 +10,7 @@ use Rattle.claims_file.proofs.FileState.{claim-126, claim-127, claim-128, claim
 use Rattle.claims_wired.proofs.Causes.{claim-40, claim-41, claim-42}
 use Rattle.claims_wired.proofs.Direct.{claim-43, claim-44, claim-45, claim-46, claim-47, claim-48, claim-49}
 use Rattle.claims_wired.proofs.Sending.{claim-50, claim-51, claim-52, claim-53, claim-54}
+use Rattle.claims_wired.proofs.Candidates.{claim-147}
 use Rattle.claims_wired.proofs.Writes.{claim-55, claim-56, claim-57, claim-58}
 use Rattle.claims_wired.proofs.Operations.{claim-59}
 use Rattle.claims_wired.proofs.WiredCalls.{claim-60, claim-61, claim-62, claim-63, claim-64, claim-65}
@@ -177,6 +178,7 @@ demand-2 = (
   claim-142,
   claim-174,
   claim-50,
+  claim-147,
   claim-51,
   claim-52,
   claim-53,

@@ -13,7 +13,7 @@ use Rattle.claims_file.specs.FileRegisters.{Claim-125}
 use Rattle.claims_file.specs.FileState.{Claim-126, Claim-127, Claim-128, Claim-129}
 use Rattle.claims_wired.specs.Causes.{Claim-40, Claim-41, Claim-42}
 use Rattle.claims_wired.specs.Direct.{Claim-43, Claim-44, Claim-45, Claim-46, Claim-47, Claim-48, Claim-49}
-use Rattle.claims_wired.specs.Sending.{Claim-50, Claim-51, Claim-52, Claim-53, Claim-54}
+use Rattle.claims_wired.specs.Sending.{Claim-50, Claim-51, Claim-52, Claim-53, Claim-54, Claim-147}
 use Rattle.claims_wired.specs.Writes.{Claim-55, Claim-56, Claim-57, Claim-58}
 use Rattle.claims_wired.specs.Operations.{Claim-59}
 use Rattle.claims_wired.specs.WiredCalls.{Claim-60, Claim-61, Claim-62, Claim-63, Claim-64, Claim-65}
@@ -98,7 +98,8 @@ Demand-2 =
     × Claim-43 × Claim-44 × Claim-45 × Claim-46 × Claim-47 × Claim-48 × Claim-49 × Claim-142
     × Claim-174
     -- what is sent, and that it reaches its file
-    × Claim-50 × Claim-51 × Claim-52 × Claim-53 × Claim-54 × Claim-77 × Claim-78 × Claim-96 × Claim-97
+    × Claim-50 × Claim-147 × Claim-51 × Claim-52 × Claim-53 × Claim-54 × Claim-77 × Claim-78 × Claim-96
+    × Claim-97
     × Claim-98 × Claim-99
     -- the state rules are kept
     × Claim-74 × Claim-75 × Claim-79

@@ -17,9 +17,9 @@ use Rattle.files.specs.Files.{fileNumber, isGuest, theFile}
 use Rattle.files.proofs.FilesLaws.{theFile-withFile-same}
 use Rattle.domain_sending.specs.Sending.{logged}
 use Rattle.domain_region.specs.declared.Word.{Word}
-use Rattle.domain_region.specs.declared.Word.the-variants.{Topi, Claimi}
+use Rattle.domain_region.specs.declared.Word.the-variants.{InClrip, Topi, Claimi}
 use Rattle.domain_region.specs.Region.{wordAt}
-use Rattle.domain_region.proofs.RegionLaws.{topi-at, claimi-at}
+use Rattle.domain_region.proofs.RegionLaws.{in-clrip-at, topi-at, claimi-at}
 use Rattle.domain_registers.specs.Read.{registerValue}
 use Rattle.wired_state.specs.Wires.{domainIn}
 use Rattle.wired_registers.specs.Wired.{readIn}
@@ -36,7 +36,10 @@ use Rattle.board_runs.specs.Ready.{boardIn}
 use Rattle.board_runs.proofs.RunsEffects.{ready-refusal, accepted-named, after-board, ready-after}
 use Rattle.board_call_laws.specs.Fit.{Kept}
 use Rattle.board_call_laws.proofs.KeepsEffects.{kept-step}
-use Rattle.claims_board.specs.Accepted.{AccessedBy, Claim-171, Claim-172, Claim-173, Claim-174}
+use Rattle.claims_wired.specs.Registers.{Claim-132}
+use Rattle.claims_wired.proofs.Registers.{claim-132}
+use Rattle.claims_board.specs.Accepted.{AccessedBy, WireRead}
+use Rattle.claims_board.specs.Accepted.{Claim-171, Claim-172, Claim-173, Claim-174}
 
 module _ (g ms : List ℕ) where
   -- the messages come first, and past them the log is as it was
@@ -150,11 +153,28 @@ module _ (b : Board) (s : List ℕ) (a : ℕ) (r : Word) (e : wordAt a ≡ r) wh
   read-child : step (DomainRead 1 a) b s .value ≡ readIn (b .wired) true r
   read-child = ap (λ (x : Stepped). x .value) (step-domainRead b 1 a s) ∙ ap (readIn (b .wired) true) e
 
+  -- bit by bit, as Claim-132 says it of the register
+  module _ (k n : ℕ) (l : n < 32) (q : r ≡ InClrip k) where
+    wire-root : WireRead (step (DomainRead 0 a) b s .value) n (32 * k + n) (b .wired .root) (b .wired .wires)
+    unfolding Claim-132 domainIn
+    wire-root = rw (read-root, q) (claim-132 (b .wired .root) (b .wired .wires) k .0 n l .2)
+
+    wire-child : WireRead (step (DomainRead 1 a) b s .value) n (32 * k + n) (b .wired .child)
+        (b .wired .wires)
+    unfolding Claim-132 domainIn
+    wire-child = rw (read-child, q) (claim-132 (b .wired .child) (b .wired .wires) k .0 n l .2)
+
 pub claim-174 : Claim-174
 unfolding Claim-174 registerValue domainIn
-claim-174 b s h l = (
-  read-root b s (0x4000 + 32 * h + 0x18) (Topi h) (topi-at h l),
-  read-child b s (0x4000 + 32 * h + 0x18) (Topi h) (topi-at h l),
-  read-root b s (0x4000 + 32 * h + 0x1C) (Claimi h) (claimi-at h l),
-  read-child b s (0x4000 + 32 * h + 0x1C) (Claimi h) (claimi-at h l),
+claim-174 b s = (
+  (λ h l. (
+    read-root b s (0x4000 + 32 * h + 0x18) (Topi h) (topi-at h l),
+    read-child b s (0x4000 + 32 * h + 0x18) (Topi h) (topi-at h l),
+    read-root b s (0x4000 + 32 * h + 0x1C) (Claimi h) (claimi-at h l),
+    read-child b s (0x4000 + 32 * h + 0x1C) (Claimi h) (claimi-at h l),
+  )),
+  (λ k n m l. (
+    wire-root b s (0x1D00 + 4 * k) (InClrip k) (in-clrip-at k m) k n l refl,
+    wire-child b s (0x1D00 + 4 * k) (InClrip k) (in-clrip-at k m) k n l refl,
+  )),
 )

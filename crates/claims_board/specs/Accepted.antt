@@ -2,13 +2,14 @@
 -- or domain it works on, and how. 01, "Calls and their refusals", "The wired controller".
 -- Premises: of 171, what is lent is `Ready` (650 words of 32 bits that keep the state rules, a log of 63
 -- words, a record of numbers of 64 bits) and a register's value has 64 bits (`Small`), as all that a
--- program can pass has, and no test refuses the call; 172 has none, and 174 a hart that is there; of 173,
--- the board has 20 files and keeps the state rules, and the hart and the file are there. A reset of a
--- block that breaks the rules is Claim-87's. No axioms.
-use Prim.Native.Nat.{ℕ, _+_, _*_, _≤_, _<_}
+-- program can pass has, and no test refuses the call; 172 has none, and 174 a hart or a word that is
+-- there; of 173, the board has 20 files and keeps the state rules, and the hart and the file are there. A
+-- reset of a block that breaks the rules is Claim-87's. No axioms.
+use Prim.Native.Nat.{ℕ, _+_, _*_, _/_, _%_, _^_, _≤_, _<_}
 use mathlib.Core.Path.{_≡_}
 use mathlib.Core.Bool.{true, false}
 use mathlib.Core.List.{List}
+use mathlib.Core.Logic.{_≢_, _↔_}
 use lib.Dec.{leb}
 use lib.ListN.{length, getD}
 use Rattle.file.specs.declared.register.Access.{Access}
@@ -18,7 +19,10 @@ use Rattle.file.specs.Register.{accessed}
 use Rattle.file.specs.Reply.{replyValue}
 use Rattle.file.specs.Top.{topOf, claimed}
 use Rattle.files.specs.Files.{theFile}
+use Rattle.words.specs.Sets.{member}
 use Rattle.domain_region.specs.Region.{wordAt}
+use Rattle.domain.specs.Domain.{Domain}
+use Rattle.domain.specs.Slot.{sourceAt}
 use Rattle.domain_direct.specs.Direct.{topiOf}
 use Rattle.wired_registers.specs.Wired.{readIn}
 use Rattle.wired.specs.Controller.{Out, wireCall, readCall, writeCall}
@@ -103,12 +107,27 @@ Claim-173 =
     → DoneBy (writeCall (b .wired) false (wordAt a) v) b (step (DomainWrite 0 a v) b s)
     × DoneBy (writeCall (b .wired) true (wordAt a) v) b (step (DomainWrite 1 a v) b s))
 
--- a read of topi, at 0x4000 + 32 h + 0x18, and of claimi, at + 0x1C, of a domain answers topi of hart h in
--- that domain
+-- ---- registers that a call reads
+
+-- bit n of the value v is 1 exactly if source i is active in the domain d and its wire is high
+abbrev pub WireRead : ℕ → ℕ → ℕ → Domain → List ℕ → Type 0
+WireRead v n i d wires =
+    let mode = sourceAt d i .mode in
+    (v / 2 ^ n % 2 ≡ 1) ↔ ((1 ≤ i) × (mode ≢ 0) × (mode < 1024) × (member wires i ≡ true))
+
+-- by calls, in either domain: a read of topi, at 0x4000 + 32 h + 0x18, and of claimi, at + 0x1C, answers
+-- topi of hart h in that domain; bit n of a read of in_clrip[k], at 0x1D00 + 4 k, is 1 exactly if source
+-- 32 k + n is active in that domain and its wire is high
 unfoldable pub Claim-174 : Type 0
 Claim-174 =
-    (b : Board) (s : List ℕ) (h : ℕ) → h < 4
+    (b : Board) (s : List ℕ)
+    → ((h : ℕ) → h < 4
     → (step (DomainRead 0 (0x4000 + 32 * h + 0x18)) b s .value ≡ topiOf (b .wired .root) h)
     × (step (DomainRead 1 (0x4000 + 32 * h + 0x18)) b s .value ≡ topiOf (b .wired .child) h)
     × (step (DomainRead 0 (0x4000 + 32 * h + 0x1C)) b s .value ≡ topiOf (b .wired .root) h)
-    × (step (DomainRead 1 (0x4000 + 32 * h + 0x1C)) b s .value ≡ topiOf (b .wired .child) h)
+    × (step (DomainRead 1 (0x4000 + 32 * h + 0x1C)) b s .value ≡ topiOf (b .wired .child) h))
+    × ((k n : ℕ) → k < 2 → n < 32
+    → let i = 32 * k + n in
+    let wires = b .wired .wires in
+    WireRead (step (DomainRead 0 (0x1D00 + 4 * k)) b s .value) n i (b .wired .root) wires
+    × WireRead (step (DomainRead 1 (0x1D00 + 4 * k)) b s .value) n i (b .wired .child) wires)

@@ -168,7 +168,7 @@ maySend (Claim h f) = false
 maySend (Signals h) = false
 maySend (Move oh of nh nf n) = false
 
--- every other call sends nothing, and leaves the board as its change did
+-- a call that is neither a wire nor a write to a domain sends nothing, and leaves the board as its change did
 unfoldable pub Claim-154 : Type 0
 Claim-154 =
     (b : Board) → Fit b → (c : Call) → nameRefusal c b ≡ 0 → maySend c ≡ false → (s : List ℕ)

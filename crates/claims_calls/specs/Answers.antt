@@ -8,9 +8,10 @@ use Rattle.board_call.specs.declared.Answer.{Answer}
 use Rattle.board_call.specs.declared.Answer.the-variants.{Done, StateLength, LogLength, BrokenRule, NoSuch}
 use Rattle.board_call.specs.declared.Answer.the-variants.{BadAddress, IllegalSelect}
 use Rattle.board_call.specs.Answer.{refusalNumber, answerValue, answerCount}
-use Rattle.board_call.specs.Outcome.{Outcome, Gives}
+use Rattle.board_call.specs.declared.Call.{Call}
+use Rattle.board_call.specs.Outcome.{Outcome, outcome, Gives, Does}
 use Rattle.monitor_answer.specs.declared.VskAnswer.{VskAnswer}
-use Rattle.monitor_answer.specs.Told.{Told}
+use Rattle.monitor_answer.specs.Told.{Told, Tells}
 
 -- r is the refusal n of the paper's table, with 0 and 0
 abbrev pub RefusedAs : Answer → ℕ → Type 0
@@ -32,3 +33,11 @@ Claim-177 =
     × ((o : Outcome) (r : VskAnswer) (l g s : List ℕ) → Told o r l g s
     → (r .refusal ≡ o .number) × (r .value ≡ o .value) × (r .count ≡ o .count)
     × (l ≡ o .block) × (g ≡ o .log) × (s ≡ o .saved))
+    × ((c : Call) (l g l′ g′ s : List ℕ) (r : Answer) → Does c l g r l′ g′
+    → let o = outcome c l g s in
+    (refusalNumber r ≡ o .number) × (answerValue r ≡ o .value) × (answerCount r ≡ o .count)
+    × (l′ ≡ o .block) × (g′ ≡ o .log) × (s ≡ o .saved))
+    × ((c : Call) (l g l′ g′ s : List ℕ) (r : VskAnswer) → Tells c l g r l′ g′
+    → let o = outcome c l g s in
+    (r .refusal ≡ o .number) × (r .value ≡ o .value) × (r .count ≡ o .count)
+    × (l′ ≡ o .block) × (g′ ≡ o .log) × (s ≡ o .saved))

@@ -70,7 +70,7 @@ Claim-113 =
 -- ---- the code meets its contract
 
 -- each function that C calls, and the function over the enum of calls: its code does what its contract
--- says, which Claim-93, Claim-100 and Claim-90 say in the words of 01
+-- says, which is the outcome of its call: claims 93, 100 and 90
 unfoldable pub Claim-114 : Type 2
 Claim-114 =
     (M : Type 1)

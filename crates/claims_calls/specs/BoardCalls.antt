@@ -1,6 +1,8 @@
 -- Claims 80 to 90 and 161, on the calls of the board: what a call gives, that this settles everything, when
 -- it is refused, that a refused call changes nothing, what an accepted one leaves, and the signals. 01,
 -- "Calls and their refusals", "State rules", "Direct delivery and signals".
+-- That the code meets the contracts that 80 to 82 and 90 speak of is what the check of its crate proves, and
+-- for `apply` and the functions of C Claim-114.
 -- Premises: of claims 80 to 82 and 90 what the contract ensures, `X.Learnt`, for which nothing is asked
 -- (Claim-113); of Claim-86 a block of words of 32 bits that keep the rules (`WordsFit`), a value and a record
 -- of 64 bits (`Small`, `SavedFit`), as every block, value and record of a program is, and that the call is

@@ -1,5 +1,6 @@
--- Claims 76 to 79, on the calls of the wired controller with what they send: what each leaves, which messages
--- it sends, that the log has room for them, and that the state rules hold again. 01, "The wired controller".
+-- Claims 76 to 79, on the functions of the wired controller with what they send: what each leaves, which
+-- messages it sends, that the log has room for them, and that the state rules hold again. That the code meets
+-- the contracts that 76 speaks of is what the check of crate `wired` proves. 01, "The wired controller".
 -- Premises: 76 has none but what the contracts let a caller learn; 77 to 79 have `Sound w`, the state rules,
 -- with wires 1 to 63 and registers whose numbers are in their ranges (`Within`). No axioms.
 use Prim.Native.Nat.{ℕ, _≤_, _<_}

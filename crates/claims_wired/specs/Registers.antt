@@ -46,8 +46,9 @@ Claim-133 =
     (word ≡ 0x80000000 + cond (isEnabled d) 256 0 + cond (byMessages d) 4 0)
     × (word / 2 ^ 24 ≡ 0x80) × Bit word 8 (isEnabled d) × Bit word 2 (byMessages d) × (word % 2 ≡ 0)
 
--- the modes: 0 is inactive and 1024 delegated; 6 and 7 are the level modes; the rectified value is the wire
--- for 4 (Edge1) and 6 (Level1), its opposite for 5 (Edge0) and 7 (Level0), and low for every other
+-- the modes: 0, and 1024 with which a source is delegated, are not active; 6 and 7 are the level modes;
+-- the rectified value is the wire for 4 (Edge1) and 6 (Level1), its opposite for 5 (Edge0) and 7 (Level0),
+-- and low for every other
 unfoldable pub Claim-139 : Type 0
 Claim-139 =
     (m : ℕ)

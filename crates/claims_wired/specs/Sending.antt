@@ -1,18 +1,22 @@
--- Claims 50 to 54, on what a domain sends: which messages, in which order, and what is left. 01, "The wired
--- controller": each domain with DM = 1 and IE = 1 sends for each source that is active, pending and enabled,
--- lowest source first, and clears its pending bit. c says that the domain is the child.
+-- Claims 50 to 54 and 147, on what a domain sends: which messages, in which order, and what is left. 01,
+-- "The wired controller": each domain with DM = 1 and IE = 1 sends for each source that is active, pending
+-- and enabled, lowest source first, and clears its pending bit. c says that the domain is the child.
 -- Premises: none but IE and DM, as each line says. No axioms.
 use Prim.Native.Nat.{ℕ, _+_, _*_, _≤_, _<_}
 use mathlib.Core.Path.{_≡_}
 use mathlib.Core.Bool.{Bool, true, false, cond, not, _&&_}
 use mathlib.Core.List.{[], _∷_, map}
+use mathlib.Core.Logic.{_↔_}
+use lib.Dec.{eqb}
 use lib.ListN.{length, getD}
 use Rattle.words.specs.Sets.{member}
+use Rattle.source_mode.specs.Mode.{isActive}
 use Rattle.source_target.specs.Target.{hartOf, numberOf}
 use Rattle.domain.specs.Domain.{Domain, isEnabled, byMessages}
 use Rattle.domain.specs.Slot.{sourceAt}
 use Rattle.domain_sending.specs.Sending.{candidate, sent}
 use Rattle.domain_genmsi.specs.Genmsi.{generatedSent}
+use Rattle.files_laws.specs.Messages.{anyOf}
 use Rattle.domain_sending_laws.specs.Candidates.{candidates, messageAt, DomainPendingOnly, Names}
 
 -- a domain sends the messages of its active, pending and enabled sources, ascending, and none if IE and DM
@@ -22,6 +26,16 @@ Claim-50 =
     (c : Bool) (d : Domain)
     → ((isEnabled d && byMessages d) ≡ true → sent c d .messages ≡ map (messageAt c d) (candidates d))
     × ((isEnabled d && byMessages d) ≡ false → (sent c d .messages ≡ []) × (sent c d .domain ≡ d))
+
+-- the sources that a domain sends are in ascending order, and exactly those of 1 to 63 that are active,
+-- pending and enabled
+unfoldable pub Claim-147 : Type 0
+Claim-147 =
+    (d : Domain) → let cs = candidates d in
+    ((k : ℕ) → k + 1 < length cs → getD cs k 0 < getD cs (k + 1) 0)
+    × ((i : ℕ) → (anyOf (eqb i) cs ≡ true)
+    ↔ ((1 ≤ i) × (i ≤ 63) × (isActive (sourceAt d i .mode) ≡ true) × (sourceAt d i .pending ≡ true)
+    × (sourceAt d i .enabled ≡ true)))
 
 -- after the pass of messages no source of a domain that sends is left to be sent
 unfoldable pub Claim-51 : Type 0
