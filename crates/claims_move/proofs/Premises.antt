@@ -1,9 +1,9 @@
 -- Claims 175 and 178, from the definitions of the premises, line by line, and from the law that the board of
 -- a block that keeps the rules is fit. Assumes nothing.
-use Prim.Native.Nat.{ℕ, suc, _+_, _≤_, _<_}
+use Prim.Native.Nat.{ℕ, suc, _+_, _^_, _≤_, _<_}
 use mathlib.Core.Path.{_≡_, refl, sym, ap, subst}
 use mathlib.Core.Bool.{true, false, _&&_}
-use mathlib.Core.List.{_∷_}
+use mathlib.Core.List.{List, _∷_}
 use mathlib.Core.Logic.{_↔_}
 use native.Mathlib.Omega.{arith}
 use lib.Dec.{eqb}
@@ -13,13 +13,18 @@ use Rattle.words.proofs.TestsLaws.{tested, and-first, and-second, and-both, not
 use Rattle.domain.specs.Slot.{sourceAt}
 use Rattle.board_move_steps.specs.Names.{namesFile}
 use Rattle.board_move_wired_laws.proofs.TargetNames.{names-number, number-names}
-use Rattle.board_call.specs.declared.Call.the-variants.{Move}
+use Rattle.board_call.specs.declared.Call.{Call}
+use Rattle.board_call.specs.declared.Call.the-variants.{Reset, Wire, DomainRead, DomainWrite, PageRead}
+use Rattle.board_call.specs.declared.Call.the-variants.{PageWrite, Register, Top, Claim, Signals, Move}
+use Rattle.board_call_laws.specs.Small.{Small}
 use Rattle.board_call_laws.proofs.FitEffects.{fit-block}
 use Rattle.board_call_laws.proofs.MoveEffects.{guest-hart, guest-low, guest-high}
+use Rattle.board_runs.specs.Runs.{Lent, outcomeOn, after, ran}
 use Rattle.board_runs.specs.Ready.{boardIn}
-use Rattle.transfer_laws.specs.Shift.{Stations, withMove, withoutMove}
+use Rattle.transfer_laws.specs.Shift.{Stations, Event, accessOf, withMove, withoutMove}
 use Rattle.transfer_laws.specs.Premises.{TwoGuests, ByMessages, NoneNamesNew, accessesIn}
 use Rattle.transfer_laws.specs.Premises.{AllAccesses, PagesKept}
+use Rattle.transfer_laws.specs.Moved.{AccessesDone}
 use Rattle.claims_wired.proofs.Registers.{active-iff}
 use Rattle.claims_move.specs.Premises.{Claim-175, Claim-178}
 use Rattle.claims_move.proofs.MoveCall.{guest-joined}
@@ -65,9 +70,15 @@ two-guests m =
       }),
     )
 
+-- access k is done, and so is each after it
+abbrev AccessFrom : Stations → List Event → Lent → ℕ → Type 0
+AccessFrom m es x k =
+    (outcomeOn (accessOf m k) x .number ≡ 0) × AccessesDone m k es (after (accessOf m k) x)
+
 pub claim-175 : Claim-175
 unfolding Claim-175 NoneNamesNew ByMessages WordsFit accessesIn AllAccesses PagesKept withMove withoutMove
-claim-175 m x es n j level h f a v =
+    after ran AccessesDone
+claim-175 m x es c cs n j level h f a v =
     let nh = m .newHart in
     let nf = m .newFile in
     let oh = m .oldHart in
@@ -125,10 +136,44 @@ claim-175 m x es n j level h f a v =
       (λ p q. rw (file-same h f nh nf p q) refl),
       (λ d. rw (file-other h f nh nf d) refl),
       refl,
+      refl,
+      refl,
+      refl,
+      refl,
+      refl,
+      tt,
+      ((λ p. p), (λ p. p)),
+      ((λ p. p), (λ p. p)),
+      (subst (AccessFrom m es x) next, subst (AccessFrom m es x) (sym next)),
     )
+
+-- ---- what is lent, and the calls
+
+small-call : (c : Call) → ((h f k s v : ℕ) → c ≡ Register h f k s v → v < 2 ^ 64) → Small c
+small-call Reset p = tt
+small-call (Wire i level) p = tt
+small-call (DomainRead d a) p = tt
+small-call (DomainWrite d a v) p = tt
+small-call (PageRead h f a) p = tt
+small-call (PageWrite h f a v) p = tt
+small-call (Register h f k s v) p = p h f k s v refl
+small-call (Top h f) p = tt
+small-call (Claim h f) p = tt
+small-call (Signals h) p = tt
+small-call (Move oh of nh nf n) p = tt
 
 pub claim-178 : Claim-178
 unfolding Claim-178 WordsFit
-claim-178 x long words rules log saved =
-    let fit = fit-block (x .block) long words rules in
-    (record { long = long; full = log; fit = fit; saved = saved }, fit, fit .shaped)
+claim-178 = (
+  (λ x long words rules log saved. let fit = fit-block (x .block) long words rules in
+      (record { long = long; full = log; fit = fit; saved = saved }, fit, fit .shaped)),
+  small-call,
+  tt,
+  (λ cs a k s v. (
+    ((λ p. p), (λ p. p)),
+    ((λ p. p .1), (λ p. (tt, p))),
+    ((λ p. p .1), (λ p. (tt, p))),
+    ((λ p. p .1), (λ p. (tt, p))),
+    ((λ p. p .1), (λ p. (tt, p))),
+  )),
+)

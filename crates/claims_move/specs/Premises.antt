@@ -1,13 +1,14 @@
 -- Claims 175 and 178: what 01 asks of a move, each premise in plain numbers; the two shifts that are
--- compared, event by event; and that what is lent by the rules is ready for calls. 01, "The move, with its
--- premises", "Calls and their refusals", "State rules".
+-- compared, event by event, and how calls run; and that what is lent by the rules is ready for calls. 01,
+-- "The move, with its premises", "Calls and their refusals", "State rules".
 --   Ready x          what the claims on calls one after the other ask of what is lent
+--   Small c          what they ask of a call, and SmallCalls cs of calls on a file
 --   Fit b            what the claims on one call ask of a board
 --   BoardShaped b    the lists of a board have their lengths
 -- A premise that asked for more than 01 does would make the claims on the move say less; so each is said in
 -- both directions.
--- Premises: of Claim-178 the lengths of the block and of the log, words of 32 bits that keep the rules and
--- saved numbers of 64 bits. Claim-175 has none. No axioms.
+-- Premises: of the first part of Claim-178 the lengths of the block and of the log, words of 32 bits that
+-- keep the rules and saved numbers of 64 bits. The rest of it and Claim-175 have none. No axioms.
 use Prim.Native.Nat.{ℕ, _+_, _^_, _≤_, _<_}
 use mathlib.Core.Path.{_≡_}
 use mathlib.Core.Bool.{true}
@@ -19,23 +20,31 @@ use Rattle.domain.specs.Domain.{byMessages}
 use Rattle.domain.specs.Slot.{sourceAt}
 use Rattle.board_block.specs.Block.{boardSound}
 use Rattle.board_block_laws.specs.Shape.{BoardShaped}
-use Rattle.board_call.specs.declared.Call.the-variants.{Wire, PageWrite, Move}
+use Rattle.board_call.specs.declared.Call.{Call}
+use Rattle.board_call.specs.declared.Call.the-variants.{Wire, PageWrite, Register, Move}
+use Rattle.board_call.specs.Outcome.{outcome}
 use Rattle.board_call_laws.specs.Fit.{Fit}
-use Rattle.board_runs.specs.Runs.{Lent}
+use Rattle.board_call_laws.specs.Small.{Small}
+use Rattle.board_runs.specs.Runs.{Lent, after, ran}
 use Rattle.board_runs.specs.Ready.{boardIn, Ready}
 use Rattle.transfer_laws.specs.Shift.{Stations, Event, withMove, withoutMove}
 use Rattle.transfer_laws.specs.Shift.Event.{wire, page, access}
 use Rattle.transfer_laws.specs.Premises.{Started, TwoGuests, ByMessages, NoneNamesNew, accessesIn}
 use Rattle.transfer_laws.specs.Premises.{AllAccesses, PagesKept}
+use Rattle.transfer_laws.specs.Moved.{AccessesDone}
+use Rattle.transfer_laws.specs.After.{FileCall, SmallCalls}
+use Rattle.transfer_laws.specs.After.FileCall.{pageRead, pageWrite, register, top, claim}
 
 -- the premises of a move, and the two shifts that are compared, ask this and no more: old and new are two
 -- different files 2 to 4 of harts 0 to 3; at the start no active source of the child names new, the child is
 -- not in direct mode, and what is lent has its lengths and keeps the rules; the accesses are 89, with their
 -- numbers in order; nobody writes to new before access 8, nor to old from access 72 on; and the compared
--- shift has the same wires and page writes, those to new going to old, and no access
+-- shift has the same wires and page writes, those to new going to old, and no access. A run makes its calls
+-- in order and hands on the block, the log and the record that each leaves; and AccessesDone, which
+-- Claim-106 says of a shift, means that each access, made where the shift makes it, is done
 unfoldable pub Claim-175 : Type 0
 Claim-175 =
-    (m : Stations) (x : Lent) (es : List Event) (n j level h f a v : ℕ)
+    (m : Stations) (x : Lent) (es : List Event) (c : Call) (cs : List Call) (n j level h f a v : ℕ)
     -- two different guest files
     → (TwoGuests m
     ↔ ((m .oldHart < 4) × (2 ≤ m .oldFile) × (m .oldFile ≤ 4) × (m .newHart < 4) × (2 ≤ m .newFile)
@@ -78,12 +87,35 @@ Claim-175 =
     × ((h ≡ m .newHart → f ≡ m .newFile → ⊥)
     → withoutMove m (page h f a v ∷ es) ≡ PageWrite h f a v ∷ withoutMove m es)
     × (withoutMove m (access ∷ es) ≡ withoutMove m es)
+    -- a run
+    × (ran [] x ≡ x)
+    × (ran (c ∷ cs) x ≡ ran cs (after c x))
+    × (after c x .block ≡ outcome c (x .block) (x .log) (x .saved) .block)
+    × (after c x .log ≡ outcome c (x .block) (x .log) (x .saved) .log)
+    × (after c x .saved ≡ outcome c (x .block) (x .log) (x .saved) .saved)
+    -- every access is done, n having been made
+    × AccessesDone m n [] x
+    × (AccessesDone m n (wire j level ∷ es) x ↔ AccessesDone m n es (after (Wire j level) x))
+    × (AccessesDone m n (page h f a v ∷ es) x ↔ AccessesDone m n es (after (PageWrite h f a v) x))
+    × (let next = Move (m .oldHart) (m .oldFile) (m .newHart) (m .newFile) (n + 1) in
+    AccessesDone m n (access ∷ es) x
+    ↔ ((outcome next (x .block) (x .log) (x .saved) .number ≡ 0) × AccessesDone m (n + 1) es (after next x)))
 
 -- what is lent is ready for calls, its board fit and its lists of their lengths, if it has a block of 650
 -- words of 32 bits that keep the rules, a log of 63 words, and saved numbers of 64 bits: so what claims 102
--- to 104, 150, 152, 154, 156 and 171 ask of a board holds of every block of such words that is not refused
+-- to 104, 150, 152, 154, 156 and 171 ask of a board holds of every block of such words that is not refused.
+-- `Small`, where they ask it of a call, is no more than that the value of a register access has 64 bits;
+-- and `SmallCalls`, which Claim-110 asks of calls on a file, is that of each
 unfoldable pub Claim-178 : Type 0
 Claim-178 =
-    (x : Lent) → length (x .block) ≡ 650 → ((k : ℕ) → getD (x .block) k 0 < 2 ^ 32)
+    ((x : Lent) → length (x .block) ≡ 650 → ((k : ℕ) → getD (x .block) k 0 < 2 ^ 32)
     → boardSound (boardIn x) ≡ true → length (x .log) ≡ 63 → ((k : ℕ) → getD (x .saved) k 0 < 2 ^ 64)
-    → Ready x × Fit (boardIn x) × BoardShaped (boardIn x)
+    → Ready x × Fit (boardIn x) × BoardShaped (boardIn x))
+    × ((c : Call) → ((h f k s v : ℕ) → c ≡ Register h f k s v → v < 2 ^ 64) → Small c)
+    × SmallCalls []
+    × ((cs : List FileCall) (a k s v : ℕ)
+    → (SmallCalls (register k s v ∷ cs) ↔ ((v < 2 ^ 64) × SmallCalls cs))
+    × (SmallCalls (pageRead a ∷ cs) ↔ SmallCalls cs)
+    × (SmallCalls (pageWrite a v ∷ cs) ↔ SmallCalls cs)
+    × (SmallCalls (top ∷ cs) ↔ SmallCalls cs)
+    × (SmallCalls (claim ∷ cs) ↔ SmallCalls cs))
