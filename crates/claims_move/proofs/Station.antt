@@ -18,7 +18,7 @@ use Rattle.transfer_laws.specs.Shift.{Stations, Event, withMove, withoutMove}
 use Rattle.transfer_laws.specs.Premises.{Started, TwoGuests, ByMessages, NoneNamesNew, AllAccesses, PagesKept}
 use Rattle.transfer_laws.specs.Premises.{Premises}
 use Rattle.transfer_laws.specs.Moved.{newNumber, oldIn, newIn, Moved, MoveKeeps, MoveDone}
-use Rattle.transfer_laws.specs.After.{FileCall}
+use Rattle.transfer_laws.specs.After.{FileCall, SameSignal}
 use Rattle.transfer_laws.proofs.Invariant.{new-lt}
 use Rattle.transfer_laws.proofs.ShiftEffects.{move-beside, move-keeps, move-done}
 use Rattle.transfer_laws.proofs.AfterEffects.{said-same, file-same, claim-said, claim-left, goes-on}
@@ -129,11 +129,11 @@ claim-109 m x es s g b f a p k h o n i =
     ap (λ (z : File). member (z .pending) i) (moved m x es s g b f a p .others k h o n)
 
 pub claim-110 : Claim-110
-unfolding Claim-110
+unfolding Claim-110 SameSignal
 claim-110 m x es s g b f a p =
     let q = move-beside m x es (premises m x es s g b f a p) in
     let same = moved m x es s g b f a p .station in (
-      (λ cs small. goes-on m g cs small _ _ (q .ready) (q .ready′) same),
+      (λ cs small. let r = goes-on m g cs small _ _ (q .ready) (q .ready′) same in (r .said, r .station)),
       same-signal m g _ _ same,
     )
 

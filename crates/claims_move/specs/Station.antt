@@ -6,19 +6,22 @@
 -- Premises: of Claim-104 `Ready x`, 650 words of a board that keeps the rules and whose files have words of
 -- 32 bits, 63 words of log and a record of numbers of 64 bits, and `Small c`, a value of 64 bits; of claims
 -- 105 to 110 the six of 01, `Started`, `TwoGuests`, `ByMessages`, `NoneNamesNew`, `AllAccesses` and
--- `PagesKept`, which Claim-111 shows can be met, and Claim-112 that each is needed. Claims 111 and 112 have
--- none. No axioms.
+-- `PagesKept`, which Claim-111 shows can be met, and Claim-112 that each is needed; of Claim-110 besides
+-- `SmallCalls cs`, register values of 64 bits in the calls afterwards. Claims 111 and 112 have none.
+-- No axioms.
 use Prim.Native.Nat.{ℕ, _+_, _*_, _<_}
 use mathlib.Core.Path.{_≡_}
 use mathlib.Core.Bool.{Bool, true, false}
-use mathlib.Core.List.{List}
+use mathlib.Core.List.{List, map}
 use mathlib.Core.Logic.{_≢_}
+use Rattle.words.specs.Bits.{hasBit}
 use Rattle.words.specs.Sets.{member}
 use Rattle.file.specs.Top.{topIdentity}
 use Rattle.files.specs.Files.{fileNumber, theFile}
 use Rattle.wired_state.specs.Wires.{domainIn}
 use Rattle.board_call.specs.declared.Call.{Call}
 use Rattle.board_call.specs.declared.Call.the-variants.{Claim}
+use Rattle.board_call.specs.Change.{signalsTo}
 use Rattle.board_call.specs.Outcome.{step}
 use Rattle.board_call.specs.Refusal.{nameRefusal, refusalOf}
 use Rattle.board_call_laws.specs.Small.{Small}
@@ -27,7 +30,7 @@ use Rattle.board_runs.specs.Ready.{boardIn, Ready}
 use Rattle.transfer_laws.specs.Shift.{Stations, Event, withMove, withoutMove}
 use Rattle.transfer_laws.specs.Premises.{Started, TwoGuests, ByMessages, NoneNamesNew, AllAccesses, PagesKept}
 use Rattle.transfer_laws.specs.Moved.{oldNumber, newNumber, oldIn, newIn, AccessesDone}
-use Rattle.transfer_laws.specs.After.{FileCall, saidOf, GoesOn, SmallCalls, SameSignal}
+use Rattle.transfer_laws.specs.After.{FileCall, callOn, saidOf, saidOn, SmallCalls}
 use Rattle.transfer_cases.specs.Example.{Example}
 use Rattle.transfer_cases.specs.Needed.{PagesAre, NeedsAll, NeedsPagesNew, NeedsPagesOld, NeedsFresh}
 use Rattle.transfer_cases.specs.Needed.{NeedsMessages, NeedsGuestOld, NeedsGuestNew, NeedsStarted}
@@ -101,13 +104,17 @@ Claim-109 =
     → (i : ℕ)
     → member (theFile (boardIn x .files) k .pending) i ≡ member (theFile (boardIn y .files) k .pending) i)
 
--- and the shift goes on: any calls on the new file answer what the same calls on the old file would have
--- answered, and leave the same file; and the new file signals its hart exactly if the old one would have
--- signalled its own
+-- and the shift goes on: any calls on the new file, with register values of 64 bits, answer what the same
+-- calls on the old file would have answered, and leave the same file; and the new file signals its hart
+-- exactly if the old one would have signalled its own
 unfoldable pub Claim-110 : Type 0
 Claim-110 =
-    MovedWhere (λ m x y. ((cs : List FileCall) → SmallCalls cs → GoesOn m x y cs)
-    × SameSignal m (boardIn x) (boardIn y))
+    MovedWhere (λ m x y. ((cs : List FileCall) → SmallCalls cs
+    → (saidOn (m .newHart) (m .newFile) cs x ≡ saidOn (m .oldHart) (m .oldFile) cs y)
+    × (newIn m (boardIn (ran (map (callOn (m .newHart) (m .newFile)) cs) x))
+    ≡ oldIn m (boardIn (ran (map (callOn (m .oldHart) (m .oldFile)) cs) y))))
+    × (hasBit (signalsTo (boardIn x) (m .newHart) 5) (m .newFile)
+    ≡ hasBit (signalsTo (boardIn y) (m .oldHart) 5) (m .oldFile)))
 
 -- ---- the premises
 
@@ -117,7 +124,8 @@ unfoldable pub Claim-111 : Type 0
 Claim-111 = Example
 
 -- each premise of a move is needed: without it, or with a bound that is off by one, and with all the others,
--- there is a start and a shift whose end differs
+-- there is a start and a shift whose end differs. Of `Started` it drops the length of the log alone, and of
+-- `TwoGuests` that old, or new, is a guest file
 unfoldable pub Claim-112 : Type 0
 Claim-112 =
     NeedsAll × PagesAre × NeedsPagesNew × NeedsPagesOld × NeedsFresh × NeedsMessages × NeedsGuestOld
