@@ -20,7 +20,8 @@ pub fn sound(state: &[u32]) -> bool
     requires { ⌜ length (now state) ≡ blockSize ⌝ }
     ensures { λ r. ⌜ r ≡ boardSound (boardOf (now (state .entry))) ⌝ }
 {
-    files::sound(&state[0..FILES_SIZE]) & wired_rules::sound(&state[WIRED_PLACE..BLOCK_SIZE])
+    let wired = wired_rules::sound(&state[WIRED_PLACE..BLOCK_SIZE]);
+    files::sound(&state[0..FILES_SIZE]) & wired
 }
 
 // Files 0 and 1 of each hart take their signals from the wired controller; everything else is 0.

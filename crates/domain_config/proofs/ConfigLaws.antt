@@ -1,13 +1,98 @@
 -- Laws of specs/Config.antt. No contract cites this file. Assumes nothing.
-use Prim.Native.Nat.{ℕ, suc, _+_, _-_, _≤_, _<_}
-use mathlib.Core.Path.{_≡_, ap, _∙_}
-use mathlib.Core.Bool.{Bool·beq, true, false}
+--   source-..         what is stored for one source: nothing if it is inactive, its target and pending bit if
+--                     it is a level source, else its target alone
+--   redelivered-..    the loop over the sources
+--   mode-..           whether DM changed
+use Prim.Native.Nat.{ℕ, suc, _+_, _-_, _/_, _%_, _≤_, _<_}
+use mathlib.Core.Path.{_≡_, sym, ap, ap₂, _∙_}
+use mathlib.Core.Bool.{Bool, Bool·beq, true, false, or-false}
 use mathlib.Core.List.{List}
 use native.Mathlib.Omega.{arith}
-use Rattle.domain.specs.Domain.{Domain, byMessages, withGenerated}
+use lib.ListN.{getD, set}
+use Rattle.words.specs.Bits.{putBit}
+use Rattle.words.specs.Sets.{member}
+use Rattle.words.proofs.TestsLaws.{tested}
+use Rattle.source_mode.specs.Mode.{isActive, isLevel, isRectified}
+use Rattle.source_target.specs.Target.{startTarget}
+use Rattle.source.specs.declared.Source.{Source}
+use Rattle.source.specs.Pending.{withPending, withTarget, redelivered}
+use Rattle.source.proofs.PendingLaws.{settled-messages, settled-direct, settled-other}
+use Rattle.source.proofs.PendingLaws.{redelivered-inactive, redelivered-active}
+use Rattle.domain.specs.Domain.{Domain, domainOf, byMessages, withGenerated}
+use Rattle.domain.specs.Slot.{sourceAt, withSource}
+use Rattle.domain_laws.proofs.SlotEffects.{withSource-back}
+use Rattle.domain_laws.proofs.PartEffects.{target-stored, target-pending-stored}
+use Rattle.domain_laws.proofs.OwnEffects.{byMessages-withSource}
 use Rattle.domain_config.specs.Config.{redeliveredAt, redeliveredFrom, modeSettled}
 
+-- ---- one source
+
+module _ (s : Source) (m wire : Bool) (active : isActive (s .mode) ≡ true) where
+  abbrev started : Source
+  started = withTarget s (startTarget m)
+
+  abbrev settled : Source
+  settled = redelivered s m wire
+
+  other-started : isLevel (s .mode) ≡ false → settled ≡ started
+  other-started f =
+      redelivered-active s m wire active ∙ settled-other started m false (isRectified (s .mode) wire) f
+      ∙ ap (withPending started) (or-false (s .pending))
+
+  -- a source that has s but for its target and pending bit has its own
+  two-parts : (t : Source) (p : Bool) → t ≡ withPending started p
+      → t ≡ withPending (withTarget s (t .target)) (t .pending)
+  two-parts t p e =
+      e ∙ ap₂ (λ (v : ℕ) (b : Bool). withPending (withTarget s v) b) (sym (ap (λ (x : Source). x .target) e))
+      (sym (ap (λ (x : Source). x .pending) e))
+
+  level-parts : isLevel (s .mode) ≡ true
+      → settled ≡ withPending (withTarget s (settled .target)) (settled .pending)
+  level-parts l =
+      let high = isRectified (s .mode) wire in
+      let act = redelivered-active s m wire active in
+      tested m (λ t. two-parts settled _ (act ∙ settled-messages started m false high l t))
+      (λ f. two-parts settled _ (act ∙ settled-direct started m false high l f))
+
+module _ (l ws : List ℕ) (i : ℕ) where
+  abbrev d : Domain
+  d = domainOf l
+
+  pub source-inactive : isActive (sourceAt d i .mode) ≡ false → d ≡ redeliveredAt d ws i
+  unfolding redeliveredAt
+  source-inactive a =
+      sym (ap (withSource d i) (redelivered-inactive _ (byMessages d) (member ws i) a) ∙ withSource-back d i)
+
+  module _ (h : i < 64) (active : isActive (sourceAt d i .mode) ≡ true) where
+    pub source-level : isLevel (sourceAt d i .mode) ≡ true → (t : Source) (p : ℕ)
+        → t ≡ redelivered (sourceAt d i) (byMessages d) (member ws i)
+        → p ≡ putBit (getD l (128 + i / 32) 0) (i % 32) (t .pending)
+        → domainOf (set (set l (64 + i) (t .target)) (128 + i / 32) p) ≡ redeliveredAt d ws i
+    unfolding redeliveredAt
+    source-level v t p e q =
+        ap (λ (w : ℕ). domainOf (set (set l (64 + i) (t .target)) (128 + i / 32) w)) q
+        ∙ target-pending-stored l i h (t .target) (t .pending)
+        ∙ ap (withSource d i)
+        (ap (λ (x : Source). withPending (withTarget (sourceAt d i) (x .target)) (x .pending)) e
+        ∙ sym (level-parts (sourceAt d i) (byMessages d) (member ws i) active v))
+
+    pub source-other : isLevel (sourceAt d i .mode) ≡ false → (v : ℕ) → v ≡ startTarget (byMessages d)
+        → domainOf (set l (64 + i) v) ≡ redeliveredAt d ws i
+    unfolding redeliveredAt
+    source-other f v e =
+        target-stored l i h v
+        ∙ ap (λ (x : ℕ). withSource d i (withTarget (sourceAt d i) x)) e
+        ∙ ap (withSource d i) (sym (other-started (sourceAt d i) (byMessages d) (member ws i) active f))
+
+-- ---- all sources
+
 module _ (d : Domain) (ws : List ℕ) where
+  -- source i stored leaves the delivery mode
+  pub redelivered-messages : (i : ℕ) → 1 ≤ i → byMessages (redeliveredAt d ws i) ≡ byMessages d
+  unfolding redeliveredAt
+  redelivered-messages i h =
+      byMessages-withSource d i (redelivered (sourceAt d i) (byMessages d) (member ws i)) h
+
   -- one turn of the loop up to m, and its end
   pub redelivered-next : (i m : ℕ) → i < m
       → redeliveredFrom d ws i (m - i) ≡ redeliveredFrom (redeliveredAt d ws i) ws (i + 1) (m - (i + 1))

@@ -3,12 +3,17 @@ ghost use mathlib.Core.Path.{_≡_};
 ghost use Prim.Native.Nat.{_-_, _<_};
 ghost use lib.ListN.{length};
 ghost use Rattle.sizes.specs.Sizes.{sourceCount, slotCount, domainSize};
-ghost use Rattle.domain.specs.Domain.{domainOf};
+ghost use Rattle.domain.specs.Domain.{domainOf, byMessages};
 ghost use Rattle.domain_config.specs.Config.{keptConfig, redeliveredAt, redeliveredFrom, configWritten};
 use domain::DM_BIT;
 use domain::IE_BIT;
+use sizes::PENDINGS_PLACE;
 use sizes::SLOT_COUNT;
 use sizes::SOURCE_SET_SIZE;
+use sizes::TARGETS_PLACE;
+use source_mode::active;
+use source_mode::level;
+use source_target::start_target;
 use source_wire::wire_at;
 
 // What of a written domaincfg is stored.
@@ -20,13 +25,24 @@ pub fn kept_config(value: u32) -> u32
     words::packed32(ie, IE_BIT, words::packed32(dm, DM_BIT, 0))
 }
 
-fn redeliver_source(part: &mut [u32], wires: [u32; SOURCE_SET_SIZE], i: usize)
-    requires { ⌜ (length (now part) ≡ domainSize) × (i < slotCount) ⌝ }
+// An inactive source stays; of an active one the target is stored, and of a level source the pending bit.
+fn redeliver_source(part: &mut [u32], wires: [u32; SOURCE_SET_SIZE], messages: bool, i: usize)
+    requires { ⌜ (length (now part) ≡ domainSize) × (i < slotCount)
+        × (messages ≡ byMessages (domainOf (now part))) ⌝ }
     ensures { λ r. ⌜ domainOf (now (part .exit)) ≡ redeliveredAt (domainOf (now (part .entry))) wires i ⌝ }
 {
-    let messages = domain::by_messages(part);
     let s = domain::load(part, i);
-    domain::store(part, i, s.redelivered(messages, wire_at(wires, i)));
+    if !active(s.mode) {
+        return;
+    }
+    if level(s.mode) {
+        let t = s.redelivered(messages, wire_at(wires, i));
+        let pending = words::put_bit(part[PENDINGS_PLACE + i / 32], (i % 32) as u32, t.pending);
+        part[TARGETS_PLACE + i] = t.target;
+        part[PENDINGS_PLACE + i / 32] = pending;
+        return;
+    }
+    part[TARGETS_PLACE + i] = start_target(messages);
 }
 
 fn redeliver(part: &mut [u32], wires: [u32; SOURCE_SET_SIZE])
@@ -34,9 +50,10 @@ fn redeliver(part: &mut [u32], wires: [u32; SOURCE_SET_SIZE])
     ensures { λ r. ⌜ domainOf (now (part .exit))
         ≡ redeliveredFrom (domainOf (now (part .entry))) wires 1 sourceCount ⌝ }
 {
+    let messages = domain::by_messages(part);
     let mut i: usize = 1;
     while i < SLOT_COUNT {
-        redeliver_source(part, wires, i);
+        redeliver_source(part, wires, messages, i);
         i += 1;
     }
 }

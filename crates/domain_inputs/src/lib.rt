@@ -11,14 +11,12 @@ fn input(part: &[u32], wires: [u32; SOURCE_SET_SIZE], i: usize) -> bool
     requires { ⌜ (length (now part) ≡ domainSize) × (i < slotCount) ⌝ }
     ensures { λ r. ⌜ r ≡ inputBit (domainOf (now (part .entry))) wires i ⌝ }
 {
-    if i < 1 {
+    // most wires are low, and nothing else is looked at
+    if !source_wire::wire_at(wires, i) {
         return false;
     }
     let s = domain::load(part, i);
-    if source_mode::active(s.mode) {
-        return source_wire::wire_at(wires, i);
-    }
-    false
+    (1 <= i) & source_mode::active(s.mode)
 }
 
 pub fn input_word(part: &[u32], wires: [u32; SOURCE_SET_SIZE], k: usize) -> u32

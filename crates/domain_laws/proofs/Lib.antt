@@ -6,3 +6,4 @@ pub mod OwnEffects
 pub mod BecameEffects
 pub mod EachEffects
 pub mod ZeroEffects
+pub mod PartEffects

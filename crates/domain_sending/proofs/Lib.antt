@@ -1,4 +1,4 @@
--- The laws of sending, of the tests before it, and of the pass as the code makes it. Assumes nothing.
+-- The laws of sending, of the sources that wait, and of the pass as the code makes it. Assumes nothing.
 pub mod SendingLaws
-pub mod IdleLaws
+pub mod WaitingLaws
 pub mod PassLaws

@@ -1,25 +1,32 @@
 -- The pass as the code makes it: what holds before each source's turn. No contract cites this file. Assumes
 -- nothing.
+--   turn-unpended                        one word stored is a source that lost its pending bit
 --   turn-miss, turn-hit                  one turn, of a source that is not to be sent and of one that is
 --   SoFar c d₀ l₀ d l i n                the pass over d₀, with the log l₀, has come to source i: the domain
 --                                        is d, and the n messages sent stand first in the log l
---   pass-start, pass-next                it holds at the start, and after each turn
---   pass-end                             what it says at the end
-use Prim.Native.Nat.{ℕ, _+_, _-_, _≤_, _<_}
+--   pass-start                           it holds at the start
+--   pass-next                            and after the turn of a source, if none before it was to be sent
+--   pass-end                             what it says if none is left to be sent
+use Prim.Native.Nat.{ℕ, _+_, _-_, _/_, _%_, _≤_, _<_}
 use mathlib.Core.Path.{_≡_, refl, sym, ap, _∙_}
 use mathlib.Core.Bool.{Bool, true, false}
 use mathlib.Core.List.{List, _++_, append-assoc, append-nil}
 use native.Mathlib.Omega.{arith}
-use lib.ListN.{length, take, drop, set, length-append, length-take}
+use lib.ListN.{length, take, drop, getD, set, length-append, length-take}
 use lib.Seq.{sets, sets-eq, length-sets, take-at, drop-at, drop-drop}
+use Rattle.words.specs.Bits.{withoutBit}
+use Rattle.words.proofs.SetsLaws.{remove-word}
 use Rattle.source_target.specs.Target.{messageOf}
 use Rattle.source.specs.declared.Source.{Source}
 use Rattle.source.specs.Pending.{withPending}
-use Rattle.domain.specs.Domain.{Domain}
+use Rattle.domain.specs.Domain.{Domain, domainOf, withPendings}
 use Rattle.domain.specs.Slot.{sourceAt, withSource}
+use Rattle.domain.proofs.DomainLaws.{read-pending, store-pending}
+use Rattle.domain_laws.proofs.SlotEffects.{withSource-unpended}
 use Rattle.domain_sending.specs.Sending.{candidate, servedAt, messagesAt, sentFrom, logged}
 use Rattle.domain_sending.proofs.SendingLaws.{served-hit, served-miss, messages-hit, messages-miss}
 use Rattle.domain_sending.proofs.SendingLaws.{messages-le, from-zero, from-domain, from-messages}
+use Rattle.domain_sending.proofs.SendingLaws.{from-skip}
 use Rattle.domain_sending.proofs.SendingLaws.{logged-count, logged-is}
 
 -- ---- words stored from a place on
@@ -38,6 +45,16 @@ module _ (l ms : List ℕ) (n : ℕ) (h : n + length ms ≤ length l) where
 
 -- ---- one turn, as the code makes it
 
+pub turn-unpended : (l : List ℕ) (i w : ℕ) → i < 64 → w ≡ withoutBit (getD l (128 + i / 32) 0) (i % 32)
+    → domainOf (set l (128 + i / 32) w)
+    ≡ withSource (domainOf l) i (withPending (sourceAt (domainOf l) i) false)
+turn-unpended l i w h e =
+    let d = domainOf l in
+    let read = e ∙ ap (λ (x : ℕ). withoutBit x (i % 32)) (read-pending l (i / 32) (omega arith)) in
+    store-pending l (i / 32) w (omega arith)
+    ∙ ap (withPendings d) (ap (set (d .pending) (i / 32)) read ∙ remove-word (d .pending) i)
+    ∙ sym (withSource-unpended d i)
+
 module _ (c : Bool) (d : Domain) (l : List ℕ) (i n : ℕ) (s : Source) (e : s ≡ sourceAt d i) where
   abbrev Turned : Domain → List ℕ → ℕ → Type 0
   Turned d′ l′ n′ =
@@ -51,11 +68,12 @@ module _ (c : Bool) (d : Domain) (l : List ℕ) (i n : ℕ) (s : Source) (e : s 
         omega (arith, ap length (messages-miss c d i miss)),
       )
 
-  pub turn-hit : candidate s ≡ true → (d′ : Domain) (m : ℕ) → d′ ≡ withSource d i (withPending s false)
+  pub turn-hit : candidate s ≡ true → (d′ : Domain) (m : ℕ)
+      → d′ ≡ withSource d i (withPending (sourceAt d i) false)
       → m ≡ messageOf c (s .target) → Turned d′ (set l n m) (n + 1)
   turn-hit t d′ m ed em =
       let hit = ap candidate (sym e) ∙ t in (
-        ed ∙ ap (λ (x : Source). withSource d i (withPending x false)) e ∙ sym (served-hit d i hit),
+        ed ∙ sym (served-hit d i hit),
         rw (messages-hit c d i hit) (ap (set l n) (em ∙ ap (λ (x : Source). messageOf c (x .target)) e)),
         omega (arith, ap length (messages-hit c d i hit)),
       )
@@ -73,6 +91,14 @@ module _ (c : Bool) (d : Domain) (i : ℕ) (h : i < 64) where
   turn-messages =
       ap (λ (k : ℕ). sentFrom c d i k .messages) (omega arith) ∙ from-messages c d i (64 - (i + 1))
       ∙ ap (λ (k : ℕ). messagesAt c d i ++ sentFrom c (servedAt d i) k (64 - (i + 1)) .messages) (omega arith)
+
+-- sources that are not to be sent, as the code counts
+skipped : (c : Bool) (d : Domain) (i k : ℕ) → i ≤ k → k ≤ 64
+    → ((j : ℕ) → i ≤ j → j < k → candidate (sourceAt d j) ≡ false)
+    → sentFrom c d i (64 - i) ≡ sentFrom c d k (64 - k)
+skipped c d i k lo hi none =
+    ap (sentFrom c d i) (omega arith) ∙ from-skip c d i (k - i) (64 - k) (λ j l h. none j l (omega arith))
+    ∙ ap (λ (j : ℕ). sentFrom c d j (64 - k)) (omega arith)
 
 -- ---- the pass
 
@@ -95,6 +121,22 @@ pass-start c d l e =
       domains = refl;
       messages = refl;
       behind = refl;
+    }
+
+-- past sources that are not to be sent
+skip : (c : Bool) (d₀ : Domain) (l₀ : List ℕ) (d : Domain) (l : List ℕ) (i n : ℕ) → SoFar c d₀ l₀ d l i n
+    → (k : ℕ) → i ≤ k → k ≤ 64 → ((j : ℕ) → i ≤ j → j < k → candidate (sourceAt d j) ≡ false)
+    → SoFar c d₀ l₀ d l k n
+skip c d₀ l₀ d l i n s k lo hi none =
+    let same = skipped c d i k lo hi none in
+    record {
+      low = omega arith;
+      high = hi;
+      fewer = omega arith;
+      long = s .long;
+      domains = s .domains ∙ ap (λ r. r .domain) same;
+      messages = s .messages ∙ ap (λ r. take n l ++ r .messages) same;
+      behind = s .behind;
     }
 
 module _ (c : Bool) (d₀ : Domain) (l₀ : List ℕ) (d : Domain) (l : List ℕ) (i n : ℕ)
@@ -121,27 +163,34 @@ module _ (c : Bool) (d₀ : Domain) (l₀ : List ℕ) (d : Domain) (l : List ℕ
             ∙ drop-drop (length ms) n l₀;
       }
 
-  pub pass-next : i < 64 → (d′ : Domain) (l′ : List ℕ) (n′ : ℕ) → d′ ≡ servedAt d i → l′ ≡ sets l n ms
-      → n′ ≡ n + length ms → SoFar c d₀ l₀ d′ l′ (i + 1) n′
-  pass-next h d′ l′ n′ ed el en = rw (ed, el, en) (next h)
+-- the pass has come to the end
+module _ (c : Bool) (d₀ : Domain) (l₀ : List ℕ) (d : Domain) (l : List ℕ) (n : ℕ)
+    (s : SoFar c d₀ l₀ d l 64 n) where
+  abbrev all : List ℕ
+  all = sentFrom c d₀ 1 63 .messages
 
-  module _ (h : 64 ≤ i) where
-    end : 64 - i ≡ 0
-    end = omega arith
+  front : take n l ≡ all
+  front =
+      sym (s .messages ∙ ap (λ r. take n l ++ r .messages) (from-zero c d 64) ∙ append-nil (take n l))
 
-    front : take n l ≡ sentFrom c d₀ 1 63 .messages
-    front =
-        sym (s .messages ∙ ap (λ (k : ℕ). take n l ++ sentFrom c d i k .messages) end
-        ∙ ap (λ r. take n l ++ r .messages) (from-zero c d i) ∙ append-nil (take n l))
+  last : d ≡ sentFrom c d₀ 1 63 .domain
+  last = sym (s .domains ∙ ap (λ r. r .domain) (from-zero c d 64))
 
-    last : d ≡ sentFrom c d₀ 1 63 .domain
-    last =
-        sym (s .domains ∙ ap (λ (k : ℕ). sentFrom c d i k .domain) end
-        ∙ ap (λ r. r .domain) (from-zero c d i))
+  end : (d ≡ sentFrom c d₀ 1 63 .domain) × (l ≡ logged l₀ all) × (n ≡ length all)
+  end =
+      let fits : n ≤ length l = omega arith in
+      (last, logged-is l₀ l all n fits front (s .behind), logged-count l₀ l all n fits front)
 
-    pub pass-end : (d ≡ sentFrom c d₀ 1 63 .domain) × (l ≡ logged l₀ (sentFrom c d₀ 1 63 .messages))
-        × (n ≡ length (sentFrom c d₀ 1 63 .messages))
-    pass-end =
-        let all = sentFrom c d₀ 1 63 .messages in
-        let fits : n ≤ length l = omega arith in
-        (last, logged-is l₀ l all n fits front (s .behind), logged-count l₀ l all n fits front)
+module _ (c : Bool) (d₀ : Domain) (l₀ : List ℕ) (d : Domain) (l : List ℕ) (i n : ℕ)
+    (s : SoFar c d₀ l₀ d l i n) where
+  pub pass-next : (k : ℕ) → i ≤ k → k < 64
+      → ((j : ℕ) → i ≤ j → j < k → candidate (sourceAt d j) ≡ false)
+      → (d′ : Domain) (l′ : List ℕ) (n′ : ℕ) → d′ ≡ servedAt d k → l′ ≡ sets l n (messagesAt c d k)
+      → n′ ≡ n + length (messagesAt c d k) → SoFar c d₀ l₀ d′ l′ (k + 1) n′
+  pass-next k lo hi none d′ l′ n′ ed el en =
+      rw (ed, el, en) (next c d₀ l₀ d l k n (skip c d₀ l₀ d l i n s k lo (omega arith) none) hi)
+
+  pub pass-end : ((j : ℕ) → i ≤ j → j < 64 → candidate (sourceAt d j) ≡ false)
+      → (d ≡ sentFrom c d₀ 1 63 .domain) × (l ≡ logged l₀ (sentFrom c d₀ 1 63 .messages))
+      × (n ≡ length (sentFrom c d₀ 1 63 .messages))
+  pass-end none = end c d₀ l₀ d l n (skip c d₀ l₀ d l i n s 64 (s .high) (omega arith) none)

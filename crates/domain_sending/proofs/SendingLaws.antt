@@ -59,15 +59,26 @@ module _ (c : Bool) (d : Domain) (i : ℕ) where
   unfolding sentFrom
   from-messages n = refl
 
+  from-miss : (n : ℕ) → candidate (sourceAt d i) ≡ false → sentFrom c d i (suc n) ≡ sentFrom c d (suc i) n
+  unfolding sentFrom
+  from-miss n miss = simp (served-miss d i miss, messages-miss c d i miss)
+
+-- sources that are not to be sent are passed over
+pub from-skip : (c : Bool) (d : Domain) (i m n : ℕ)
+    → ((j : ℕ) → i ≤ j → j < i + m → candidate (sourceAt d j) ≡ false)
+    → sentFrom c d i (m + n) ≡ sentFrom c d (i + m) n
+from-skip c d i zero n none = ap₂ (sentFrom c d) (omega arith) (omega arith)
+from-skip c d i (suc m) n none =
+    let miss = none i (omega arith) (omega arith) in
+    ap (sentFrom c d i) (omega arith) ∙ from-miss c d i (m + n) miss
+    ∙ from-skip c d (suc i) m n (λ j l h. none j (omega arith) (omega arith))
+    ∙ ap (λ (k : ℕ). sentFrom c d k n) (omega arith)
+
 -- a pass that meets no candidate changes nothing and sends nothing
 pub from-none : (c : Bool) (d : Domain) (i n : ℕ)
     → ((j : ℕ) → i ≤ j → j < i + n → candidate (sourceAt d j) ≡ false) → sentFrom c d i n ≡ sentNothing d
-unfolding sentFrom
-from-none c d i zero none = refl
-from-none c d i (suc n) none =
-    let miss = none i (omega arith) (omega arith) in
-    simp (served-miss d i miss, messages-miss c d i miss)
-    (from-none c d (suc i) n (λ j l h. none j (omega arith) (omega arith)))
+from-none c d i n none =
+    ap (sentFrom c d i) (omega arith) ∙ from-skip c d i n 0 none ∙ from-zero c d (i + n)
 
 -- ---- the pass of a domain that sends, and of one that does not
 

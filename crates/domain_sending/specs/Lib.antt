@@ -1,3 +1,3 @@
 -- What a domain sends by messages. Assumes nothing.
 pub mod Sending
-pub mod Idle
+pub mod Waiting

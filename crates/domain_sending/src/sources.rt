@@ -1,17 +1,30 @@
 // The pass over a domain's sources: each that is active, pending and enabled is sent, lowest first.
 ghost use mathlib.Core.Path.{_≡_};
+ghost use mathlib.Core.Bool.{false};
 ghost use Prim.Native.Nat.{_+_, _<_};
 ghost use lib.ListN.{length};
 ghost use lib.Seq.{sets};
 ghost use Rattle.sizes.specs.Sizes.{sourceCount, slotCount, domainSize, logSize};
+ghost use Rattle.source.specs.Pending.{withPending};
 ghost use Rattle.domain.specs.Domain.{domainOf};
+ghost use Rattle.domain.specs.Slot.{sourceAt, withSource};
 ghost use Rattle.domain_sending.specs.Sending.{servedAt, messagesAt, sentFrom, sent, logged};
-use super::waiting::idle;
 use super::waiting::sends;
+use super::waiting::waiting;
 use domain::load;
-use domain::store;
-use sizes::SLOT_COUNT;
+use sizes::PENDINGS_PLACE;
 use source_target::message;
+
+// Source `i` is no longer pending.
+fn unpend(part: &mut [u32], i: usize)
+    requires { ⌜ (length (now part) ≡ domainSize) × (i < slotCount) ⌝ }
+    ensures { λ r. ⌜ domainOf (now (part .exit))
+        ≡ withSource (domainOf (now (part .entry))) i
+        (withPending (sourceAt (domainOf (now (part .entry))) i) false) ⌝ }
+{
+    let k = (i % 32) as u32;
+    part[PENDINGS_PLACE + i / 32] = words::without_bit(part[PENDINGS_PLACE + i / 32], k);
+}
 
 // The turn of source `i`, with `n` messages in the log. Answers how many there are then.
 fn serve(part: &mut [u32], child: bool, log: &mut [u32], i: usize, n: usize) -> usize
@@ -22,16 +35,16 @@ fn serve(part: &mut [u32], child: bool, log: &mut [u32], i: usize, n: usize) -> 
         × (now (log .exit) ≡ sets (now (log .entry)) n (messagesAt child (domainOf (now (part .entry))) i))
         × (r ≡ n + length (messagesAt child (domainOf (now (part .entry))) i)) ⌝ }
 {
-    let mut s = load(part, i);
+    let s = load(part, i);
     if !s.candidate() {
         return n;
     }
     log[n] = message(child, s.target);
-    s.pending = false;
-    store(part, i, s);
+    unpend(part, i);
     n + 1
 }
 
+// From one pending and enabled source to the next: `rest` has those from `i` on. There is no source 0.
 fn pass(part: &mut [u32], child: bool, log: &mut [u32]) -> usize
     requires { ⌜ (length (now part) ≡ domainSize) × (length (now log) ≡ logSize) ⌝ }
     ensures { λ r.
@@ -40,10 +53,15 @@ fn pass(part: &mut [u32], child: bool, log: &mut [u32]) -> usize
         ≡ logged (now (log .entry)) (sentFrom child (domainOf (now (part .entry))) 1 sourceCount .messages))
         × (r ≡ length (sentFrom child (domainOf (now (part .entry))) 1 sourceCount .messages)) ⌝ }
 {
-    let mut n: usize = 0;
+    let all = waiting(part);
+    let mut rest = all >> 1;
     let mut i: usize = 1;
-    while i < SLOT_COUNT {
+    let mut n: usize = 0;
+    while rest != 0 {
+        let zeros = u64::trailing_zeros(rest);
+        i += zeros as usize;
         n = serve(part, child, log, i, n);
+        rest = (rest >> zeros) >> 1;
         i += 1;
     }
     n
@@ -58,9 +76,6 @@ pub fn send(part: &mut [u32], child: bool, log: &mut [u32]) -> usize
         × (r ≡ length (sent child (domainOf (now (part .entry))) .messages)) ⌝ }
 {
     if !sends(part) {
-        return 0;
-    }
-    if idle(part) {
         return 0;
     }
     pass(part, child, log)

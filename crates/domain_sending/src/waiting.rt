@@ -1,14 +1,16 @@
-// What is tested before a pass: that the domain sends, and that some source may be to be sent.
+// What is read before a pass: whether the domain sends, and which sources may be to be sent.
 ghost use mathlib.Core.Path.{_≡_};
-ghost use Prim.Native.Nat.{_<_};
+ghost use Prim.Native.Nat.{ℕ, _<_};
 ghost use lib.ListN.{length};
-ghost use Rattle.sizes.specs.Sizes.{sourceSetSize, domainSize};
+ghost use Rattle.sizes.specs.Sizes.{slotCount, domainSize};
+ghost use Rattle.words.specs.Bits.{hasBit};
 ghost use Rattle.domain.specs.Domain.{domainOf, sends};
-ghost use Rattle.domain_sending.specs.Idle.{idleWord, idle};
+ghost use Rattle.domain_sending.specs.Waiting.{waits};
 use domain::by_messages;
 use domain::enable_word;
 use domain::enabled;
 use domain::pending_word;
+use words::joined64;
 
 pub fn sends(part: &[u32]) -> bool
     requires { ⌜ length (now part) ≡ domainSize ⌝ }
@@ -17,17 +19,12 @@ pub fn sends(part: &[u32]) -> bool
     enabled(part) & by_messages(part)
 }
 
-fn idle_word(part: &[u32], k: usize) -> bool
-    requires { ⌜ (length (now part) ≡ domainSize) × (k < sourceSetSize) ⌝ }
-    ensures { λ r. ⌜ r ≡ idleWord (domainOf (now (part .entry))) k ⌝ }
-{
-    pending_word(part, k) & enable_word(part, k) == 0
-}
-
-// No source is both pending and enabled: the usual case.
-pub fn idle(part: &[u32]) -> bool
+// The sources that are pending and enabled, as bits. Usually there are none.
+pub fn waiting(part: &[u32]) -> u64
     requires { ⌜ length (now part) ≡ domainSize ⌝ }
-    ensures { λ r. ⌜ r ≡ idle (domainOf (now (part .entry))) ⌝ }
+    ensures { λ r. ⌜ ((i : ℕ) → i < slotCount → hasBit r i ≡ waits (domainOf (now (part .entry))) i) ⌝ }
 {
-    idle_word(part, 0) & idle_word(part, 1)
+    let low = pending_word(part, 0) & enable_word(part, 0);
+    let high = pending_word(part, 1) & enable_word(part, 1);
+    joined64(low, high)
 }

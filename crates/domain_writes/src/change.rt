@@ -1,24 +1,64 @@
 // Writes that name sources: by the bits of a word, by number, or by the place of a target.
 ghost use mathlib.Core.Path.{_≡_};
-ghost use Prim.Native.Nat.{_-_, _≤_, _<_};
+ghost use Prim.Native.Nat.{_+_, _-_, _*_, _/_, _≤_, _<_};
 ghost use lib.ListN.{length};
 ghost use Rattle.sizes.specs.Sizes.{slotCount, domainSize};
+ghost use Rattle.source.specs.Pending.{withPending, switched};
 ghost use Rattle.domain.specs.Domain.{domainOf};
+ghost use Rattle.domain.specs.Slot.{sourceAt, withSource};
 ghost use Rattle.domain_writes.specs.Writes.{changedAt, changedBit, changedFrom, wordChanged};
 ghost use Rattle.domain_writes.specs.Writes.{numberChanged, targetWritten};
+use sizes::ENABLES_PLACE;
+use sizes::PENDINGS_PLACE;
 use sizes::SLOT_COUNT;
 use sizes::SOURCE_COUNT;
 use sizes::SOURCE_SET_SIZE;
 use source::Change;
+use source_mode::active;
 use source_wire::wire_at;
 
+// The pending bit of source `i` alone.
+fn store_pending(part: &mut [u32], i: usize, pending: bool)
+    requires { ⌜ (length (now part) ≡ domainSize) × (i < slotCount) ⌝ }
+    ensures { λ r. ⌜ domainOf (now (part .exit)) ≡ withSource (domainOf (now (part .entry))) i
+        (withPending (sourceAt (domainOf (now (part .entry))) i) pending) ⌝ }
+{
+    let word = words::put_bit(part[PENDINGS_PLACE + i / 32], (i % 32) as u32, pending);
+    part[PENDINGS_PLACE + i / 32] = word;
+}
+
+// The enable bit of source `i`, if the source is active.
+fn switch_source(part: &mut [u32], i: usize, on: bool)
+    requires { ⌜ (length (now part) ≡ domainSize) × (i < slotCount) ⌝ }
+    ensures { λ r. ⌜ domainOf (now (part .exit)) ≡ withSource (domainOf (now (part .entry))) i
+        (switched (sourceAt (domainOf (now (part .entry))) i) on) ⌝ }
+{
+    let s = domain::load(part, i);
+    if active(s.mode) {
+        let word = words::put_bit(part[ENABLES_PLACE + i / 32], (i % 32) as u32, on);
+        part[ENABLES_PLACE + i / 32] = word;
+    }
+}
+
+// Of the source only the word is stored that the write can change.
 fn change_source(part: &mut [u32], wires: [u32; SOURCE_SET_SIZE], change: Change, i: usize)
     requires { ⌜ (length (now part) ≡ domainSize) × (i < slotCount) ⌝ }
     ensures { λ r. ⌜ domainOf (now (part .exit)) ≡ changedAt (domainOf (now (part .entry))) wires change i ⌝ }
 {
     let messages = domain::by_messages(part);
     let s = domain::load(part, i);
-    domain::store(part, i, s.changed(change, messages, wire_at(wires, i)));
+    match change {
+        Change::Pend => {
+            let t = s.pended(messages, wire_at(wires, i));
+            store_pending(part, i, t.pending);
+        }
+        Change::Clear => {
+            let t = s.cleared(messages);
+            store_pending(part, i, t.pending);
+        }
+        Change::Enable => switch_source(part, i, true),
+        Change::Disable => switch_source(part, i, false),
+    }
 }
 
 // The same if the source's bit is set in `value`.
@@ -32,7 +72,7 @@ fn change_bit(part: &mut [u32], wires: [u32; SOURCE_SET_SIZE], change: Change, v
     }
 }
 
-// The sources from `from` up to `end`.
+// The sources from `from` up to `end`, which one word has; no further than the last bit that is set.
 fn change_bits(
     part: &mut [u32],
     wires: [u32; SOURCE_SET_SIZE],
@@ -41,12 +81,16 @@ fn change_bits(
     from: usize,
     end: usize,
 )
-    requires { ⌜ (length (now part) ≡ domainSize) × (from ≤ end) × (end ≤ slotCount) ⌝ }
+    requires { ⌜ (length (now part) ≡ domainSize) × (from ≤ end) × (end ≤ slotCount)
+        × (end ≤ from / 32 * 32 + 32) ⌝ }
     ensures { λ r. ⌜ domainOf (now (part .exit))
         ≡ changedFrom (domainOf (now (part .entry))) wires change value from (end - from) ⌝ }
 {
     let mut i = from;
     while i < end {
+        if value >> ((i % 32) as u32) == 0 {
+            return;
+        }
         change_bit(part, wires, change, value, i);
         i += 1;
     }

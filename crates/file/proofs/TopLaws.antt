@@ -1,93 +1,22 @@
--- Laws of specs/Top.antt: what the search for the lowest finds, and so what the top is. No contract cites
--- this file. Assumes nothing.
---   lowest-hit, lowest-miss      one step of the search
---   lowest-lt, lowest-ge         where what is found lies
---   lowest-found, lowest-first   what is found holds, and nothing before it does
---   lowest-none-1, lowest-none-2 0 is found exactly if it holds nowhere
---   lowest-same                  two tests that agree find the same
-use Prim.Native.Nat.{ℕ, zero, suc, _+_, _-_, _≤_, _<_}
-use mathlib.Core.Path.{_≡_, refl, sym, ap, ap₂, _∙_}
+-- Laws of specs/Top.antt: what an identity that qualifies has, what the top is and how the code finds it, and
+-- what a claim and the signal make of it. No contract cites this file. Assumes nothing.
+use Prim.Native.Nat.{ℕ, _≤_}
+use mathlib.Core.Path.{_≡_, sym, ap, _∙_}
 use mathlib.Core.Bool.{Bool, true, false, not, _&&_, and-false}
 use mathlib.Core.Logic.{_≢_}
 use native.Mathlib.Omega.{arith}
 use lib.Dec.{eqb}
 use borrow.Author.Tests.{eq-eqb, ne-eqb, eqb-true, eqb-false}
 use Rattle.words.specs.Sets.{member, remove}
-use Rattle.words.proofs.TestsLaws.{tested, and-first, and-second, from-next}
+use Rattle.words.proofs.TestsLaws.{tested, and-first, and-second}
+use Rattle.words.proofs.ThresholdLaws.{passes-above}
+use Rattle.sizes.specs.Sizes.{identities}
+use Rattle.file_search.specs.Search.{lowest, lowestShared}
+use Rattle.file_search.proofs.LowestLaws.{lowest-lt, lowest-under, lowest-shut}
+use Rattle.file_search.proofs.SearchLaws.{shared-start}
 use Rattle.file.specs.declared.File.{File}
 use Rattle.file.specs.Parts.{withPendingSet}
-use Rattle.file.specs.Top.{passes, qualifies, lowest, topIdentity, topOf, claimed, signals}
-
--- ---- the search
-
-module _ (p : ℕ → Bool) where
-  pub lowest-hit : (i k : ℕ) → p i ≡ true → lowest p i (suc k) ≡ i
-  unfolding lowest
-  lowest-hit i k e = simp e
-
-  pub lowest-miss : (i k : ℕ) → p i ≡ false → lowest p i (suc k) ≡ lowest p (suc i) k
-  unfolding lowest
-  lowest-miss i k e = simp e
-
-  -- the same in a search up to m, as the code counts
-  pub lowest-hit-to : (i m : ℕ) → i < m → p i ≡ true → lowest p i (m - i) ≡ i
-  lowest-hit-to i m h e = ap (lowest p i) (omega arith) ∙ lowest-hit i (m - suc i) e
-
-  pub lowest-miss-to : (i m : ℕ) → i < m → p i ≡ false → lowest p i (m - i) ≡ lowest p (i + 1) (m - (i + 1))
-  lowest-miss-to i m h e =
-      ap (lowest p i) (omega arith) ∙ lowest-miss i (m - suc i) e ∙ ap₂ (lowest p) (omega arith) (omega arith)
-
-  pub lowest-lt : (i k : ℕ) → 1 ≤ i → lowest p i k < i + k
-  unfolding lowest
-  lowest-lt i zero h = omega arith
-  lowest-lt i (suc k) h =
-      tested (p i) (λ t. omega (arith, lowest-hit i k t))
-      (λ f. omega (arith, lowest-miss i k f, lowest-lt (suc i) k (omega arith)))
-
-  pub lowest-ge : (i k : ℕ) → lowest p i k ≢ 0 → i ≤ lowest p i k
-  unfolding lowest
-  lowest-ge i zero n = absurd (n refl)
-  lowest-ge i (suc k) n =
-      tested (p i) (λ t. omega (arith, lowest-hit i k t))
-      (λ f. omega (arith, lowest-miss i k f, lowest-ge (suc i) k (λ z. n (lowest-miss i k f ∙ z))))
-
-  pub lowest-found : (i k : ℕ) → lowest p i k ≢ 0 → p (lowest p i k) ≡ true
-  lowest-found i zero n = absurd (n (unfold lowest in refl))
-  lowest-found i (suc k) n =
-      tested (p i) (λ t. ap p (lowest-hit i k t) ∙ t)
-      (λ f. ap p (lowest-miss i k f) ∙ lowest-found (suc i) k (λ z. n (lowest-miss i k f ∙ z)))
-
-  pub lowest-first : (i k j : ℕ) → i ≤ j → j < lowest p i k → p j ≡ false
-  lowest-first i zero j l h = absurd (unfold lowest in omega arith)
-  lowest-first i (suc k) j l h =
-      tested (p i) (λ t. absurd (omega (arith, lowest-hit i k t)))
-      (λ f. from-next (λ (m : ℕ). m < lowest p i (suc k) → p m ≡ false) i (λ q. f)
-      (λ m n q. lowest-first (suc i) k m n (omega (arith, lowest-miss i k f))) j l h)
-
-  pub lowest-none-1 : (i k : ℕ) → 1 ≤ i → lowest p i k ≡ 0 → (j : ℕ) → i ≤ j → j < i + k → p j ≡ false
-  lowest-none-1 i zero o z j l h = absurd (omega arith)
-  lowest-none-1 i (suc k) o z j l h =
-      tested (p i) (λ t. absurd (omega (arith, lowest-hit i k t)))
-      (λ f. from-next (λ (m : ℕ). m < i + suc k → p m ≡ false) i (λ q. f)
-      (λ m n q. lowest-none-1 (suc i) k (omega arith) (sym (lowest-miss i k f) ∙ z) m n (omega arith)) j l h)
-
-  pub lowest-none-2 : (i k : ℕ) → ((j : ℕ) → i ≤ j → j < i + k → p j ≡ false) → lowest p i k ≡ 0
-  unfolding lowest
-  lowest-none-2 i zero h = refl
-  lowest-none-2 i (suc k) h =
-      lowest-miss i k (h i (omega arith) (omega arith))
-      ∙ lowest-none-2 (suc i) k (λ j l m. h j (omega arith) (omega arith))
-
-pub lowest-same : (p q : ℕ → Bool) (i k : ℕ) → ((j : ℕ) → i ≤ j → j < i + k → p j ≡ q j)
-    → lowest p i k ≡ lowest q i k
-unfolding lowest
-lowest-same p q i zero h = refl
-lowest-same p q i (suc k) h =
-    let here = h i (omega arith) (omega arith) in
-    let rest = lowest-same p q (suc i) k (λ j l m. h j (omega arith) (omega arith)) in
-    tested (p i)
-    (λ t. lowest-hit p i k t ∙ sym (lowest-hit q i k (sym here ∙ t)))
-    (λ f. lowest-miss p i k f ∙ rest ∙ sym (lowest-miss q i k (sym here ∙ f)))
+use Rattle.file.specs.Top.{passes, qualifies, topIdentity, topOf, claimed, signals}
 
 -- ---- what qualifies
 
@@ -98,20 +27,20 @@ module _ (f : File) (i : ℕ) where
   abbrev enabled : Bool
   enabled = member (f .enable) i
 
-  abbrev lets : Bool
-  lets = passes (f .threshold) i
+  abbrev passing : Bool
+  passing = passes (f .threshold) i
 
   pub qualifies-pending : qualifies f i ≡ true → member (f .pending) i ≡ true
   unfolding qualifies
-  qualifies-pending e = and-first pends enabled (and-first (pends && enabled) lets e)
+  qualifies-pending e = and-first pends enabled (and-first (pends && enabled) passing e)
 
   pub qualifies-enabled : qualifies f i ≡ true → member (f .enable) i ≡ true
   unfolding qualifies
-  qualifies-enabled e = and-second pends enabled (and-first (pends && enabled) lets e)
+  qualifies-enabled e = and-second pends enabled (and-first (pends && enabled) passing e)
 
   pub qualifies-passes : qualifies f i ≡ true → passes (f .threshold) i ≡ true
   unfolding qualifies
-  qualifies-passes e = and-second (pends && enabled) lets e
+  qualifies-passes e = and-second (pends && enabled) passing e
 
   pub unpending : member (f .pending) i ≡ false → qualifies f i ≡ false
   unfolding qualifies
@@ -125,6 +54,31 @@ module _ (f : File) (i : ℕ) where
       → qualifies f i ≡ passes (f .threshold) i
   unfolding qualifies
   qualifies-standing p e = simp (p, e)
+
+-- ---- the top as the code finds it: only the lowest that is pending and enabled meets the threshold
+
+module _ (f : File) where
+  abbrev stands : ℕ → Bool
+  stands i = member (f .pending) i && member (f .enable) i
+
+  abbrev shared : ℕ
+  shared = lowestShared (f .pending) (f .enable)
+
+  abbrev lets : ℕ → Bool
+  lets i = passes (f .threshold) i
+
+  start : shared ≡ lowest stands 1 identities
+  start = shared-start (f .pending) (f .enable)
+
+  pub topIdentity-shared : passes (f .threshold) shared ≡ true → topIdentity identities f ≡ shared
+  unfolding topIdentity qualifies
+  topIdentity-shared e =
+      lowest-under stands lets 1 identities (ap lets (sym start) ∙ e) ∙ sym start
+
+  pub topIdentity-shut : passes (f .threshold) shared ≡ false → topIdentity identities f ≡ 0
+  unfolding topIdentity qualifies
+  topIdentity-shut e =
+      lowest-shut stands lets (passes-above (f .threshold)) 1 identities (ap lets (sym start) ∙ e)
 
 -- ---- the top
 

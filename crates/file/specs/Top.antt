@@ -2,25 +2,22 @@
 -- nothing.
 --   passes t i         threshold t lets identity i through: Rattle.words
 --   qualifies f i      i is pending and enabled, and the threshold lets it through
---   lowest p i k       the least of the k numbers from i on at which p holds, or 0
+--   lowest p i k       the least of the k numbers from i on at which p holds, or 0: Rattle.file_search
 --   topIdentity n f    the lowest identity of 1 to n that qualifies, or 0
 --   topOf n f          the same twice, as identity × 65536 + identity
 --   claimed n f        f after a claim: the top's pending bit cleared; with no top, f
 --   signals n f        f signals by itself: delivery is 1 and the top is not 0
-use Prim.Native.Nat.{ℕ, zero, suc, _+_, _*_}
+use Prim.Native.Nat.{ℕ, _+_, _*_}
 use mathlib.Core.Bool.{Bool, cond, not, _&&_}
 use lib.Dec.{eqb}
 use Rattle.words.specs.Sets.{member, remove}
 use Rattle.file.specs.declared.File.{File}
 use Rattle.file.specs.Parts.{withPendingSet}
 unfoldable pub use Rattle.words.specs.Threshold.{passes}
+unfoldable pub use Rattle.file_search.specs.Search.{lowest}
 
 unfoldable pub qualifies : File → ℕ → Bool
 qualifies f i = member (f .pending) i && member (f .enable) i && passes (f .threshold) i
-
-unfoldable pub lowest : (ℕ → Bool) → ℕ → ℕ → ℕ
-lowest p i zero = 0
-lowest p i (suc k) = let rest = lowest p (suc i) k in cond (p i) i rest
 
 unfoldable pub topIdentity : ℕ → File → ℕ
 topIdentity n f = lowest (qualifies f) 1 n

@@ -1,13 +1,9 @@
 // A file's top interrupt, its claim, and its signal to the hart.
 ghost use mathlib.Core.Path.{_≡_};
-ghost use Prim.Native.Nat.{_<_};
 ghost use Rattle.sizes.specs.Sizes.{identities};
-ghost use Rattle.file.specs.Top.{qualifies, topIdentity, topOf, claimed, signals};
+ghost use Rattle.file.specs.Top.{topIdentity, topOf, claimed, signals};
 use super::File;
-use sizes::IDENTITIES;
-
-// One past the last identity.
-const END: u32 = IDENTITIES + 1;
+use file_search::lowest_shared;
 
 pub struct Claimed {
     pub top: u32,
@@ -15,30 +11,16 @@ pub struct Claimed {
 }
 
 impl File {
-    fn qualifies(self, i: u32) -> bool
-        requires { ⌜ i < 256 ⌝ }
-        ensures { λ r. ⌜ r ≡ qualifies self i ⌝ }
-    {
-        let at = (i / 32) as usize;
-        if !words::has_bit(self.pending[at], i % 32) {
-            return false;
-        }
-        if !words::has_bit(self.enable[at], i % 32) {
-            return false;
-        }
-        words::passes(self.threshold, i)
-    }
-
-    // The lowest identity that qualifies, or 0.
+    // The lowest identity that qualifies, or 0. If the threshold shuts out the lowest that is pending and
+    // enabled, it shuts out every higher one; if there is none, both ways give 0.
     pub fn top_identity(self) -> u32
         ensures { λ r. ⌜ r ≡ topIdentity identities self ⌝ }
     {
-        let mut i: u32 = 1;
-        while i < END {
-            if self.qualifies(i) {
-                return i;
-            }
-            i += 1;
+        let pending = self.pending;
+        let enable = self.enable;
+        let i = lowest_shared(pending, enable);
+        if words::passes(self.threshold, i) {
+            return i;
         }
         0
     }

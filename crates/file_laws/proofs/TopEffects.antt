@@ -13,7 +13,7 @@ use Rattle.words.specs.Sets.{member, remove}
 use Rattle.words.proofs.SetsLaws.{member-remove-same, member-remove-other}
 use Rattle.file.specs.declared.File.{File}
 use Rattle.file.specs.Top.{qualifies, topIdentity, topOf, claimed}
-use Rattle.file.proofs.TopLaws.{lowest-ge, lowest-found, lowest-first, lowest-none-1, lowest-none-2}
+use Rattle.file_search.proofs.LowestLaws.{lowest-ge, lowest-found, lowest-first, lowest-none-1, lowest-none-2}
 use Rattle.file.proofs.TopLaws.{topIdentity-le, topOf-zero-1, topOf-zero-2, claimed-none, claimed-some}
 use Rattle.words.proofs.ThresholdLaws.{passes-below}
 use Rattle.file.proofs.TopLaws.{qualifies-passes}

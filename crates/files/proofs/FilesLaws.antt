@@ -2,19 +2,24 @@
 -- contract cites this file. Assumes nothing.
 use Prim.Native.Nat.{ℕ, zero, suc, _+_, _*_, _%_, _≤_, _<_}
 use mathlib.Core.Path.{_≡_, refl, sym, ap, _∙_}
+use mathlib.Core.Bool.{Bool, true, false, _&&_}
 use mathlib.Core.Logic.{_≢_, _⊎_, inl, inr}
 use mathlib.Core.List.{List, [], _∷_, _++_}
 use native.Mathlib.Decide.{ℕ-discrete, decLt}
 use native.Mathlib.Numerals.{add-one}
 use native.Mathlib.Omega.{arith}
 use lib.Dec.{leb}
-use lib.ListN.{length, getD, take, length-set}
-use lib.Seq.{getD-set-same, getD-set-other, ext-getD, take-suc}
+use lib.ListN.{length, getD, set, take, length-set}
+use lib.Seq.{getD-set-same, getD-set-other, set-getD, ext-getD, take-suc}
 use Rattle.sizes.specs.Sizes.{identities}
+use borrow.Author.Tests.{le-leb, lt-leb}
+use Rattle.words.specs.Every.{every}
+use Rattle.words.proofs.EveryLaws.{every-one, every-more}
 use Rattle.file_message.specs.Message.{hartIn, fileIn, identityIn}
 use Rattle.file.specs.declared.File.{File}
 use Rattle.file.specs.Page.{arrived}
 use Rattle.file.specs.Rules.{fileSound}
+use Rattle.file.proofs.PageLaws.{arrived-below}
 use Rattle.file.specs.Shape.{Long}
 use Rattle.file_laws.proofs.Stored.{long-back, long-apart}
 use Rattle.file_words.specs.Stored.{fileAt, putFile}
@@ -113,6 +118,14 @@ pub reached-is : (fs : List File) (m k i : ℕ) (f g : File) → k ≡ namedBy m
 unfolding reached
 reached-is fs m k i f g ek ef ei eg = rw (eg, ef, ei, ek)
 
+-- identity 0 reaches nobody
+pub reached-zero : (fs : List File) (m : ℕ) → identityIn m ≡ 0 → reached fs m ≡ fs
+unfolding reached withFile theFile
+reached-zero fs m e =
+    ap (set fs (namedBy m))
+    (arrived-below identities (getD fs (namedBy m) zeroFile) (identityIn m) (omega arith))
+    ∙ set-getD fs (namedBy m) zeroFile
+
 pub allReached-none : (fs : List File) → allReached fs [] ≡ fs
 unfolding allReached
 allReached-none fs = refl
@@ -147,7 +160,32 @@ pub guest-read : (k : ℕ) → leb 2 (k % 5) ≡ isGuest k
 unfolding isGuest
 guest-read k = refl
 
-pub sound-read : (fs : List File) (k : ℕ) (f : File) → f ≡ theFile fs k
-    → fileSound identities (leb 2 (k % 5)) f ≡ soundAt fs k
-unfolding soundAt isGuest
-sound-read fs k f e = ap (fileSound identities (leb 2 (k % 5))) e
+pub sound-read : (fs : List File) (k : ℕ) {g : Bool} {f : File} → g ≡ isGuest k → f ≡ theFile fs k
+    → fileSound identities g f ≡ soundAt fs k
+unfolding soundAt
+sound-read fs k g f = λ j. fileSound identities (g j) (f j)
+
+-- the files of a hart, of which k is the first
+module _ (k : ℕ) (h : k % 5 ≡ 0) where
+  pub machine-file : false ≡ isGuest k
+  unfolding isGuest
+  machine-file = sym (lt-leb 2 (k % 5) (omega arith))
+
+  pub supervisor-file : false ≡ isGuest (k + 1)
+  unfolding isGuest
+  supervisor-file = sym (lt-leb 2 ((k + 1) % 5) (omega arith))
+
+  pub guest-file : (f : ℕ) → 2 ≤ f → f < 5 → true ≡ isGuest (k + f)
+  unfolding isGuest
+  guest-file f l m = sym (le-leb 2 ((k + f) % 5) (omega arith))
+
+-- five tests in a row
+pub every-five : (p : ℕ → Bool) (k : ℕ) {a b c d e : Bool}
+    → a ≡ p k → b ≡ p (k + 1) → c ≡ p (k + 2) → d ≡ p (k + 3) → e ≡ p (k + 4)
+    → (a && b && c && d && e) ≡ every p k 5
+every-five p k a b c d e =
+    (λ j. a j && b j && c j && d j && e j)
+    ∙ (λ j. every-one p k j && p (k + 1) && p (k + 2) && p (k + 3) && p (k + 4))
+    ∙ (λ j. sym (every-more p k 1) j && p (k + 2) && p (k + 3) && p (k + 4))
+    ∙ (λ j. sym (every-more p k 2) j && p (k + 3) && p (k + 4))
+    ∙ (λ j. sym (every-more p k 3) j && p (k + 4)) ∙ sym (every-more p k 4)

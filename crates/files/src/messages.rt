@@ -16,11 +16,16 @@ fn deliver_one(files: &mut [u32], word: u32)
     requires { ⌜ (length (now files) ≡ filesSize) × (fileIn word < hartFiles) ⌝ }
     ensures { λ r. ⌜ filesOf (now (files .exit)) ≡ reached (filesOf (now (files .entry))) word ⌝ }
 {
+    let identity = identity_in(word);
+    // a file ignores identity 0
+    if identity == 0 {
+        return;
+    }
     let hart = hart_in(word) as usize;
     let file = file_in(word) as usize;
     let k = HART_FILES * hart + file;
     let f = load(files, k);
-    store(files, k, f.arrive(identity_in(word)));
+    store(files, k, f.arrive(identity));
 }
 
 // The first `count` messages of `log` reach their files, in order.

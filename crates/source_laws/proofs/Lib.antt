@@ -6,3 +6,4 @@ pub mod SteadyParts
 pub mod SameEffects
 pub mod SteadyEffects
 pub mod SentEffects
+pub mod PartsEffects

@@ -1,12 +1,14 @@
 -- Laws of specs/Mode.antt. No contract cites this file. Assumes nothing.
-use Prim.Native.Nat.{ℕ}
+use Prim.Native.Nat.{ℕ, _<_}
 use mathlib.Core.Path.{_≡_, ap, _∙_}
-use mathlib.Core.Bool.{Bool, true, false, not, and-false, or-true, or-false}
+use mathlib.Core.Bool.{Bool, true, false, not, _||_, and-false, or-true, or-false}
 use mathlib.Core.Logic.{_≢_, _⊎_, ⊎-elim}
-use lib.Dec.{eqb, ltb}
+use lib.Dec.{eqb, ltb, lit<}
 use borrow.Author.Tests.{eq-eqb, ne-eqb}
 use Rattle.words.specs.Bits.{hasBit}
 use Rattle.words.specs.Parts.{fieldOf}
+use Rattle.words.proofs.PartsLaws.{fieldOf-lt}
+use Rattle.words.proofs.TestsLaws.{tested}
 use Rattle.source_mode.specs.Mode.{isActive, isLevel, isRectified, keptMode, sourceWord}
 
 module _ (m : ℕ) where
@@ -52,6 +54,12 @@ module _ (v : ℕ) where
   pub kept-other : fieldOf v 0 3 ≢ 2 → fieldOf v 0 3 ≢ 3 → keptMode v ≡ fieldOf v 0 3
   unfolding keptMode
   kept-other a b = simp (ne-eqb (fieldOf v 0 3) 2 a, ne-eqb (fieldOf v 0 3) 3 b)
+
+  pub kept-lt : keptMode v < 8
+  unfolding keptMode
+  kept-lt =
+      tested (eqb (fieldOf v 0 3) 2 || eqb (fieldOf v 0 3) 3) (λ t. simp t (lit< tt))
+      (λ f. simp f (fieldOf-lt v 0 3))
 
   pub word-child-bit : (c has : Bool) → c ≡ true → hasBit v 10 ≡ true → sourceWord c has v ≡ 0
   unfolding sourceWord

@@ -1,1 +1,2 @@
--- The proofs of the state rules of one source. Assumes nothing.
+-- The laws and proofs of the ranges of one source. Assumes nothing.
+pub mod RangeLaws

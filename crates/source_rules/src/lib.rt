@@ -1,50 +1,63 @@
-// The state rules of one source, as tests on its value that do not leave early.
+// The words of an active source against their ranges. What a test gives is 0 exactly if the word is in range,
+// so that a pass over the sources gathers all of them in one word.
 ghost use mathlib.Core.Path.{_≡_};
-ghost use Rattle.source_rules.specs.SourceRules.{modeRange, targetRange, inactiveRule, levelRule};
-ghost use Rattle.source_rules.specs.SourceRules.{sentRule, sourceSound};
-use source::Source;
-use source_mode::active;
-use source_mode::level;
-use source_mode::rectified;
+ghost use mathlib.Core.Bool.{cond, not, _&&_, _||_};
+ghost use lib.Dec.{eqb};
+ghost use Rattle.source_mode.specs.Mode.{keptMode};
+ghost use Rattle.source_target.specs.Target.{numberOf, keptTarget};
 
-pub fn mode_range(child: bool, s: Source) -> bool
-    ensures { λ r. ⌜ r ≡ modeRange child s ⌝ }
+// The bits of a target that no domain keeps: above the hart, between it and the guest index, and below that.
+const ABOVE_HART: u32 = 0xFFF00000;
+
+const BELOW_HART: u32 = 0x3C000;
+
+const BELOW_GUEST: u32 = 0xF00;
+
+const GUEST: u32 = 0x3000;
+
+// Legal modes are 0, 1 and 4 to 7.
+pub fn mode_fault(mode: u32) -> u32
+    ensures { λ r. ⌜ eqb r 0 ≡ eqb mode (keptMode mode) ⌝ }
 {
-    s.mode == source_mode::source_word(child, true, s.mode)
+    if 7 < mode {
+        return 1;
+    }
+    if mode == 2 {
+        return 1;
+    }
+    if mode == 3 {
+        return 1;
+    }
+    0
 }
 
-pub fn target_range(child: bool, messages: bool, s: Source) -> bool
-    ensures { λ r. ⌜ r ≡ targetRange child messages s ⌝ }
+fn priority_fault(messages: bool, target: u32) -> u32
+    ensures { λ r. ⌜ eqb r 0 ≡ (messages || not (eqb (numberOf target) 0)) ⌝ }
 {
-    !active(s.mode) | (s.target == source_target::kept_target(child, messages, s.target))
+    if messages {
+        return 0;
+    }
+    if source_target::number_of(target) == 0 {
+        return 1;
+    }
+    0
 }
 
-pub fn inactive_rule(s: Source) -> bool
-    ensures { λ r. ⌜ r ≡ inactiveRule s ⌝ }
+// Only the child's messages have a guest index.
+fn barred_guest(child: bool, messages: bool) -> u32
+    ensures { λ r. ⌜ r ≡ cond (child && messages) 0 12288 ⌝ }
 {
-    active(s.mode) | ((s.target == 0) & !s.pending & !s.enabled)
+    if child & messages {
+        return 0;
+    }
+    GUEST
 }
 
-pub fn level_rule(messages: bool, wire: bool, s: Source) -> bool
-    ensures { λ r. ⌜ r ≡ levelRule messages wire s ⌝ }
+pub fn target_fault(child: bool, messages: bool, target: u32) -> u32
+    ensures { λ r. ⌜ eqb r 0 ≡ eqb target (keptTarget child messages target) ⌝ }
 {
-    let high = rectified(s.mode, wire);
-    !level(s.mode) | ((!s.pending | high) & (messages | !high | s.pending))
-}
-
-// `sends` says that the domain sends: it has IE and DM.
-pub fn sent_rule(sends: bool, s: Source) -> bool
-    ensures { λ r. ⌜ r ≡ sentRule sends s ⌝ }
-{
-    !(sends & s.candidate())
-}
-
-pub fn source_sound(child: bool, messages: bool, sends: bool, wire: bool, s: Source) -> bool
-    ensures { λ r. ⌜ r ≡ sourceSound child messages sends wire s ⌝ }
-{
-    mode_range(child, s)
-        & target_range(child, messages, s)
-        & inactive_rule(s)
-        & level_rule(messages, wire, s)
-        & sent_rule(sends, s)
+    let barred = barred_guest(child, messages);
+    let low = (target & BELOW_GUEST) | (target & barred);
+    let high = (target & ABOVE_HART) | (target & BELOW_HART);
+    high | low | priority_fault(messages, target)
 }

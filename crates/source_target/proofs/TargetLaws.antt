@@ -1,12 +1,12 @@
 -- Laws of specs/Target.antt. No contract cites this file. Assumes nothing.
-use Prim.Native.Nat.{ℕ, _+_, _^_, _<_}
-use mathlib.Core.Path.{_≡_}
+use Prim.Native.Nat.{ℕ, _+_, _/_, _%_, _^_, _<_}
+use mathlib.Core.Path.{_≡_, _∙_}
 use mathlib.Core.Bool.{Bool, true, false}
 use mathlib.Core.Logic.{_≢_}
 use native.Mathlib.Omega.{arith}
 use borrow.Author.Tests.{eq-eqb, ne-eqb}
 use Rattle.words.specs.Parts.{packed}
-use Rattle.words.proofs.PartsLaws.{fieldOf-lt, packed-is}
+use Rattle.words.proofs.PartsLaws.{fieldOf-lt, fieldOf-is, packed-is}
 use Rattle.file_message.specs.Message.{logWord}
 use Rattle.source_target.specs.Target.{hartOf, guestOf, numberOf, priorityOf, receiverOf}
 use Rattle.source_target.specs.Target.{keptTarget, messageOf}
@@ -23,6 +23,19 @@ module _ (t : ℕ) where
   pub numberOf-lt : numberOf t < 256
   unfolding numberOf
   numberOf-lt = fieldOf-lt t 0 8
+
+  -- each as a quotient and a remainder
+  pub hartOf-is : hartOf t ≡ t / 2 ^ 18 % 2 ^ 2
+  unfolding hartOf
+  hartOf-is = fieldOf-is t 18 2
+
+  pub guestOf-is : guestOf t ≡ t / 2 ^ 12 % 2 ^ 2
+  unfolding guestOf
+  guestOf-is = fieldOf-is t 12 2
+
+  pub numberOf-is : numberOf t ≡ t % 2 ^ 8
+  unfolding numberOf
+  numberOf-is = fieldOf-is t 0 8 ∙ omega arith
 
 -- ---- what a write keeps, and what is sent
 

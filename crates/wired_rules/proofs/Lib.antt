@@ -1,2 +1,4 @@
 -- The laws of the state rules. Assumes nothing.
+pub mod BitsLaws
 pub mod RulesLaws
+pub mod SlotsLaws

@@ -1,30 +1,35 @@
 -- Laws of specs/Rules.antt: a rule tested on what was read is the rule. No contract cites this file.
 -- Assumes nothing.
-use Prim.Native.Nat.{ℕ}
+use Prim.Native.Nat.{ℕ, _+_, _≤_, _<_}
 use mathlib.Core.Path.{_≡_, refl, sym, ap, _∙_}
-use mathlib.Core.Bool.{Bool, true, false, not, _&&_, _||_}
+use mathlib.Core.Bool.{Bool, true, false, not, _&&_, _||_, and-false}
 use mathlib.Core.List.{List}
+use native.Mathlib.Nat.{lt-of-le-of-lt}
+use native.Mathlib.Omega.{arith}
 use lib.Dec.{eqb, leb}
+use Rattle.words.specs.Bits.{hasBit, without}
 use Rattle.words.specs.Sets.{member}
-use Rattle.words.proofs.SetsLaws.{member-word}
-use Rattle.domain_genmsi.specs.Genmsi.{keptGenerated}
+use Rattle.words.specs.Every.{every}
+use Rattle.words.proofs.BitsLaws.{hasBit-without, without-le}
+use Rattle.words.proofs.EveryLaws.{every-each, every-both, every-same, every-first}
+use Rattle.words.proofs.TestsLaws.{tested, and-second}
+use Rattle.words_masks.specs.Masks.{gathered}
+use Rattle.words_masks.proofs.MasksLaws.{gathered-lt, none-every}
+use Rattle.source_mode.specs.Mode.{sourceWord}
 use Rattle.source.specs.declared.Source.{Source}
-use Rattle.domain.specs.Domain.{Domain, isEnabled, byMessages, generatedAt}
+use Rattle.source_rules.specs.SourceRules.{sourceSound}
+use Rattle.source_rules.specs.SourceParts.{heldBack, occupied}
+use Rattle.source_laws.proofs.PartsEffects.{occupied-child, held-root, source-parts, word-root, sound-word}
+use Rattle.domain_genmsi.specs.Genmsi.{keptGenerated}
+use Rattle.domain.specs.Domain.{Domain, byMessages, sends, generatedAt}
 use Rattle.domain.specs.Slot.{sourceAt}
-use Rattle.domain.proofs.SlotLaws.{pending-word, enable-word}
 use Rattle.wired_state.specs.Wires.{Wired}
 use Rattle.wired_state.proofs.WiresLaws.{delegated-mode}
-use Rattle.source_rules.specs.SourceRules.{sourceSound}
-use Rattle.words.specs.Every.{every}
 use Rattle.wired_rules.specs.Rules.{configRange, generatedRange, structureRange, sourceZeroRule}
 use Rattle.wired_rules.specs.Rules.{generatedRule}
 use Rattle.wired_rules.specs.Rules.{sourceRule, domainSound, delegatedRule, wiredSound}
-
-pub source-rule-read : (c : Bool) (ws : List ℕ) (d : Domain) (i : ℕ) {m e x : Bool} {s : Source}
-    → m ≡ byMessages d → e ≡ isEnabled d → x ≡ member ws i → s ≡ sourceAt d i
-    → sourceSound c m (e && m) x s ≡ sourceRule c ws d i
-unfolding sourceRule
-source-rule-read c ws d i a b x s = λ k. sourceSound c (a k) (b k && a k) (x k) (s k)
+use Rattle.wired_rules.specs.Slots.{slotAt, bitsAt, has}
+use Rattle.wired_rules.proofs.BitsLaws.{bit-of, bit-zero}
 
 pub generated-rules-read : (d : Domain) {g h : ℕ} {m : Bool}
     → g ≡ generatedAt d → h ≡ keptGenerated g → m ≡ byMessages d
@@ -34,45 +39,113 @@ generated-rules-read d {g = g} {m = t} a b m =
     ap (λ (x : ℕ). eqb g x && (t || eqb g 0)) b
     ∙ (λ k. eqb (a k) (keptGenerated (a k)) && (m k || eqb (a k) 0))
 
-pub delegated-rule-read : (w : Wired) (i : ℕ) {r s : Source}
-    → r ≡ sourceAt (w .root) i → s ≡ sourceAt (w .child) i
-    → (leb 1024 (r .mode) || eqb (s .mode) 0) ≡ delegatedRule w i
-unfolding delegatedRule
-delegated-rule-read w i r s =
-    (λ k. leb 1024 (r k .mode) || eqb (s k .mode) 0)
-    ∙ ap (λ (b : Bool). b || eqb (sourceAt (w .child) i .mode) 0) (sym (delegated-mode w i))
+-- ---- the rules of a domain, and of both
 
--- the zeros, of what was read as source 0
-pub zero-read : (d : Domain) {s : Source} → s ≡ sourceAt d 0
-    → (not (s .pending) && not (s .enabled)) ≡ (sourceZeroRule (d .pending) && sourceZeroRule (d .enable))
-unfolding sourceZeroRule
-zero-read d e =
-    let p : sourceAt d 0 .pending ≡ member (d .pending) 0 =
-    sym (pending-word d 0) ∙ member-word (d .pending) 0 in
-    let q : sourceAt d 0 .enabled ≡ member (d .enable) 0 =
-    sym (enable-word d 0) ∙ member-word (d .enable) 0 in
-    (λ k. not (e k .pending) && not (e k .enabled)) ∙ (λ k. not (p k) && not (q k))
+pub source-rules-read : (c : Bool) (ws : List ℕ) (d : Domain)
+    → (every (slotAt c d) 1 63 && every (bitsAt c ws d) 1 63) ≡ every (sourceRule c ws d) 1 63
+unfolding slotAt bitsAt sourceRule
+source-rules-read c ws d =
+    every-both (slotAt c d) (bitsAt c ws d) 1 63
+    ∙ every-same (λ j. slotAt c d j && bitsAt c ws d j) (sourceRule c ws d) 1 63
+    (λ j l h. source-parts c (byMessages d) (sends d) (member ws j) (sourceAt d j))
 
 -- the rules of a domain as the code groups them
-grouped : (a b c d e f g : Bool)
-    → (a && (b && c) && (d && e) && f && g) ≡ (a && b && c && d && e && f && g)
-grouped false b c d e f g = refl
-grouped true false c d e f g = refl
-grouped true true false d e f g = refl
-grouped true true true d e f g = refl
+grouped : (a b g z e s w r : Bool)
+    → (a && (b && g) && s && w && (z && e && r)) ≡ (a && b && g && z && e && s && (w && r))
+grouped false b g z e s w r = refl
+grouped true false g z e s w r = refl
+grouped true true false z e s w r = refl
+grouped true true true true true true w r = refl
+grouped true true true true true false w r = refl
+grouped true true true true false true true r = refl
+grouped true true true true false true false r = refl
+grouped true true true true false false w r = refl
+grouped true true true false e true true r = refl
+grouped true true true false e true false r = refl
+grouped true true true false e false w r = refl
 
-pub domain-sound-read : (c : Bool) (ws : List ℕ) (d : Domain) {p q r s t : Bool}
-    → p ≡ configRange d → q ≡ (generatedRange d && generatedRule d)
-    → r ≡ (sourceZeroRule (d .pending) && sourceZeroRule (d .enable)) → s ≡ every (structureRange d) 0 4
-    → t ≡ every (sourceRule c ws d) 1 63 → (p && q && r && s && t) ≡ domainSound c ws d
+pub domain-sound-read : (c : Bool) (ws : List ℕ) (d : Domain) {p q s w r : Bool}
+    → p ≡ configRange d → q ≡ (generatedRange d && generatedRule d) → s ≡ every (structureRange d) 0 4
+    → w ≡ every (slotAt c d) 1 63
+    → r ≡ (sourceZeroRule (d .pending) && sourceZeroRule (d .enable) && every (bitsAt c ws d) 1 63)
+    → (p && q && s && w && r) ≡ domainSound c ws d
 unfolding domainSound
-domain-sound-read c ws d p q r s t = (λ k. p k && q k && r k && s k && t k)
+domain-sound-read c ws d p q s w r =
+    (λ k. p k && q k && s k && w k && r k)
     ∙ grouped (configRange d) (generatedRange d) (generatedRule d) (sourceZeroRule (d .pending))
-    (sourceZeroRule (d .enable)) (every (structureRange d) 0 4) (every (sourceRule c ws d) 1 63)
+    (sourceZeroRule (d .enable)) (every (structureRange d) 0 4) (every (slotAt c d) 1 63)
+    (every (bitsAt c ws d) 1 63)
+    ∙ ap (λ (b : Bool). configRange d && generatedRange d && generatedRule d && sourceZeroRule (d .pending)
+    && sourceZeroRule (d .enable) && every (structureRange d) 0 4 && b) (source-rules-read c ws d)
 
-pub wired-sound-read : (w : Wired) {p q r s : Bool}
+module _ (ws : List ℕ) (d : Domain) (sound : domainSound false ws d ≡ true) (j : ℕ) (l : 1 ≤ j)
+    (h : j < 64) where
+  abbrev s : Source
+  s = sourceAt d j
+
+  abbrev wire : Bool
+  wire = member ws j
+
+  source-sound : sourceSound false (byMessages d) (sends d) wire s ≡ true
+  unfolding domainSound sourceRule
+  source-sound =
+      every-each (sourceRule false ws d) 1 63
+      (and-second (configRange d && generatedRange d && generatedRule d && sourceZeroRule (d .pending)
+      && sourceZeroRule (d .enable) && every (structureRange d) 0 4) (every (sourceRule false ws d) 1 63)
+      sound)
+      j l (omega arith)
+
+  word-sound : eqb (s .mode) (sourceWord false true (s .mode)) ≡ true
+  word-sound = sound-word false (byMessages d) (sends d) wire s source-sound
+
+taken-rule : (z h : Bool) → not (not z && true && not h) ≡ (h || z)
+taken-rule true true = refl
+taken-rule true false = refl
+taken-rule false true = refl
+taken-rule false false = refl
+
+module _ (w : Wired) (sound : domainSound false (w .wires) (w .root) ≡ true) where
+  abbrev taken : ℕ
+  taken = gathered (has (occupied true) (w .child)) 64
+
+  abbrev given : ℕ
+  given = gathered (has (heldBack false) (w .root)) 64
+
+  -- the child has a source only where the machine domain delegates it
+  delegated-word : eqb (without taken given) 0 ≡ every (delegatedRule w) 1 63
+  unfolding delegatedRule
+  delegated-word =
+      none-every 64 (without taken given) (lt-of-le-of-lt (without-le taken given) (gathered-lt _ 64))
+      ∙ every-first (λ j. not (hasBit (without taken given) j)) 63
+      ∙ (λ k. first k && every-same (λ j. not (hasBit (without taken given) j)) (delegatedRule w) 1 63 each k)
+    where
+      first : not (hasBit (without taken given) 0) ≡ true
+      first = ap not (hasBit-without taken given 0
+          ∙ ap (λ (b : Bool). b && not (hasBit given 0)) (bit-zero (occupied true) (w .child) taken refl))
+
+      each : (j : ℕ) → 1 ≤ j → j < 1 + 63 → not (hasBit (without taken given) j) ≡ delegatedRule w j
+      each j l h =
+          ap not (hasBit-without taken given j
+          ∙ (λ k. bit-of (occupied true) (w .child) taken refl j l (omega arith) k
+          && not (bit-of (heldBack false) (w .root) given refl j l (omega arith) k))
+          ∙ (λ k. occupied-child (sourceAt (w .child) j .mode) k
+          && not (held-root (sourceAt (w .root) j .mode) k)))
+          ∙ taken-rule (eqb (sourceAt (w .child) j .mode) 0) (eqb (sourceAt (w .root) j .mode) 1024)
+          ∙ ap (λ (b : Bool). b || eqb (sourceAt (w .child) j .mode) 0)
+          (sym (word-root (sourceAt (w .root) j .mode)
+          (word-sound (w .wires) (w .root) sound j l (omega arith)))
+          ∙ sym (delegated-mode w j))
+
+pub wired-sound-read : (w : Wired) {p q r : Bool} {x : ℕ}
     → p ≡ member (w .wires) 0 → q ≡ domainSound false (w .wires) (w .root)
-    → r ≡ domainSound true (w .wires) (w .child) → s ≡ every (delegatedRule w) 1 63
-    → (not p && q && r && s) ≡ wiredSound w
+    → r ≡ domainSound true (w .wires) (w .child)
+    → x ≡ without (gathered (has (occupied true) (w .child)) 64)
+    (gathered (has (heldBack false) (w .root)) 64)
+    → (not p && q && r && eqb x 0) ≡ wiredSound w
 unfolding wiredSound sourceZeroRule
-wired-sound-read w p q r s = λ k. not (p k) && q k && r k && s k
+wired-sound-read w p q r x =
+    (λ k. not (p k) && q k && r k && eqb (x k) 0)
+    ∙ tested (domainSound false (w .wires) (w .root))
+    (λ t. ap (λ (b : Bool). not (member (w .wires) 0) && domainSound false (w .wires) (w .root)
+    && domainSound true (w .wires) (w .child) && b) (delegated-word w t))
+    (λ f. simp (f, and-false))

@@ -1,23 +1,29 @@
 // The rules of a domain, those that concern both, and all of them.
 ghost use mathlib.Core.Path.{_≡_};
 ghost use mathlib.Core.Bool.{_&&_};
-ghost use Prim.Native.Nat.{_<_};
 ghost use lib.ListN.{length};
 ghost use Rattle.sizes.specs.Sizes.{sourceCount, slotCount, domainSize, wiredSize};
+ghost use Rattle.words_masks.specs.Masks.{gathered};
 ghost use Rattle.domain.specs.Domain.{domainOf};
 ghost use Rattle.wired_state.specs.Wires.{wiredOf};
 ghost use Rattle.words.specs.Every.{every};
 ghost use Rattle.wired_rules.specs.Rules.{configRange, generatedRange, generatedRule, sourceZeroRule};
-ghost use Rattle.wired_rules.specs.Rules.{domainSound};
-ghost use Rattle.wired_rules.specs.Rules.{delegatedRule, wiredSound};
-use super::sources::source_pass;
-use super::sources::structure_pass;
+ghost use Rattle.wired_rules.specs.Rules.{domainSound, wiredSound};
+ghost use Rattle.source_rules.specs.SourceParts.{heldBack, occupied};
+ghost use Rattle.wired_rules.specs.Slots.{has, bitsAt, SoFar};
+use super::Gathered;
+use super::Tested;
+use super::bits::none_low;
+use super::bits::none_missing;
+use super::bits::none_unsent;
+use super::bits::none_unused;
+use super::bits::one_word;
+use super::slots::gather;
+use super::structures::structure_pass;
 use sizes::CHILD_PLACE;
 use sizes::ROOT_PLACE;
-use sizes::SLOT_COUNT;
 use sizes::SOURCE_SET_SIZE;
 use sizes::WIRED_SIZE;
-use source_mode::DELEGATED_WORD;
 
 fn config_rule(part: &[u32]) -> bool
     requires { ⌜ length (now part) ≡ domainSize ⌝ }
@@ -36,56 +42,54 @@ fn generated_rules(part: &[u32]) -> bool
     (word == domain_genmsi::kept_generated(word)) & (domain::by_messages(part) | (word == 0))
 }
 
-fn no_zero(part: &[u32]) -> bool
-    requires { ⌜ length (now part) ≡ domainSize ⌝ }
+// The bits of all sources; source 0, which is none, has no bits.
+fn bits_rules(part: &[u32], child: bool, wires: [u32; SOURCE_SET_SIZE], g: Gathered) -> bool
+    requires { ⌜ (length (now part) ≡ domainSize) × SoFar child (domainOf (now part)) slotCount g ⌝ }
     ensures { λ r. ⌜ r ≡ (sourceZeroRule (domainOf (now (part .entry)) .pending)
-        && sourceZeroRule (domainOf (now (part .entry)) .enable)) ⌝ }
+        && sourceZeroRule (domainOf (now (part .entry)) .enable)
+        && every (bitsAt child wires (domainOf (now (part .entry)))) 1 sourceCount) ⌝ }
 {
-    let s = domain::load(part, 0);
-    !s.pending & !s.enabled
+    let messages = domain::by_messages(part);
+    let sends = domain::enabled(part) & messages;
+    let pending = one_word(domain::pending_word(part, 0), domain::pending_word(part, 1));
+    let enable = one_word(domain::enable_word(part, 0), domain::enable_word(part, 1));
+    let levels = one_word(wires[0], wires[1]);
+    none_unused(g.active, pending, enable)
+        & none_unsent(sends, pending, enable)
+        & none_low(g.straight, g.inverted, levels, pending)
+        & none_missing(messages, g.straight, g.inverted, levels, pending)
 }
 
-fn domain_rules(part: &[u32], child: bool, wires: [u32; SOURCE_SET_SIZE]) -> bool
+fn domain_rules(part: &[u32], child: bool, wires: [u32; SOURCE_SET_SIZE]) -> Tested
     requires { ⌜ length (now part) ≡ domainSize ⌝ }
-    ensures { λ r. ⌜ r ≡ domainSound child wires (domainOf (now (part .entry))) ⌝ }
+    ensures { λ r. ⌜ (r .sound ≡ domainSound child wires (domainOf (now (part .entry))))
+        × (r .active ≡ gathered (has (occupied child) (domainOf (now (part .entry)))) slotCount)
+        × (r .delegated ≡ gathered (has (heldBack child) (domainOf (now (part .entry)))) slotCount) ⌝ }
 {
-    config_rule(part)
+    let g = gather(part, child);
+    let sound = config_rule(part)
         & generated_rules(part)
-        & no_zero(part)
         & structure_pass(part)
-        & source_pass(part, child, wires)
-}
-
-fn delegated_rule(w: &[u32], i: usize) -> bool
-    requires { ⌜ (length (now w) ≡ wiredSize) × (i < slotCount) ⌝ }
-    ensures { λ r. ⌜ r ≡ delegatedRule (wiredOf (now (w .entry))) i ⌝ }
-{
-    let root = domain::load(&w[ROOT_PLACE..CHILD_PLACE], i);
-    let child = domain::load(&w[CHILD_PLACE..WIRED_SIZE], i);
-    (DELEGATED_WORD <= root.mode) | (child.mode == 0)
-}
-
-fn delegated_pass(w: &[u32]) -> bool
-    requires { ⌜ length (now w) ≡ wiredSize ⌝ }
-    ensures { λ r. ⌜ r ≡ every (delegatedRule (wiredOf (now (w .entry)))) 1 sourceCount ⌝ }
-{
-    let mut sound = true;
-    let mut i: usize = 1;
-    while i < SLOT_COUNT {
-        sound = sound & delegated_rule(w, i);
-        i += 1;
+        & (g.faults == 0)
+        & bits_rules(part, child, wires, g);
+    Tested {
+        sound,
+        active: g.active,
+        delegated: g.delegated,
     }
-    sound
 }
 
-// Whether the 290 words of the wired controller keep every rule.
+// Whether the 290 words of the wired controller keep every rule. The child has a source only where it is
+// delegated.
 pub fn sound(w: &[u32]) -> bool
     requires { ⌜ length (now w) ≡ wiredSize ⌝ }
     ensures { λ r. ⌜ r ≡ wiredSound (wiredOf (now (w .entry))) ⌝ }
 {
     let wires = wired_state::wires(w);
+    let root = domain_rules(&w[ROOT_PLACE..CHILD_PLACE], false, wires);
+    let child = domain_rules(&w[CHILD_PLACE..WIRED_SIZE], true, wires);
     !words::has_bit(wires[0], 0)
-        & domain_rules(&w[ROOT_PLACE..CHILD_PLACE], false, wires)
-        & domain_rules(&w[CHILD_PLACE..WIRED_SIZE], true, wires)
-        & delegated_pass(w)
+        & root.sound
+        & child.sound
+        & (words::without64(child.active, root.delegated) == 0)
 }

@@ -112,7 +112,7 @@ module _ (ws : List ℕ) (i : ℕ) where
 
 -- ---- a set is its members
 
-word-members : (ws : List ℕ) (k b : ℕ) → b < 32 → member ws (32 * k + b) ≡ hasBit (getD ws k 0) b
+pub word-members : (ws : List ℕ) (k b : ℕ) → b < 32 → member ws (32 * k + b) ≡ hasBit (getD ws k 0) b
 unfolding member
 word-members ws k b h =
     ap (λ (m : ℕ). hasBit (getD ws m 0) ((32 * k + b) % 32)) (omega arith)

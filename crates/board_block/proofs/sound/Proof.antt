@@ -34,12 +34,12 @@ sound-requires-2 c κs = search needs
 
 returns : tie.Need-returns
 returns c =
-    let at-files = c .before .before in
-    let start = at-files .before .before .before in
+    let at-wired = c .before .before in
+    let start = at-wired .before .before .before in
     let l = start .args .state .now in
-    board-sound-read (boardOf l) (at-files .sound .result) (c .sound2 .result)
-    (at-files .sound .ensures ∙ ap filesSound (files-part l (start .pre)))
-    (c .sound2 .ensures ∙ ap wiredSound (wired-part l (start .pre)))
+    board-sound-read (boardOf l) (c .sound2 .result) (at-wired .sound .result)
+    (c .sound2 .ensures ∙ ap filesSound (files-part l (start .pre)))
+    (at-wired .sound .ensures ∙ ap wiredSound (wired-part l (start .pre)))
 
 pub sound-spec : {M : Type 1} → statement M
 sound-spec =

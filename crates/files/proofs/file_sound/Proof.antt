@@ -14,8 +14,10 @@ sound-requires c κs = search needs
 
 returns : tie.Need-returns
 returns c =
-    let args = c .before .before .before .args in
-    c .sound .ensures ∙ sound-read (filesOf (args .files .now)) (args .k) _ (c .before .load .ensures)
+    let start = c .before .before .before in
+    c .sound .ensures
+    ∙ sound-read (filesOf (start .args .files .now)) (start .args .k) (start .pre .2)
+    (c .before .load .ensures)
 
 pub file-sound-spec : {M : Type 1} → statement M
 file-sound-spec = tie.close (tie.spec load-requires sound-requires returns)

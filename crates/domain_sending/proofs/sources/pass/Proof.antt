@@ -1,60 +1,93 @@
--- `domain_sending::sources::pass` meets its contract: the sources from i on still send what is left to be
--- sent.
--- Assumes nothing.
+-- `domain_sending::sources::pass` meets its contract: what it goes past is not to be sent. Assumes nothing.
 use Prim.Native.Nat.{_-_}
 use mathlib.Core.Path.{_≡_, sym, _∙_}
 use native.Mathlib.Omega.{arith}
 use lib.ListN.{length}
 use Rattle.domain.specs.Domain.{domainOf}
 use Rattle.domain_sending.proofs.PassLaws.{SoFar, pass-start, pass-next, pass-end}
+use Rattle.domain_sending.proofs.WaitingLaws.{Left, left-start, left-lt, left-passed, left-next}
+use Rattle.domain_sending.proofs.WaitingLaws.{left-none}
+use borrow.Author.Needs.{needs}
 use Rattle.domain_sending.proofs.sources.pass.Statement.{statement}
 use Rattle.domain_sending.proofs.sources.pass.Tie as tie
 
 abbrev Inv-loop : tie.InvT-loop
-Inv-loop part₀ child log₀ n₀ i₀ part log n i =
+Inv-loop part₀ child log₀ all rest₀ i₀ n₀ part log rest i n =
     (length part ≡ 144) × SoFar child (domainOf part₀) log₀ (domainOf part) log i n
+    × Left (domainOf part) all rest i
 
 abbrev μ-loop : tie.MeasureT-loop
-μ-loop part₀ child log₀ n₀ i₀ part log n i = 64 - i
+μ-loop part₀ child log₀ all rest₀ i₀ n₀ part log rest i n = 64 - i
+
+waiting-requires : tie.Need-waiting-requires Inv-loop μ-loop
+waiting-requires c κs = search needs
 
 loop-holds : tie.Need-loop-holds Inv-loop μ-loop
 loop-holds c =
-    let start = c .before .before in
-    let d = domainOf (start .args .part .now) in
-    (start .pre .0, pass-start (start .args .child) d (start .args .log .now) (start .pre .1))
+    let start = c .before .before .before .before in
+    let d = domainOf (start .args .part .now) in (
+      start .pre .0,
+      pass-start (start .args .child) d (start .args .log .now) (start .pre .1),
+      left-start d _ (omega arith) (c .waiting .ensures),
+    )
+
+cast-i : tie.Need-cast-i Inv-loop μ-loop
+cast-i c = let low = left-lt _ _ _ _ (c .before .loop .inv .2) (c .loop-test .taken) in omega arith
+
+add-i : tie.Need-add-i Inv-loop μ-loop
+add-i c = let low = left-lt _ _ _ _ (c .before .loop .inv .2) (c .loop-test .taken) in omega arith
 
 serve-requires : tie.Need-serve-requires Inv-loop μ-loop
 serve-requires c κs =
-    let at-loop = c .before .before .before .loop in
-    (at-loop .inv .0, at-loop .inv .1 .long, omega arith, omega arith)
+    let turn = c .before .before in
+    let inv = turn .before .loop .inv in
+    let low = left-lt _ _ _ _ (inv .2) (turn .loop-test .taken) in
+    (inv .0, inv .1 .long, low, omega arith)
 
-add-i : tie.Need-add-i Inv-loop μ-loop
-add-i c = omega arith
+cast-rest : tie.Need-cast-rest Inv-loop μ-loop
+cast-rest c =
+    let turn = c .before .before .before .before .before .before .before in
+    let low = left-lt _ _ _ _ (turn .before .loop .inv .2) (turn .loop-test .taken) in omega arith
+
+shr-rest : tie.Need-shr-rest Inv-loop μ-loop
+shr-rest c =
+    let turn = c .before .before .before .before .before .before .before in
+    let low = left-lt _ _ _ _ (turn .before .loop .inv .2) (turn .loop-test .taken) in omega arith
+
+add-i-2 : tie.Need-add-i-2 Inv-loop μ-loop
+add-i-2 c =
+    let turn = c .before .before .before .before .before .before .before in
+    let low = left-lt _ _ _ _ (turn .before .loop .inv .2) (turn .loop-test .taken) in omega arith
 
 loop-less : tie.Need-loop-less Inv-loop μ-loop
-loop-less c = omega arith
+loop-less c =
+    let turn = c .before .before .before .before .before .before .before in
+    let low = left-lt _ _ _ _ (turn .before .loop .inv .2) (turn .loop-test .taken) in omega arith
 
 loop-again : tie.Need-loop-again Inv-loop μ-loop
 loop-again c =
     let served = c .before .before .before .before .serve in
     let turn = c .before .before .before .before .before .before .before in
-    let at-loop = turn .before .loop in (
-      served .kept .0 ∙ at-loop .inv .0,
-      pass-next _ _ _ _ _ (at-loop .i) (at-loop .n) (at-loop .inv .1) (omega arith) _ _ _
+    let some = turn .loop-test .taken in
+    let inv = turn .before .loop .inv in (
+      served .kept .0 ∙ inv .0,
+      pass-next _ _ _ _ _ _ _ (inv .1) _ (omega arith) (left-lt _ _ _ _ (inv .2) some)
+          (left-passed _ _ _ _ (inv .2) some) _ _ _
           (served .ensures .0) (served .ensures .1) (served .ensures .2),
+      left-next _ _ _ _ (inv .2) some _ (served .ensures .0),
     )
 
 same-length : tie.Need-same-length Inv-loop μ-loop
-same-length c = c .before .loop .inv .0 ∙ sym (c .before .before .before .before .pre .0)
+same-length c = c .before .loop .inv .0 ∙ sym (c .before .before .before .before .before .before .pre .0)
 
 same-length-2 : tie.Need-same-length-2 Inv-loop μ-loop
-same-length-2 c = c .before .loop .inv .1 .long ∙ sym (c .before .before .before .before .pre .1)
+same-length-2 c =
+    c .before .loop .inv .1 .long ∙ sym (c .before .before .before .before .before .before .pre .1)
 
 returns : tie.Need-returns Inv-loop μ-loop
 returns c =
-    let so-far = c .before .loop .inv .1 in
-    let end = c .loop-test .left in
-    pass-end _ _ _ _ _ _ _ so-far end
+    let inv = c .before .loop .inv in
+    pass-end _ _ _ _ _ _ _ (inv .1) (left-none _ _ _ _ (inv .2) (c .loop-test .left))
 
 pub pass-spec : {M : Type 1} → statement M
 pass-spec =
@@ -62,9 +95,14 @@ pass-spec =
     (tie.spec
     Inv-loop
     μ-loop
+    waiting-requires
     loop-holds
-    serve-requires
+    cast-i
     add-i
+    serve-requires
+    cast-rest
+    shr-rest
+    add-i-2
     loop-less
     loop-again
     same-length

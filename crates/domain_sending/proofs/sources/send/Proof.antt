@@ -1,11 +1,9 @@
--- `domain_sending::sources::send` meets its contract: a domain that does not send, one with nothing to send,
--- and the
--- pass. Assumes nothing.
+-- `domain_sending::sources::send` meets its contract: a domain that does not send, and the pass. Assumes
+-- nothing.
 use mathlib.Core.Path.{sym, _∙_}
 use borrow.Author.Tests.{not-true, not-false}
 use Rattle.domain.specs.Domain.{domainOf}
 use Rattle.domain_sending.proofs.SendingLaws.{sent-on, sent-off, answered-nothing, answered-same}
-use Rattle.domain_sending.proofs.IdleLaws.{idle-sent}
 use borrow.Author.Needs.{needs}
 use Rattle.domain_sending.proofs.sources.send.Statement.{statement}
 use Rattle.domain_sending.proofs.sources.send.Tie as tie
@@ -22,33 +20,19 @@ returns c =
     answered-nothing _ (domainOf (args .part .now)) (args .log .now)
     (sent-off (args .child) _ (sym (c .before .sends .ensures) ∙ not-true _ (c .if1 .taken)))
 
-idle-requires : tie.Need-idle-requires
-idle-requires c κs = search needs
+pass-requires : tie.Need-pass-requires
+pass-requires c κs = search needs
 
 same-length-2 : tie.Need-same-length-2
 same-length-2 c = search needs
 
-returns-2 : tie.Need-returns-2
-returns-2 c =
-    let tried = c .before .before .before in
-    let args = tried .before .before .before .before .before .args in
-    answered-nothing _ (domainOf (args .part .now)) (args .log .now)
-    (sent-on (args .child) _ (sym (tried .before .sends .ensures) ∙ not-false _ (tried .if1 .left))
-    ∙ idle-sent (args .child) (args .part .now) (sym (c .before .idle .ensures) ∙ c .if2 .taken))
-
-pass-requires : tie.Need-pass-requires
-pass-requires c κs = search needs
-
 same-length-3 : tie.Need-same-length-3
 same-length-3 c = search needs
 
-same-length-4 : tie.Need-same-length-4
-same-length-4 c = search needs
-
-returns-3 : tie.Need-returns-3
-returns-3 c =
+returns-2 : tie.Need-returns-2
+returns-2 c =
     let passed = c .before .before .before .before in
-    let tried = passed .before .before .before .before .before .before in
+    let tried = passed .before .before .before in
     let args = tried .before .before .before .before .before .args in
     answered-same _ _ (args .log .now) _ _ _
     (sent-on (args .child) _ (sym (tried .before .sends .ensures) ∙ not-false _ (tried .if1 .left)))
@@ -61,10 +45,7 @@ send-spec =
     sends-requires
     same-length
     returns
-    idle-requires
-    same-length-2
-    returns-2
     pass-requires
+    same-length-2
     same-length-3
-    same-length-4
-    returns-3)
+    returns-2)

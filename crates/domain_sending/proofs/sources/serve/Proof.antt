@@ -34,8 +34,8 @@ mul-log c = search needs
 slice-write-log : tie.Need-slice-write-log
 slice-write-log c = search needs
 
-store-requires : tie.Need-store-requires
-store-requires c κs = search needs
+unpend-requires : tie.Need-unpend-requires
+unpend-requires c κs = search needs
 
 add-result : tie.Need-add-result
 add-result c = search needs
@@ -48,14 +48,14 @@ same-length-3 c = search needs
 
 returns-2 : tie.Need-returns-2
 returns-2 c =
-    let stored = c .before .before in
-    let sent = stored .before .before in
+    let unpended = c .before .before in
+    let sent = unpended .before .before in
     let tried = sent .before in
     let loaded = tried .before .before in
     let args = loaded .before .before .before .before .args in
     turn-hit (args .child) (domainOf (args .part .now)) (args .log .now) (args .i) (args .n) _
     (loaded .load .ensures) (sym (tried .before .candidate .ensures) ∙ not-false _ (tried .if1 .left))
-    (domainOf (stored .store .last .0)) _ (stored .store .ensures) (sent .message .ensures)
+    (domainOf (unpended .unpend .last .0)) _ (unpended .unpend .ensures) (sent .message .ensures)
 
 pub serve-spec : {M : Type 1} → statement M
 serve-spec =
@@ -68,7 +68,7 @@ serve-spec =
     message-requires
     mul-log
     slice-write-log
-    store-requires
+    unpend-requires
     add-result
     same-length-2
     same-length-3

@@ -1,61 +1,29 @@
--- `file::File::top_identity` meets its contract: the identities from i on still have the lowest. Assumes
--- nothing.
-use Prim.Native.Nat.{_-_, _≤_}
-use mathlib.Core.Path.{_≡_, refl, sym, _∙_, ap}
-use native.Mathlib.Omega.{arith}
-use Rattle.file.specs.Top.{qualifies, lowest, topIdentity}
-use Rattle.file.proofs.TopLaws.{lowest-hit-to, lowest-miss-to}
+-- `file::File::top_identity` meets its contract: if the threshold shuts out the lowest identity that is
+-- pending and enabled, it shuts out all. Assumes nothing.
+use mathlib.Core.Path.{sym, ap, _∙_}
+use borrow.Author.Needs.{needs}
+use Rattle.file.specs.Top.{passes}
+use Rattle.file.proofs.TopLaws.{topIdentity-shared, topIdentity-shut}
 use Rattle.file.proofs.File.top_identity.Statement.{statement}
 use Rattle.file.proofs.File.top_identity.Tie as tie
 
-abbrev Inv-loop : tie.InvT-loop
-Inv-loop self i₀ i = (1 ≤ i) × (i ≤ 256) × (topIdentity 255 self ≡ lowest (qualifies self) i (256 - i))
+lowest-shared-requires : tie.Need-lowest-shared-requires
+lowest-shared-requires c κs = search needs
 
-abbrev μ-loop : tie.MeasureT-loop
-μ-loop self i₀ i = 256 - i
+passes-requires : tie.Need-passes-requires
+passes-requires c κs = search needs
 
-loop-holds : tie.Need-loop-holds Inv-loop μ-loop
-unfolding topIdentity
-loop-holds c = (omega arith, omega arith, refl)
-
-qualifies-requires : tie.Need-qualifies-requires Inv-loop μ-loop
-qualifies-requires c κs = omega arith
-
-returns : tie.Need-returns Inv-loop μ-loop
+returns : tie.Need-returns
 returns c =
-    let at-loop = c .before .before .before .loop in
-    let hit = sym (c .before .qualifies .ensures) ∙ c .if1 .taken in
-    sym (at-loop .inv .2 ∙ lowest-hit-to _ (at-loop .i) 256 (omega arith) hit)
+    let found = c .before .before .lowest-shared .ensures in
+    let lets = ap (passes _) (sym found) ∙ sym (c .before .passes .ensures) ∙ c .if1 .taken in
+    found ∙ sym (topIdentity-shared _ lets)
 
-add-i : tie.Need-add-i Inv-loop μ-loop
-add-i c = omega arith
-
-loop-less : tie.Need-loop-less Inv-loop μ-loop
-loop-less c = omega arith
-
-loop-again : tie.Need-loop-again Inv-loop μ-loop
-loop-again c =
-    let at-loop = c .before .before .before .loop in
-    let miss = sym (c .before .qualifies .ensures) ∙ c .if1 .left in
-    (omega arith, omega arith, at-loop .inv .2 ∙ lowest-miss-to _ (at-loop .i) 256 (omega arith) miss)
-
-returns-2 : tie.Need-returns-2 Inv-loop μ-loop
-unfolding lowest
+returns-2 : tie.Need-returns-2
 returns-2 c =
-    let at-loop = c .before .loop in
-    let end : 256 - at-loop .i ≡ 0 = omega arith in
-    sym (at-loop .inv .2 ∙ ap (lowest (qualifies (c .before .before .args .self)) (at-loop .i)) end)
+    let found = c .before .before .lowest-shared .ensures in
+    let shut = ap (passes _) (sym found) ∙ sym (c .before .passes .ensures) ∙ c .if1 .left in
+    sym (topIdentity-shut _ shut)
 
 pub top-identity-spec : {M : Type 1} → statement M
-top-identity-spec =
-    tie.close
-    (tie.spec
-    Inv-loop
-    μ-loop
-    loop-holds
-    qualifies-requires
-    returns
-    add-i
-    loop-less
-    loop-again
-    returns-2)
+top-identity-spec = tie.close (tie.spec lowest-shared-requires passes-requires returns returns-2)

@@ -4,35 +4,40 @@ use borrow.Author.Needs.{needs}
 use Rattle.wired_rules.proofs.domains.domain_rules.Statement.{statement}
 use Rattle.wired_rules.proofs.domains.domain_rules.Tie as tie
 
+gather-requires : tie.Need-gather-requires
+gather-requires c κs = search needs
+
 config-rule-requires : tie.Need-config-rule-requires
 config-rule-requires c κs = search needs
 
 generated-rules-requires : tie.Need-generated-rules-requires
 generated-rules-requires c κs = search needs
 
-no-zero-requires : tie.Need-no-zero-requires
-no-zero-requires c κs = search needs
-
 structure-pass-requires : tie.Need-structure-pass-requires
 structure-pass-requires c κs = search needs
 
-source-pass-requires : tie.Need-source-pass-requires
-source-pass-requires c κs = search needs
+bits-rules-requires : tie.Need-bits-rules-requires
+bits-rules-requires c κs = search needs
 
 returns : tie.Need-returns
 returns c =
-    let at-zero = c .before .before in
-    domain-sound-read _ _ _ (at-zero .before .before .config-rule .ensures)
-    (at-zero .before .generated-rules .ensures) (at-zero .no-zero .ensures)
-    (c .before .structure-pass .ensures) (c .source-pass .ensures)
+    let at-structures = c .before .before in
+    let at-generated = at-structures .before in
+    let at-config = at-generated .before in
+    let so = at-config .before .gather .ensures in (
+      domain-sound-read _ _ _ (at-config .config-rule .ensures) (at-generated .generated-rules .ensures)
+          (at-structures .structure-pass .ensures) (so .faults) (c .bits-rules .ensures),
+      so .active,
+      so .delegated,
+    )
 
 pub domain-rules-spec : {M : Type 1} → statement M
 domain-rules-spec =
     tie.close
     (tie.spec
+    gather-requires
     config-rule-requires
     generated-rules-requires
-    no-zero-requires
     structure-pass-requires
-    source-pass-requires
+    bits-rules-requires
     returns)

@@ -4,12 +4,16 @@ use Prim.Native.Nat.{ℕ}
 use mathlib.Core.Path.{ap, ap₂, _∙_}
 use mathlib.Core.Bool.{true, false}
 use mathlib.Core.List.{List}
+use Rattle.words.specs.Bits.{without}
 use Rattle.words.specs.Sets.{member}
 use Rattle.words.proofs.SetsLaws.{member-word}
+use Rattle.words_masks.specs.Masks.{gathered}
 use Rattle.domain.specs.Domain.{Domain}
 use Rattle.wired_state.specs.Wires.{wiredOf}
 use Rattle.wired_state.proofs.WiresLaws.{root-part, child-part}
 use Rattle.wired_rules.specs.Rules.{domainSound}
+use Rattle.source_rules.specs.SourceParts.{heldBack, occupied}
+use Rattle.wired_rules.specs.Slots.{has}
 use Rattle.wired_rules.proofs.RulesLaws.{wired-sound-read}
 use borrow.Author.Needs.{needs}
 use Rattle.wired_rules.proofs.domains.sound.Statement.{statement}
@@ -17,12 +21,6 @@ use Rattle.wired_rules.proofs.domains.sound.Tie as tie
 
 wires-requires : tie.Need-wires-requires
 wires-requires c κs = search needs
-
-array-read-has-bit : tie.Need-array-read-has-bit
-array-read-has-bit c = search needs
-
-has-bit-requires : tie.Need-has-bit-requires
-has-bit-requires c κs = search needs
 
 sub-domain-rules : tie.Need-sub-domain-rules
 sub-domain-rules c = search needs
@@ -48,32 +46,42 @@ part-domain-rules-end-2 c = search needs
 domain-rules-requires-2 : tie.Need-domain-rules-requires-2
 domain-rules-requires-2 c κs = search needs
 
-delegated-pass-requires : tie.Need-delegated-pass-requires
-delegated-pass-requires c κs = search needs
+array-read-has-bit : tie.Need-array-read-has-bit
+array-read-has-bit c = search needs
+
+has-bit-requires : tie.Need-has-bit-requires
+has-bit-requires c κs = search needs
+
+without64-requires : tie.Need-without64-requires
+without64-requires c κs = search needs
 
 returns : tie.Need-returns
 returns c =
-    let at-child = c .before in
+    let at-bit = c .before .before .before in
+    let at-child = at-bit .before in
     let at-root = at-child .before .before in
-    let at-bit = at-root .before .before in
-    let start = at-bit .before .before .before in
+    let at-wires = at-root .before .before in
+    let start = at-wires .before .before in
     let l = start .args .w .now in
-    let wires = at-bit .before .wires .ensures in
+    let wires = at-wires .wires .ensures in
+    let root = root-part l (start .pre) in
+    let child = child-part l (start .pre) in
     wired-sound-read (wiredOf l)
     (at-bit .has-bit .ensures ∙ member-word _ 0 ∙ ap (λ (ws : List ℕ). member ws 0) wires)
-    (at-root .domain-rules .ensures
-    ∙ ap₂ (λ (ws : List ℕ) (d : Domain). domainSound false ws d) wires (root-part l (start .pre)))
-    (at-child .domain-rules2 .ensures
-    ∙ ap₂ (λ (ws : List ℕ) (d : Domain). domainSound true ws d) wires (child-part l (start .pre)))
-    (c .delegated-pass .ensures)
+    (at-root .domain-rules .ensures .0
+    ∙ ap₂ (λ (ws : List ℕ) (d : Domain). domainSound false ws d) wires root)
+    (at-child .domain-rules2 .ensures .0
+    ∙ ap₂ (λ (ws : List ℕ) (d : Domain). domainSound true ws d) wires child)
+    (c .without64 .ensures
+    ∙ ap₂ without
+    (at-child .domain-rules2 .ensures .1 ∙ ap (λ (d : Domain). gathered (has (occupied true) d) 64) child)
+    (at-root .domain-rules .ensures .2 ∙ ap (λ (d : Domain). gathered (has (heldBack false) d) 64) root))
 
 pub sound-spec : {M : Type 1} → statement M
 sound-spec =
     tie.close
     (tie.spec
     wires-requires
-    array-read-has-bit
-    has-bit-requires
     sub-domain-rules
     part-domain-rules-start
     part-domain-rules-end
@@ -82,5 +90,7 @@ sound-spec =
     part-domain-rules-start-2
     part-domain-rules-end-2
     domain-rules-requires-2
-    delegated-pass-requires
+    array-read-has-bit
+    has-bit-requires
+    without64-requires
     returns)

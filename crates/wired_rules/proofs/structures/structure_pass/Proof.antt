@@ -1,4 +1,4 @@
--- `wired_rules::sources::structure_pass` meets its contract: what is still to be tested settles
+-- `wired_rules::structures::structure_pass` meets its contract: what is still to be tested settles
 -- the rest. Assumes nothing.
 use Prim.Native.Nat.{_+_, _-_, _≤_}
 use mathlib.Core.Path.{_≡_, refl, sym, ap, _∙_}
@@ -9,8 +9,8 @@ use Rattle.wired_rules.specs.Rules.{structureRange}
 use Rattle.words.specs.Every.{every}
 use Rattle.words.proofs.EveryLaws.{every-step, every-done}
 use borrow.Author.Needs.{needs}
-use Rattle.wired_rules.proofs.sources.structure_pass.Statement.{statement}
-use Rattle.wired_rules.proofs.sources.structure_pass.Tie as tie
+use Rattle.wired_rules.proofs.structures.structure_pass.Statement.{statement}
+use Rattle.wired_rules.proofs.structures.structure_pass.Tie as tie
 
 abbrev Inv-loop : tie.InvT-loop
 Inv-loop part sound₀ h₀ sound h =

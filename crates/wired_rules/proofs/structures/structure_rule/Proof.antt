@@ -1,10 +1,10 @@
--- `wired_rules::sources::structure_rule` meets its contract. Assumes nothing.
+-- `wired_rules::structures::structure_rule` meets its contract. Assumes nothing.
 use mathlib.Core.Path.{ap, _∙_}
 use Rattle.domain_delivery.specs.Delivery.{deliverySound}
 use Rattle.wired_rules.specs.Rules.{structureRange}
 use borrow.Author.Needs.{needs}
-use Rattle.wired_rules.proofs.sources.structure_rule.Statement.{statement}
-use Rattle.wired_rules.proofs.sources.structure_rule.Tie as tie
+use Rattle.wired_rules.proofs.structures.structure_rule.Statement.{statement}
+use Rattle.wired_rules.proofs.structures.structure_rule.Tie as tie
 
 load-structure-requires : tie.Need-load-structure-requires
 load-structure-requires c κs = search needs

@@ -1,0 +1,3 @@
+-- The laws of the search, by topic. Assumes nothing.
+pub mod LowestLaws
+pub mod SearchLaws

@@ -1,0 +1,2 @@
+-- The laws of sets that are one word. Assumes nothing.
+pub mod MasksLaws

@@ -1,0 +1,2 @@
+-- Sets of small numbers, each as one word. Assumes nothing.
+pub mod Masks
