@@ -1,58 +1,93 @@
-// The table cases of the paper that one message file has, run through its methods and printed, a line each.
-use file::Access;
-use file::File;
-use file::Reply;
+// Recorded cases, run through the board's calls. Each line of standard input is a call, or changes what the
+// calls are lent; each call's answer is a line of standard output. The file stdin says the calls and the file
+// stdout what a second program, which shares nothing with this one, answers to them (second/README.md).
+mod calls;
+mod digest;
+mod fields;
+mod lines;
+mod shown;
 
-const OUT: i32 = 1;
+ghost use Rattle.cases.specs.Lendable.{Lendable};
+use libc::STDIN_FILENO;
+use lines::Run;
+use sizes::BLOCK_SIZE;
+use sizes::LOG_SIZE;
+use sizes::RECORD_SIZE;
 
-fn empty() -> File {
-    File {
-        delivery: 1,
-        threshold: 0,
-        pending: [0; 8],
-        enable: [0; 8],
+// Some words lie beyond the block and the log: for lengths that are too large, and so that the digest sees a
+// call that writes there.
+const STATE_ROOM: usize = BLOCK_SIZE + 10;
+
+const LOG_ROOM: usize = LOG_SIZE + 7;
+
+// A longer line cannot be read.
+const LINE_ROOM: usize = 200;
+
+// The bytes of one read, and the lines that end in them.
+fn take_chunk(
+    state: &mut [u32; STATE_ROOM],
+    log: &mut [u32; LOG_ROOM],
+    saved: &mut [u64; RECORD_SIZE],
+    line: &mut [u8; LINE_ROOM],
+    chunk: &[u8],
+    run: Run,
+) -> Run
+    requires { ⌜ Lendable (run .state) (run .log) ⌝ }
+    ensures { λ r. ⌜ Lendable (r .state) (r .log) ⌝ }
+{
+    let mut run = run;
+    let mut i = 0;
+    while i < chunk.len() {
+        run = lines::take_byte(state, log, saved, line, chunk[i], run);
+        i += 1;
     }
+    run
 }
 
-fn written(f: File, select: u64, value: u64) -> File {
-    let done = f.access(true, Access::Write, select, value);
-    done.file
-}
-
-fn line(name: &[u8], value: u64) {
-    io::write_all(OUT, name);
-    io::write_all(OUT, b"\t0x");
-    io::print_hex(OUT, value, 8);
-    io::write_all(OUT, b"\n");
-}
-
-// What a read of a register answers: the paper's refusal number if there is one, else the value.
-fn read_line(name: &[u8], f: File, select: u64) {
-    let done = f.access(true, Access::Read, select, 0);
-    let answer = done.answer;
-    match answer {
-        Reply::Value(v) => line(name, v),
-        Reply::Illegal => {
-            io::write_all(OUT, name);
-            io::write_all(OUT, b"\trefusal 6\n");
+// A proved loop has to end, and nothing says that the input does. So the loop counts its turns down, from a
+// number that no run uses up.
+fn take_all(
+    state: &mut [u32; STATE_ROOM],
+    log: &mut [u32; LOG_ROOM],
+    saved: &mut [u64; RECORD_SIZE],
+    line: &mut [u8; LINE_ROOM],
+) -> Run
+    ensures { λ r. ⌜ Lendable (r .state) (r .log) ⌝ }
+{
+    let mut run = lines::start();
+    let mut turns = u64::MAX;
+    while turns > 0 {
+        let mut chunk = io::buffer();
+        let n = io::read_full(STDIN_FILENO, &mut chunk);
+        if n == 0 {
+            return run;
         }
+        run = take_chunk(state, log, saved, line, &chunk[..n], run);
+        turns -= 1;
     }
+    run
 }
 
-// Identities 5 and 9 pending and enabled, under a threshold: the top.
-fn top_line(name: &[u8], threshold: u64) {
-    let f = empty().arrive(5).arrive(9);
-    let enabled = written(f, 0xC0, 0x220);
-    let under = written(enabled, 0x72, threshold);
-    line(name, under.top() as u64);
+// The last line may lack its end.
+fn take_last(
+    state: &mut [u32; STATE_ROOM],
+    log: &mut [u32; LOG_ROOM],
+    saved: &mut [u64; RECORD_SIZE],
+    line: &[u8; LINE_ROOM],
+    run: Run,
+)
+    requires { ⌜ Lendable (run .state) (run .log) ⌝ }
+{
+    if run.length > 0 {
+        lines::end_line(state, log, saved, line, run);
+    }
 }
 
 fn main() {
-    top_line(b"T1", 0);
-    top_line(b"T2", 5);
-    top_line(b"T3", 6);
-    read_line(b"T4", empty().page_write(0, 256), 0x80);
-    read_line(b"T5", empty().page_write(4, 0x05000000), 0x80);
-    read_line(b"T11", empty(), 0x81);
-    read_line(b"T11", empty(), 0x71);
+    let mut state = [0u32; STATE_ROOM];
+    let mut log = [0u32; LOG_ROOM];
+    let mut saved = [0u64; RECORD_SIZE];
+    let mut line = [0u8; LINE_ROOM];
+    let run = take_all(&mut state, &mut log, &mut saved, &mut line);
+    take_last(&mut state, &mut log, &mut saved, &line, run);
 }

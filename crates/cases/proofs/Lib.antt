@@ -1,0 +1,2 @@
+-- The proofs of the program's functions. Assumes nothing.
+pub mod DigestLaws

@@ -1,0 +1,3 @@
+-- What the functions of the program say of themselves. Assumes nothing.
+pub mod Digest
+pub mod Lendable
