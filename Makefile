@@ -1,22 +1,38 @@
-# make proves and builds what there is, runs the example in C and prints the table cases; make test is the whole
-# gate; see make help.
+# make proves and builds what there is and runs the example in C; make test is the whole gate; see make help.
 .DEFAULT_GOAL := all
-.PHONY: all test check example tools fmt style numbers layers claims clean help toolchain
+.PHONY: all test check compare cases mutants bench example tools fmt style numbers layers claims clean help toolchain
 
-# rt check runs each program once it is proved, and keeps what it wrote
+# rt check runs each program once it is proved, and compares what it wrote
 all: check
 	@$(MAKE) --no-print-directory example
-	@echo "table cases:"
-	@cat target/log/cases.stdout
 
 # rt ci comes last and nothing follows it: its last line is the verdict
 test: toolchain
 	@scripts/style
 	@rt fmt --check
+	@scripts/compare
 	@rt ci
 
 check: toolchain
 	@rt check
+
+# the second program against the proved archive
+compare: toolchain
+	@scripts/compare --proved
+
+# recorded calls and the second program's answers, which crates/cases is run on
+cases: toolchain
+	@scripts/native target/compare
+	@second/build target/compare/libmonitor.a target/compare/second
+	@target/compare/second --record 4000 --seed 1 --cases crates/cases/stdin --answers crates/cases/stdout
+
+# wrong models that the comparison has to tell apart; to be kept: make mutants >docs/MUTANTS.md
+mutants: toolchain
+	@scripts/native target/compare
+	@second/try-mutants target/compare/libmonitor.a --markdown
+
+bench: toolchain
+	@scripts/bench
 
 # a monitor in C on the proved archive; it is skipped, and says so, where a tool that it needs is not there
 example: toolchain
@@ -45,9 +61,14 @@ clean:
 	@rm -rf target
 
 help:
-	@echo "make          prove every crate, build and run the programs and the C example, print the table cases"
-	@echo "make test     the whole gate: style, layout, then rt ci, from nothing; its last line is the verdict"
+	@echo "make          prove every crate, build and run the programs and the C example"
+	@echo "make test     the whole gate: style, layout, the second program, then rt ci, from nothing; its last line is"
+	@echo "              the verdict"
 	@echo "make check    prove what changed since it was last proved, and run the programs"
+	@echo "make compare  compare the proved archive, compiled for this machine, with the second program"
+	@echo "make cases    have the second program write anew what the program cases is run on"
+	@echo "make mutants  try wrong models: the comparison has to see each"
+	@echo "make bench    time every call, and count its instructions, beside plain C with the same promises"
 	@echo "make example  prove what the C functions need, build the examples in C on them, run and compare them"
 	@echo "make tools    install what the example needs (Debian, as root): a C compiler, an emulator off x86-64"
 	@echo "make fmt      bring every source file under crates/ into the layout"
