@@ -73,19 +73,13 @@ module _ (l zs : List ℕ) (long : length l ≡ 650) (part : length zs ≡ 290) 
   pub files-behind : filesOf (take 360 (wiredPut l zs)) ≡ boardOf l .files
   files-behind = files-part (wiredPut l zs) put-wired-long ∙ ap (λ (b : Board). b .files) put-wired
 
--- both parts, in either order
+-- both parts
 module _ (l ys zs : List ℕ) (long : length l ≡ 650) (files : length ys ≡ 360) (wired : length zs ≡ 290) where
   pub put-wired-files : boardOf (filesPut (wiredPut l zs) ys)
       ≡ record { files = filesOf ys; wired = wiredOf zs }
   put-wired-files =
       put-files (wiredPut l zs) ys (put-wired-long l zs long wired) files
       ∙ board-path refl (ap (λ (b : Board). b .wired) (put-wired l zs long wired))
-
-  pub put-files-wired : boardOf (wiredPut (filesPut l ys) zs)
-      ≡ record { files = filesOf ys; wired = wiredOf zs }
-  put-files-wired =
-      put-wired (filesPut l ys) zs (put-files-long l ys long files) wired
-      ∙ board-path (ap (λ (b : Board). b .files) (put-files l ys long files)) refl
 
 -- ---- the state rules
 

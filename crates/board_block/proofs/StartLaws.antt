@@ -4,15 +4,17 @@ use Prim.Native.Nat.{ℕ, zero, suc, _+_, _%_, _≤_, _<_}
 use mathlib.Core.Path.{_≡_, refl, sym, ap, _∙_}
 use mathlib.Core.Bool.{Bool, cond}
 use mathlib.Core.List.{List, _++_, append-nil}
-use native.Mathlib.Decide.{ℕ-discrete}
+use native.Mathlib.Decide.{ℕ-discrete, decLt}
 use native.Mathlib.Omega.{arith}
 use borrow.Author.Tests.{le-leb, lt-leb}
-use lib.ListN.{length, drop, replicate}
+use lib.ListN.{length, take, drop, replicate}
 use lib.Seq.{drop-length}
 use Rattle.file.specs.declared.File.{File}
+use Rattle.file.specs.Parts.{withDelivery}
 use Rattle.files.specs.Files.{filesOf, theFile, withFile}
 use Rattle.files.proofs.FilesLaws.{theFile-first, theFile-next, files-same, length-filesOf, guest-read}
 use Rattle.files.proofs.FilesLaws.{theFile-withFile-same, theFile-withFile-other}
+use Rattle.files_laws.proofs.DeliveryEffects.{theFile-zeros}
 use Rattle.domain_laws.proofs.ZeroEffects.{domainOf-zeros}
 use Rattle.wired_state.specs.Wires.{wiredOf}
 use Rattle.wired_state.proofs.WiresLaws.{wired-path, wires-read, root-part, child-part}
@@ -58,6 +60,42 @@ start-more fs gs k many h e each j below = ap (λ (hs : List File). theFile hs j
     at (yes q) = rw q (theFile-withFile-same fs k (startFile k) (omega arith))
     at (no n) = theFile-withFile-other fs k (startFile k) j n ∙ each j (omega arith)
 
+-- the files below k are those of the start, and the others are 0
+pub record Started (k : ℕ) (fs : List File) : Type 0 where
+  pub below : (j : ℕ) → j < k → theFile fs j ≡ startFile j
+  pub above : (j : ℕ) → k ≤ j → j < 20 → theFile fs j ≡ zerosBut 0
+
+pub started-zeros : (l : List ℕ) → l ≡ replicate 360 0 → Started 0 (filesOf l)
+started-zeros l e =
+    record {
+      below = λ j h. absurd (omega arith);
+      above = λ j b h. ap (λ (m : List ℕ). theFile (filesOf m) j) e ∙ theFile-zeros j h;
+    }
+
+-- the signal put into number k is the start's file there
+pub started-signal : (fs gs : List File) (k : ℕ) → length fs ≡ 20 → k < 20 → k % 5 < 2
+    → gs ≡ withFile fs k (withDelivery (theFile fs k) 0x40000000) → Started k fs → Started (k + 1) gs
+started-signal fs gs k many h m e s =
+    let f = withDelivery (theFile fs k) 0x40000000 in
+    let is : f ≡ startFile k = ap (λ (g : File). withDelivery g 0x40000000) (s .above k (omega arith) h)
+    ∙ start-signal k m in
+    record {
+      below = start-more fs gs k many h (e ∙ ap (withFile fs k) is) (s .below);
+      above = λ j b q. ap (λ (hs : List File). theFile hs j) e
+          ∙ theFile-withFile-other fs k f j (λ p. omega arith) ∙ s .above j (omega arith) q;
+    }
+
+-- a guest's file that is 0 is the start's
+pub started-guests : (fs : List File) (k n : ℕ) → n ≤ 20 → k ≤ n
+    → ((j : ℕ) → k ≤ j → j < n → 2 ≤ j % 5) → Started k fs → Started n fs
+started-guests fs k n h l guests s =
+    record { below = λ j q. at j q (decLt j k); above = λ j b q. s .above j (omega arith) q }
+  where
+    at : (j : ℕ) → j < n → Dec (j < k) → theFile fs j ≡ startFile j
+    at j q (yes b) = s .below j b
+    at j q (no b) =
+        s .above j (omega arith) (omega arith) ∙ start-guest j (guests j (omega arith) q)
+
 -- files that are one by one those of the start are all of them
 pub start-files : (l : List ℕ) → ((j : ℕ) → j < 20 → theFile (filesOf l) j ≡ startFile j)
     → filesOf l ≡ startFilesFrom 0 20
@@ -66,7 +104,7 @@ start-files l each =
     (λ j q. let h : j < 20 = omega (arith, length-filesOf l) in
     each j h ∙ sym (theFile-startFilesFrom 0 20 j h ∙ ap startFile (omega arith)))
 
--- ---- the wired controller
+-- ---- words that are 0
 
 -- a list is 0 once as many of its words are as it has
 pub all-filled : (l : List ℕ) (i n : ℕ) → length l ≡ i → i ≡ n → replicate i 0 ++ drop i l ≡ replicate n 0
@@ -74,9 +112,10 @@ all-filled l i n h e =
     ap (λ (x : List ℕ). replicate i 0 ++ x) (ap (λ (k : ℕ). drop k l) (sym h) ∙ drop-length l)
     ∙ append-nil (replicate i 0) ∙ ap (λ (k : ℕ). replicate k 0) e
 
-pub start-wired : wiredOf (replicate 290 0) ≡ startBoard .wired
+pub start-wired : (l : List ℕ) → l ≡ replicate 650 0 → wiredOf (take 290 (drop 360 l)) ≡ startBoard .wired
 unfolding startBoard startDomain
-start-wired =
-    let l : List ℕ = replicate 290 0 in
-    wired-path (sym (wires-read l refl)) (sym (root-part l refl) ∙ domainOf-zeros)
-    (sym (child-part l refl) ∙ domainOf-zeros)
+start-wired l e =
+    let ws : List ℕ = replicate 290 0 in
+    ap (λ (m : List ℕ). wiredOf (take 290 (drop 360 m))) e
+    ∙ wired-path (sym (wires-read ws refl)) (sym (root-part ws refl) ∙ domainOf-zeros)
+    (sym (child-part ws refl) ∙ domainOf-zeros)

@@ -3,4 +3,5 @@ pub mod BlockBack
 pub mod AnyLaws
 pub mod ReachedEffects
 pub mod Keeps
+pub mod DeliveryEffects
 pub mod MessageCases

@@ -12,20 +12,20 @@ use Rattle.board_block.proofs.clear.Statement.{statement}
 use Rattle.board_block.proofs.clear.Tie as tie
 
 abbrev Inv-loop : tie.InvT-loop
-Inv-loop wired₀ i₀ wired i =
-    (i ≤ 290) × (length wired ≡ 290) × (wired ≡ replicate i 0 ++ drop i wired₀)
+Inv-loop state₀ i₀ state i =
+    (i ≤ 650) × (length state ≡ 650) × (state ≡ replicate i 0 ++ drop i state₀)
 
 abbrev μ-loop : tie.MeasureT-loop
-μ-loop wired₀ i₀ wired i = 290 - i
+μ-loop state₀ i₀ state i = 650 - i
 
 loop-holds : tie.Need-loop-holds Inv-loop μ-loop
 loop-holds c = (omega arith, search needs, refl)
 
-mul-wired : tie.Need-mul-wired Inv-loop μ-loop
-mul-wired c = search needs
+mul-state : tie.Need-mul-state Inv-loop μ-loop
+mul-state c = search needs
 
-slice-write-wired : tie.Need-slice-write-wired Inv-loop μ-loop
-slice-write-wired c = search needs
+slice-write-state : tie.Need-slice-write-state Inv-loop μ-loop
+slice-write-state c = search needs
 
 add-i : tie.Need-add-i Inv-loop μ-loop
 add-i c = search needs
@@ -36,7 +36,7 @@ loop-less c = omega arith
 loop-again : tie.Need-loop-again Inv-loop μ-loop
 loop-again c =
     let at-loop = c .before .loop in
-    let l = c .before .before .args .wired .now in (
+    let l = c .before .before .args .state .now in (
       omega arith,
       search needs,
       ap (λ (x : List ℕ). set x (at-loop .i) 0) (at-loop .inv .2)
@@ -50,7 +50,7 @@ returns : tie.Need-returns Inv-loop μ-loop
 returns c =
     let at-loop = c .before .loop in
     at-loop .inv .2
-    ∙ all-filled (c .before .before .args .wired .now) (at-loop .i) 290 (omega arith) (omega arith)
+    ∙ all-filled (c .before .before .args .state .now) (at-loop .i) 650 (omega arith) (omega arith)
 
 pub clear-spec : {M : Type 1} → statement M
 clear-spec =
@@ -59,8 +59,8 @@ clear-spec =
     Inv-loop
     μ-loop
     loop-holds
-    mul-wired
-    slice-write-wired
+    mul-state
+    slice-write-state
     add-i
     loop-less
     loop-again
