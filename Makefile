@@ -1,6 +1,6 @@
 # make proves and builds what there is and runs the example in C; make test is the whole gate; see make help.
 .DEFAULT_GOAL := all
-.PHONY: all test check compare cases mutants bench example tools fmt style numbers layers claims clean help toolchain
+.PHONY: all test check compare archives boards cases mutants bench example tools fmt style numbers layers claims clean help toolchain
 
 # rt check runs each program once it is proved, and compares what it wrote
 all: check
@@ -11,6 +11,7 @@ test: toolchain
 	@scripts/style
 	@rt fmt --check
 	@scripts/compare
+	@scripts/boards
 	@rt ci
 
 check: toolchain
@@ -19,6 +20,14 @@ check: toolchain
 # the second program against the proved archive
 compare: toolchain
 	@scripts/compare --proved
+
+# the archive for each machine, out of the proved module
+archives: toolchain
+	@scripts/archives --proved
+
+# the examples and the recorded cases on the archives, for RISC-V in an emulator
+boards: toolchain
+	@scripts/boards --proved
 
 # recorded calls and the second program's answers, which crates/cases is run on
 cases: toolchain
@@ -39,7 +48,7 @@ example: toolchain
 	@scripts/example
 
 tools:
-	@scripts/example-tools
+	@scripts/board-tools
 
 fmt: toolchain
 	@rt fmt
@@ -66,11 +75,13 @@ help:
 	@echo "              the verdict"
 	@echo "make check    prove what changed since it was last proved, and run the programs"
 	@echo "make compare  compare the proved archive, compiled for this machine, with the second program"
+	@echo "make archives write target/archives: the proved archive for x86-64, aarch64 and RISC-V (lp64d, lp64)"
+	@echo "make boards   run the examples and the recorded cases on these archives, where they can be run"
 	@echo "make cases    have the second program write anew what the program cases is run on"
 	@echo "make mutants  try wrong models: the comparison has to see each"
 	@echo "make bench    time every call, and count its instructions, beside plain C with the same promises"
 	@echo "make example  prove what the C functions need, build the examples in C on them, run and compare them"
-	@echo "make tools    install what the example needs (Debian, as root): a C compiler, an emulator off x86-64"
+	@echo "make tools    install what boards needs for RISC-V (Debian, as root): a C compiler and an emulator"
 	@echo "make fmt      bring every source file under crates/ into the layout"
 	@echo "make style    what the checker does not see: sizes, layers, width, headers, holes, contracts, names, paths"
 	@echo "make numbers  the numbers that README.md states"
