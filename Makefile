@@ -1,6 +1,6 @@
 # make proves and builds what there is and runs the example in C; make test is the whole gate; see make help.
 .DEFAULT_GOAL := all
-.PHONY: all test check compare archives boards cases mutants bench example tools fmt style numbers layers claims clean help toolchain
+.PHONY: all test check compare archives boards audit cases mutants bench example tools fmt style numbers layers claims clean help toolchain
 
 # rt check runs each program once it is proved, and compares what it wrote
 all: check
@@ -8,6 +8,7 @@ all: check
 
 # rt ci comes last and nothing follows it: its last line is the verdict
 test: toolchain
+	@scripts/verdict --begin
 	@scripts/style
 	@rt fmt --check
 	@scripts/compare
@@ -28,6 +29,10 @@ archives: toolchain
 # the examples and the recorded cases on the archives, for RISC-V in an emulator
 boards: toolchain
 	@scripts/boards --proved
+
+# what an auditor reads, checks and keeps
+audit: archives
+	@scripts/audit
 
 # recorded calls and the second program's answers, which crates/cases is run on
 cases: toolchain
@@ -77,6 +82,7 @@ help:
 	@echo "make compare  compare the proved archive, compiled for this machine, with the second program"
 	@echo "make archives write target/archives: the proved archive for x86-64, aarch64 and RISC-V (lp64d, lp64)"
 	@echo "make boards   run the examples and the recorded cases on these archives, where they can be run"
+	@echo "make audit    write target/audit: the pages, claims and pictures for a browser, versions, sums, the verdict"
 	@echo "make cases    have the second program write anew what the program cases is run on"
 	@echo "make mutants  try wrong models: the comparison has to see each"
 	@echo "make bench    time every call, and count its instructions, beside plain C with the same promises"

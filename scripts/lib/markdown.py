@@ -1,0 +1,106 @@
+# As much of Markdown as the pages of this repository use, turned into HTML: headings, paragraphs, lists, tables, code,
+# links and pictures. The pack of the auditor is made with it, on a machine that has python3 and nothing else.
+import html
+import re
+
+
+def anchor(text):
+    """The name by which a link finds a heading."""
+    return re.sub(r'[^\w\- ]', '', re.sub(r'[`*]', '', text).lower()).strip().replace(' ', '-')
+
+
+def inline(text, link):
+    """Code, links, pictures, bold and slanted text of one paragraph."""
+    kept = []
+
+    def keep(piece):
+        kept.append(piece)
+        return '\0%d\0' % (len(kept) - 1)
+
+    def linked(m):
+        target = link(m.group(3))
+        if m.group(1):
+            return keep('<img src="%s" alt="%s">' % (html.escape(target or ''), html.escape(m.group(2))))
+        words = inline(m.group(2), link)
+        return keep('<a href="%s">%s</a>' % (html.escape(target), words) if target else words)
+
+    def claim(name):
+        target = link('claim:' + name)
+        return keep('<a href="%s">%s</a>' % (target, name)) if target else name
+
+    text = re.sub(r'`([^`]+)`', lambda m: keep('<code>%s</code>' % html.escape(m.group(1).replace('\\|', '|'))), text)
+    text = re.sub(r'(!?)\[([^\]]*)\]\(([^)\s]+)\)', linked, text)
+    text = re.sub(r'\bClaim-\d+\b', lambda m: claim(m.group(0)), text)
+    text = html.escape(text.replace('\\|', '|'), quote=False)
+    text = re.sub(r'\*\*(.+?)\*\*', r'<b>\1</b>', text)
+    text = re.sub(r'(?<![\w*])\*([^*\s][^*]*)\*(?![\w*])', r'<i>\1</i>', text)
+    while '\0' in text:
+        text = re.sub('\0(\\d+)\0', lambda m: kept[int(m.group(1))], text)
+    return text
+
+
+def row(line, cell, link):
+    cells = re.split(r'(?<!\\)\|', line.strip().strip('|'))
+    return '<tr>%s</tr>' % ''.join('<%s>%s</%s>' % (cell, inline(c.strip(), link), cell) for c in cells)
+
+
+def block_of(lines, k, starts):
+    """The lines from k on up to one that starts something else."""
+    end = k + 1
+    while end < len(lines) and lines[end].strip() and not re.match(starts, lines[end]):
+        end += 1
+    return end
+
+
+def a_list(lines, k, link):
+    """A list, each item with all that is indented below it."""
+    number = re.match(r'\d+\. ', lines[k])
+    mark = r'\d+\. ' if number else r'[-*] '
+    items = []
+    while k < len(lines) and re.match(mark, lines[k]):
+        width = len(re.match(mark, lines[k]).group(0))
+        item, k = [lines[k][width:]], k + 1
+        while k < len(lines) and (not lines[k].strip() or lines[k].startswith(' ')):
+            if not lines[k].strip() and not (k + 1 < len(lines) and lines[k + 1].startswith(' ')):
+                break
+            item.append(lines[k][min(width, len(lines[k]) - len(lines[k].lstrip())):])
+            k += 1
+        while k < len(lines) and not lines[k].strip() and k + 1 < len(lines) and re.match(mark, lines[k + 1]):
+            k += 1
+        inner = to_html('\n'.join(item), link)
+        items.append('<li>%s</li>' % re.sub(r'^<p>(.*?)</p>', r'\1', inner, count=1, flags=re.S))
+    return '<%s>%s</%s>' % (('ol' if number else 'ul',) + ('\n'.join(items),) + ('ol' if number else 'ul',)), k
+
+
+STARTS = r'(#+ |```|\||[-*] |\d+\. )'
+
+
+def to_html(text, link):
+    """link gives a link's place, and that of 'claim:NAME', or None if there is no such place."""
+    lines, out, k = text.split('\n'), [], 0
+    while k < len(lines):
+        line = lines[k]
+        heading = re.match(r'(#+) (.*)', line)
+        if not line.strip():
+            k += 1
+        elif heading:
+            level, words = len(heading.group(1)), heading.group(2)
+            out.append('<h%d id="%s">%s</h%d>' % (level, anchor(words), inline(words, link), level))
+            k += 1
+        elif line.startswith('```'):
+            end = next((e for e in range(k + 1, len(lines)) if lines[e].startswith('```')), len(lines))
+            out.append('<pre>%s</pre>' % html.escape('\n'.join(lines[k + 1:end])))
+            k = end + 1
+        elif line.startswith('|'):
+            end = block_of(lines, k, r'(?!\|)')
+            rows = [row(line, 'th', link)] + [row(l, 'td', link) for l in lines[k + 2:end]]
+            out.append('<table>%s</table>' % '\n'.join(rows))
+            k = end
+        elif re.match(r'([-*] |\d+\. )', line):
+            made, k = a_list(lines, k, link)
+            out.append(made)
+        else:
+            end = block_of(lines, k, STARTS)
+            out.append('<p>%s</p>' % inline('\n'.join(lines[k:end]), link))
+            k = end
+    return '\n'.join(out)
