@@ -22,6 +22,7 @@ use Rattle.claims_wired.proofs.Region.{claim-130, claim-131}
 use Rattle.claims_wired.proofs.Registers.{claim-132, claim-133, claim-139, claim-145}
 use Rattle.claims_wired.proofs.Enables.{claim-134}
 use Rattle.claims_wired.proofs.Settings.{claim-135, claim-136, claim-142}
+use Rattle.claims_wired.proofs.Record.{claim-179}
 use Rattle.claims_wired.proofs.Sourcecfg.{claim-137}
 use Rattle.claims_wired.proofs.Accesses.{claim-138, claim-140}
 use Rattle.claims_wired.proofs.Wires.{claim-141}
@@ -157,6 +158,7 @@ demand-2 = (
   claim-143,
   claim-145,
   claim-146,
+  claim-179,
   claim-40,
   claim-41,
   claim-42,

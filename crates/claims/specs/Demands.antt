@@ -25,6 +25,7 @@ use Rattle.claims_wired.specs.Region.{Claim-130, Claim-131}
 use Rattle.claims_wired.specs.Registers.{Claim-132, Claim-133, Claim-139, Claim-145}
 use Rattle.claims_wired.specs.Enables.{Claim-134}
 use Rattle.claims_wired.specs.Settings.{Claim-135, Claim-136, Claim-142}
+use Rattle.claims_wired.specs.Record.{Claim-179}
 use Rattle.claims_wired.specs.Sourcecfg.{Claim-137}
 use Rattle.claims_wired.specs.Accesses.{Claim-138, Claim-140}
 use Rattle.claims_wired.specs.Wires.{Claim-141}
@@ -74,7 +75,7 @@ Demand-1 =
 -- demand 2: every read, next state, hart signal and outgoing message is what the standard defines for the
 -- wired controller and the message files, the paper deciding wherever it speaks; a top interrupt reads zero
 -- exactly if no interrupt qualifies, and by messages the wired controller's always does
-unfoldable pub Demand-2 : Type 0
+unfoldable pub Demand-2 : Type 2
 Demand-2 =
     -- the calls: what an accepted one answers and leaves, and what it works on
     Claim-171 × Claim-172 × Claim-173 × Claim-87
@@ -91,6 +92,8 @@ Demand-2 =
     -- its registers: where they are, what they read, what a write stores
     × Claim-130 × Claim-131 × Claim-132 × Claim-133 × Claim-134 × Claim-135 × Claim-136 × Claim-137
     × Claim-138 × Claim-139 × Claim-140 × Claim-141 × Claim-143 × Claim-145 × Claim-146
+    -- the settable numbers of a delivery structure as a record that is lent
+    × Claim-179
     -- pending bits, by the table of causes of 4.7, and nothing else
     × Claim-40 × Claim-41 × Claim-42 × Claim-59 × Claim-144 × Claim-55 × Claim-56 × Claim-57 × Claim-58
     × Claim-94 × Claim-95

@@ -15,6 +15,7 @@ pub mod Region
 pub mod Registers
 pub mod Enables
 pub mod Settings
+pub mod Record
 pub mod Sourcecfg
 pub mod Accesses
 pub mod Wires
