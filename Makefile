@@ -1,6 +1,7 @@
 # make proves and builds what there is and runs the example in C; make test is the whole gate; see make help.
 .DEFAULT_GOAL := all
-.PHONY: all test check compare archives boards audit cases mutants bench example tools fmt style numbers layers claims clean help toolchain
+.PHONY: all test check compare archives boards audit cases mutants bench example tools fmt style numbers layers \
+    pictures claims clean help toolchain
 
 # rt check runs each program once it is proved, and compares what it wrote
 all: check
@@ -67,6 +68,10 @@ numbers:
 layers:
 	@scripts/layers
 
+# docs/pictures, anew
+pictures:
+	@scripts/pictures
+
 # to be kept: make claims >docs/CLAIMS.md
 claims:
 	@scripts/claims
@@ -92,9 +97,11 @@ help:
 	@echo "make style    what the checker does not see: sizes, layers, width, headers, holes, contracts, names, paths"
 	@echo "make numbers  the numbers that README.md states"
 	@echo "make layers   the picture of the layers, from crates.txt"
+	@echo "make pictures draw the pictures of docs/pictures anew, from the tree"
 	@echo "make claims   the index of the claims, which docs/CLAIMS.md keeps"
 	@echo "make clean    remove target/, where all that is built lies"
-	@echo "All but tools, style, numbers, layers, claims, clean and help need rt, the command of the Rattle toolchain, on PATH."
+	@echo "All but tools, style, numbers, layers, pictures, claims, clean and help need rt, the command of the"
+	@echo "Rattle toolchain, on PATH."
 
 toolchain:
 	@command -v rt >/dev/null 2>&1 || { \
