@@ -1,4 +1,4 @@
-# The chain from a sentence of paper 01 to the archive that a monitor calls, each link marked as proved, run
+# The chain from a sentence of paper 01 to the archives that a monitor calls, each link marked as proved, run
 # or trusted: whoever relies on the proofs has to know where they end and what stands there instead.
 import facts
 from drawing import AMBER, BLUE, BLUE_INK, INK, PALE, SMALL, WHITE, Picture, height_of, width_of, words_of
@@ -22,7 +22,7 @@ HEADING = (
 # a box, its fill, and the link below it with what it is
 CHAIN = [
     ('*a sentence* of paper 01, or of the standard', PALE, 'trusted',
-     'read by a person: `docs/AUDIT.md` has the sentence beside each definition'),
+     'read by a person: `docs/SENTENCES.md` has each sentence beside its definition'),
     ('*a definition*, `crates/*/specs`', BLUE, 'proved',
      'a claim says in plain numbers and bits what the sentence says; T1 to T11 are computed: '
      'Claims #163, #170'),
@@ -33,8 +33,8 @@ CHAIN = [
      'the code meets it, is safe, and ends; for each function that C calls this is Claim #114'),
     ('*the code*, `crates/*/src`', BLUE, 'trusted', 'the compiler of Rattle lowers it'),
     ('*one module of LLVM*', AMBER, 'trusted',
-     'the back end, clang, compiles it; what the gate runs is compiled for the machine at hand'),
-    ('*the archive* of compiled calls, libmonitor.a', AMBER, 'trusted',
+     'the back end, clang, compiles it for each target; an archive is stamped with the sum of its module'),
+    ('*the archives*: x86-64, aarch64, RISC-V', AMBER, 'trusted',
      'the prototypes of `include/varskumo.h`, and what it asks of C: true lengths, no overlap, one call at '
      'a time'),
     ('*the monitor*, in C', AMBER, None, None),
@@ -43,13 +43,13 @@ SECOND = ('*the second program*, `second/`\na plain model of the papers, written
           'crates/ was read for it')
 RANDOM = ('*random calls*\ntwo million in each gate, half of them from a fresh seed; after each call the '
           'answer and every word are compared')
-RECORDED = ('*recorded cases*, `crates/cases`\nT1 to T11 first; a program runs them through the compiled '
-            'calls and must print what the second program did')
-EXAMPLES = ('*two monitors in C*, `examples/station.c` and `examples/move.c`, are built on the archive for '
-            'x86-64 and run there or by an emulator, qemu; what they print is compared')
+RECORDED = ('*recorded cases*, T1 to T11 first, and fresh ones: made on each archive that the machine can '
+            'run, RISC-V in an emulator; the same, byte for byte, as the second program has them')
+EXAMPLES = ('*two monitors in C*, `examples/station.c` and `examples/move.c`, are built for the machine at hand '
+            'and for RISC-V and run, there in an emulator, qemu; what they print is compared')
 LEGEND = [
     ('proved', 'the checker of Rattle has read a proof of it; the checker itself is trusted'),
-    ('run', 'the gate, or make example, runs it on the machine at hand and compares what comes out'),
+    ('run', 'the gate runs it and compares what comes out'),
     ('trusted', 'read by a person, or left to a tool'),
 ]
 
@@ -109,7 +109,8 @@ def beside(picture, boxes):
 
 def draw():
     facts.stated('scripts/compare', 'calls=${1:-1000000}')
-    picture = Picture('From a sentence of the paper to the archive that the monitor calls', DESCRIBED)
+    facts.stated('scripts/archives', "('riscv64-lp64d', 'riscv64'")
+    picture = Picture('From a sentence of the paper to the archives that a monitor calls', DESCRIBED)
     boxes = chain(picture, picture.heading(HEADING) + 4)
     beside(picture, boxes)
     y = boxes[-1].bottom + 26
