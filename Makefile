@@ -1,7 +1,7 @@
 # make proves and builds what there is and runs the example in C; make test is the whole gate; see make help.
 .DEFAULT_GOAL := all
 .PHONY: all test check compare archives boards audit cases mutants bench example tools fmt style numbers layers \
-    pictures claims clean help toolchain
+    pictures claims sentences clean help toolchain
 
 # rt check runs each program once it is proved, and compares what it wrote
 all: check
@@ -76,6 +76,10 @@ pictures:
 claims:
 	@scripts/claims
 
+# to be kept: make sentences >docs/SENTENCES.md
+sentences:
+	@scripts/sentences
+
 clean:
 	@rm -rf target
 
@@ -99,8 +103,9 @@ help:
 	@echo "make layers   the picture of the layers, from crates.txt"
 	@echo "make pictures draw the pictures of docs/pictures anew, from the tree"
 	@echo "make claims   the index of the claims, which docs/CLAIMS.md keeps"
+	@echo "make sentences  the sentences of paper 01 with what answers each, which docs/SENTENCES.md keeps"
 	@echo "make clean    remove target/, where all that is built lies"
-	@echo "All but tools, style, numbers, layers, pictures, claims, clean and help need rt, the command of the"
+	@echo "All but tools, style, numbers, layers, pictures, claims, sentences, clean and help need rt, the command of the"
 	@echo "Rattle toolchain, on PATH."
 
 toolchain:

@@ -16,10 +16,12 @@ use Rattle.domain.specs.Domain.{Domain}
 use Rattle.wired_state.specs.Wires.{Wired, wiredOf}
 use Rattle.wired_rules.specs.Rules.{wiredSound}
 
+-- [01 B12]
 pub record Board : Type 0 where
   pub files : List File
   pub wired : Wired
 
+-- [01 B8 B9]
 unfoldable pub boardOf : List ℕ → Board
 boardOf l = record {
   files = filesOf (take filesSize l);
@@ -32,8 +34,10 @@ domainWords d = d .source ++ d .target ++ d .pending ++ d .enable ++ d .delivery
 unfoldable pub wiredWords : Wired → List ℕ
 wiredWords w = w .wires ++ domainWords (w .root) ++ domainWords (w .child)
 
+-- [01 B9]
 unfoldable pub blockOf : Board → List ℕ
 blockOf b = wordsOf (b .files) ++ wiredWords (b .wired)
 
+-- [01 C11]
 unfoldable pub boardSound : Board → Bool
 boardSound b = filesSound (b .files) && wiredSound (b .wired)

@@ -15,6 +15,7 @@ use Rattle.files.specs.Files.{isGuest}
 use Rattle.domain.specs.Domain.{Domain}
 use Rattle.board_block.specs.Block.{Board}
 
+-- [01 R9]
 unfoldable pub startFile : ℕ → File
 startFile k =
     record {
@@ -28,6 +29,7 @@ unfoldable pub startFilesFrom : ℕ → ℕ → List File
 startFilesFrom k zero = []
 startFilesFrom k (suc n) = startFile k ∷ startFilesFrom (suc k) n
 
+-- [01 R10]
 unfoldable pub startDomain : Domain
 startDomain =
     record {
@@ -38,6 +40,7 @@ startDomain =
       delivery = replicate structuresSize 0;
     }
 
+-- [01 R9]
 unfoldable pub startBoard : Board
 startBoard =
     record {

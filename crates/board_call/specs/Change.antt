@@ -42,15 +42,18 @@ pub record Changed : Type 0 where
   pub own : List ℕ
   pub saved : List ℕ
 
+-- [01 C3]
 unfoldable pub kindOf : ℕ → Access
 kindOf k = cond (eqb k 0) Read (cond (eqb k 1) Write (cond (eqb k 2) Set Clear))
 
+-- [01 S17 S19]
 unfoldable pub signalAt : Board → ℕ → ℕ → Bool
 signalAt b h f =
     let x = theFile (b .files) (fileNumber h f) in
     signals identities x
     || (ltb f firstGuest && eqb (x .delivery) fromWired && signalOf (domainIn (b .wired) (eqb f 1)) h)
 
+-- [01 S20]
 unfoldable pub signalsTo : Board → ℕ → ℕ → ℕ
 signalsTo b h zero = 0
 signalsTo b h (suc n) = putBit (signalsTo b h n) n (signalAt b h n)
@@ -59,6 +62,7 @@ abbrev pub onWired : Board → Wired → ℕ → List ℕ → List ℕ → Chang
 onWired b w v ms s =
     record { board = record { files = b .files; wired = w }; value = v; own = ms; saved = s }
 
+-- [01 C2 W51]
 abbrev pub onFile : Board → ℕ → File → ℕ → List ℕ → Changed
 onFile b k f v s =
     record {
@@ -68,12 +72,15 @@ onFile b k f v s =
       saved = s;
     }
 
+-- [01 C6]
 abbrev pub answering : Board → ℕ → List ℕ → Changed
 answering b v s = record { board = b; value = v; own = []; saved = s }
 
+-- [01 V4]
 abbrev pub moving : Acted → Changed
 moving x = answering (x .board) 0 (x .saved)
 
+-- [01 C1 C4 X6]
 unfoldable pub change : Call → Board → List ℕ → Changed
 change call.Reset b s = answering startBoard 0 s
 change (call.Wire i level) b s = onWired b (wireSet (b .wired) i (eqb level 1)) 0 [] s

@@ -35,6 +35,7 @@ registerOn b h f k s v =
 abbrev pub withOne : Board → ℕ → ℕ → File → Board
 withOne b h f x = record { files = withFile (b .files) (fileNumber h f) x; wired = b .wired }
 
+-- [01 V8]
 unfoldable pub retargetedIn : ℕ → ℕ → ℕ → ℕ → Wired → ℕ → Wired
 retargetedIn oh of nh nf w i =
     let t = readIn w true (word.Target i) in
@@ -44,6 +45,7 @@ pub record Acted : Type 0 where
   pub board : Board
   pub saved : List ℕ
 
+-- [01 V1 V3 X9]
 unfoldable pub acted : Act → ℕ → ℕ → ℕ → ℕ → Board → List ℕ → Acted
 acted (Save select place) oh of nh nf b s =
     record { board = b; saved = set s place (replyValue (registerOn b oh of Read select 0 .answer)) }

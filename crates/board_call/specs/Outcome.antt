@@ -29,6 +29,7 @@ pub record Stepped : Type 0 where
   pub messages : List ℕ
   pub saved : List ℕ
 
+-- [01 B15]
 unfoldable pub thenSent : Changed → Stepped
 thenSent x =
     let after = flushed (x .board .wired) in
@@ -40,6 +41,7 @@ thenSent x =
       saved = x .saved;
     }
 
+-- [01 X7 X8]
 unfoldable pub step : Call → Board → List ℕ → Stepped
 step c b s = thenSent (change c b s)
 
@@ -51,9 +53,11 @@ pub record Outcome : Type 0 where
   pub log : List ℕ
   pub saved : List ℕ
 
+-- [01 C18 V4]
 abbrev pub refusedAs : ℕ → List ℕ → List ℕ → List ℕ → Outcome
 refusedAs n l g s = record { number = n; value = 0; count = 0; block = l; log = g; saved = s }
 
+-- [01 C8 W49 X7 X10]
 abbrev pub doneAs : Stepped → List ℕ → Outcome
 doneAs x g =
     record {
@@ -69,6 +73,7 @@ unfoldable pub outcome : Call → List ℕ → List ℕ → List ℕ → Outcome
 outcome c l g s =
     let n = refusalOf c l g in cond (eqb n 0) (doneAs (step c (boardOf l) s) g) (refusedAs n l g s)
 
+-- [01 X1 X2 X3]
 pub record Gives (o : Outcome) (r : Answer) (l g s : List ℕ) : Type 0 where
   pub number : refusalNumber r ≡ o .number
   pub value : answerValue r ≡ o .value

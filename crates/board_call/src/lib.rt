@@ -11,6 +11,7 @@ pub use numbers::is_wire;
 pub use numbers::kind_of;
 
 // One case for each call, with its numbers.
+// [01 B11 C1 V2]
 pub enum Call {
     Reset,
     // wire, level

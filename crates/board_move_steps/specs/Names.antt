@@ -10,8 +10,10 @@ use Rattle.source_target.specs.Target.{hartAt, guestAt}
 use Rattle.words.specs.Parts.{packed}
 use Rattle.source_target.specs.Target.{hartOf, guestOf, numberOf}
 
+-- [01 V17]
 unfoldable pub namesFile : ℕ → ℕ → ℕ → Bool
 namesFile t h f = eqb (hartOf t) h && eqb (guestOf t + 1) f
 
+-- [01 V17]
 unfoldable pub renamed : ℕ → ℕ → ℕ → ℕ
 renamed t h f = packed h hartAt (packed (f - 1) guestAt (numberOf t))

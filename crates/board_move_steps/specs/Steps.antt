@@ -15,6 +15,7 @@ use Rattle.file.specs.declared.register.Access.the-variants.{Write, Set}
 use Rattle.board_move_steps.specs.declared.Act.{Act}
 use Rattle.board_move_steps.specs.declared.Act.the-variants.{Save, Zero, Target, Put}
 
+-- [01 V5]
 abbrev pub accesses : ℕ
 accesses = 89
 
@@ -30,6 +31,7 @@ pendingAt k = 2 + k
 abbrev pub enableAt : ℕ → ℕ
 enableAt k = 6 + k
 
+-- [01 V5 V6 V7 V15 V16 V19 V20 V21 V30 M3]
 unfoldable pub actOf : ℕ → Act
 actOf n =
     -- 1. save old delivery and threshold, set old delivery 0

@@ -18,10 +18,12 @@ pub record Lent : Type 0 where
 abbrev pub outcomeOn : Call → Lent → Outcome
 outcomeOn c x = outcome c (x .block) (x .log) (x .saved)
 
+-- [01 V14]
 unfoldable pub after : Call → Lent → Lent
 after c x =
     let o = outcomeOn c x in record { block = o .block; log = o .log; saved = o .saved }
 
+-- [01 V14 X8]
 unfoldable pub ran : List Call → Lent → Lent
 ran [] x = x
 ran (c ∷ cs) x = ran cs (after c x)

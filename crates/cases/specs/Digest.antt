@@ -9,6 +9,7 @@ use Rattle.words.specs.Parts.{low, high}
 abbrev pub digested : ℕ → ℕ → ℕ
 digested d w = low (d * 31 + w)
 
+-- [01 T12]
 unfoldable pub digestOf : ℕ → List ℕ → ℕ
 digestOf d [] = d
 digestOf d (w ∷ ws) = digestOf (digested d w) ws

@@ -41,6 +41,7 @@ use Rattle.board_runs.specs.Ready.{boardIn, Ready}
 -- an accepted call answers 0, its value, and the number of the messages that it sent; the block is that of
 -- the board that `step` says; the messages stand first in the log, in order, and later log words stay; both
 -- blocks keep their lengths
+-- [01 C8 W48 W49 X7 X10]
 unfoldable pub Claim-171 : Type 0
 Claim-171 =
     (c : Call) (x : Lent) → Ready x → Small c → nameRefusal c (boardIn x) ≡ 0
@@ -55,6 +56,7 @@ Claim-171 =
 
 -- reset, a wire, a move, a write and a read of a page answer 0; a top and a claim the top as it was, and the
 -- signals those of the hart's five files
+-- [01 C4 C6 X6]
 unfoldable pub Claim-172 : Type 0
 Claim-172 =
     (b : Board) (s : List ℕ)
@@ -82,6 +84,7 @@ DoneBy o b x = (x .board .wired ≡ o .wired) × (x .messages ≡ o .messages)
 -- a page write, an access and a claim work on file f of hart h, number 5 h + f, as the methods of a file do:
 -- kind 0 reads, 1 writes, 2 sets bits, 3 clears bits; domain 0 is the machine domain and 1 the child, and a
 -- wire, a read and a write do what the functions of the wired controller do, level 1 being high
+-- [01 B3 B5 C2 C3]
 unfoldable pub Claim-173 : Type 0
 Claim-173 =
     (b : Board) → length (b .files) ≡ 20 → boardSound b ≡ true → (s : List ℕ)
@@ -118,6 +121,7 @@ WireRead v n i d wires =
 -- by calls, in either domain: a read of topi, at 0x4000 + 32 h + 0x18, and of claimi, at + 0x1C, answers
 -- topi of hart h in that domain; bit n of a read of in_clrip[k], at 0x1D00 + 4 k, is 1 exactly if source
 -- 32 k + n is active in that domain and its wire is high
+-- [01 B6 W7 W37 S4 S11]
 unfoldable pub Claim-174 : Type 0
 Claim-174 =
     (b : Board) (s : List ℕ)

@@ -28,6 +28,7 @@ use Rattle.claims_wired.specs.Rules.{Sound}
 
 -- a wire is set, and wire i stays at its level: source i stays as it was, and in a domain that sends it is
 -- not to be sent. So a level source that was sent is not sent again by itself while its wire stays high
+-- [01 M4]
 unfoldable pub Claim-96 : Type 0
 Claim-96 =
     (w : Wired) → Sound w → (j : ℕ) → 1 ≤ j → j ≤ 63 → (level : Bool)
@@ -39,6 +40,7 @@ Claim-96 =
 -- the call on wire i, with its messages: no other source changes, in either domain; source i is what the wire
 -- makes of it, and where the domain sends it is then sent if it is to be. Its message is sent exactly then,
 -- and no other
+-- [01 W50]
 unfoldable pub Claim-97 : Type 0
 Claim-97 =
     (w : Wired) → Sound w → (i : ℕ) → 1 ≤ i → i ≤ 63 → (level : Bool)
@@ -80,6 +82,7 @@ pub record SentOne (c : Bool) (i : ℕ) (b : Board) (x : Stepped) : Type 0 where
 
 -- a wire reaches no file, or the one that its source's target names, with that target's identity, once; which
 -- of these it is, Claim-97 says
+-- [01 B15]
 unfoldable pub Claim-99 : Type 0
 Claim-99 =
     (b : Board) → Sound (b .wired) → (i : ℕ) → 1 ≤ i → i ≤ 63 → (level : ℕ) (s : List ℕ)

@@ -40,6 +40,7 @@ pub record DomainPlaces (l : List ℕ) (at : ℕ) (d : Domain) : Type 0 where
 -- 362 on and the child from word 506 on, with domaincfg, the sourcecfgs, genmsi, the targets, two words of
 -- pending, two of enable, and idelivery, iforce and ithreshold of each hart. Number i of a set is bit i mod
 -- 32 of the set's word i div 32
+-- [01 B7 B8]
 unfoldable pub Claim-176 : Type 0
 Claim-176 =
     (l : List ℕ)

@@ -71,6 +71,7 @@ Claim-113 =
 
 -- each function that C calls, and the function over the enum of calls: its code does what its contract
 -- says, which is the outcome of its call: claims 93, 100 and 90
+-- [01 B16 X4]
 unfoldable pub Claim-114 : Type 2
 Claim-114 =
     (M : Type 1)

@@ -65,6 +65,7 @@ Claim-80 =
     → Does (DomainWrite d a v) (now b) (now g) r (now b′) (now g′))
 
 -- what the calls on one message file give, for any numbers and any blocks, is the outcome of the call
+-- [01 C2 C3]
 unfoldable pub Claim-81 : Type 0
 Claim-81 =
     (l : Lfts 2) (b b′ g g′ : RefT (List ℕ)) (r : Answer) (h f : ℕ)
@@ -91,6 +92,7 @@ Claim-82 =
     → Does (Signals h) (now b) (now g) r (now b′) (now g′))
 
 -- the function over the enum of calls gives what the call of each case gives
+-- [01 C1]
 unfoldable pub Claim-90 : Type 0
 Claim-90 =
     (l : Lfts 3) (b b′ g g′ s s′ : RefT (List ℕ)) (c : Call) (r : Answer)
@@ -98,6 +100,7 @@ Claim-90 =
     → Gives (outcome c (now b) (now g) (now s)) r (now b′) (now g′) (now s′)
 
 -- two results that a call's contract allows are equal: the answer, both blocks and the record of a move
+-- [01 X3]
 unfoldable pub Claim-83 : Type 0
 Claim-83 =
     (o : Outcome) (r s : Answer) (l m g h u v : List ℕ) → Gives o r l g u → Gives o s m h v
@@ -111,6 +114,7 @@ Passes c l g =
     (length l ≡ 650) × (length g ≡ 63) × (testsRules c ≡ true → boardSound (boardOf l) ≡ true)
 
 -- the table of refusals: each number where it applies and no lower one does, and 0 where none does
+-- [01 B7 B10 C7 C8 C9 C10 C11 C12 C13 C14 C15 C17 X5]
 unfoldable pub Claim-84 : Type 0
 Claim-84 =
     (c : Call) (l g : List ℕ) → let b = boardOf l in
@@ -124,6 +128,7 @@ Claim-84 =
     × (Passes c l g → present c b ≡ true → addressed c ≡ true → selected c ≡ true → refusalOf c l g ≡ 0)
 
 -- a refused call answers its number, 0 and 0, and changes neither block, nor the record of a move
+-- [01 C18 V4]
 unfoldable pub Claim-85 : Type 0
 Claim-85 =
     (c : Call) (l g s : List ℕ) → refusalOf c l g ≢ 0
@@ -145,6 +150,7 @@ Claim-86 =
     × SavedFit (x .saved)
 
 -- reset leaves the board that the paper describes, whatever the block held, and sends nothing
+-- [01 R9]
 unfoldable pub Claim-87 : Type 0
 Claim-87 =
     (b : Board) (s : List ℕ)
@@ -152,6 +158,7 @@ Claim-87 =
     × (boardSound startBoard ≡ true)
 
 -- a board has one block, and a block one board
+-- [01 B9]
 unfoldable pub Claim-88 : Type 0
 Claim-88 =
     ((l : List ℕ) → length l ≡ 650 → blockOf (boardOf l) ≡ l)
@@ -161,6 +168,7 @@ Claim-88 =
 
 -- bit f of the answer is up exactly if file f signals: with delivery 1 if its top is not 0, and file 0 or 1
 -- with delivery 0x40000000 if its domain has DM = 0, IE = 1, idelivery = 1, and iforce or topi that is not 0
+-- [01 B6 S16 S17 S19 S20]
 unfoldable pub Claim-89 : Type 0
 Claim-89 =
     (b : Board) (h f : ℕ) → f < 5
@@ -172,6 +180,7 @@ Claim-89 =
     × (structureAt d h .idelivery ≡ 1) × ((structureAt d h .iforce ≢ 0) ⊎ (topiOf d h ≢ 0))))
 
 -- the signals of a hart, and so what a call on them answers, are below 32
+-- [01 S20]
 unfoldable pub Claim-161 : Type 0
 Claim-161 =
     ((b : Board) (h : ℕ) → signalsTo b h 5 < 32)

@@ -80,6 +80,7 @@ quiet =
 abbrev pub wires : List ℕ
 wires = replicate 2 0
 
+-- [01 T0]
 unfoldable pub table : List Row
 table =
     record { case = 1; given = topOf 255 (fiveAndNine 0) ∷ []; says = 0x00050005 ∷ [] }
@@ -127,5 +128,6 @@ holds [] = true
 holds (r ∷ rs) = same (r .given) (r .says) && holds rs
 
 -- the table cases T1 to T11, by the definitions: every row gives what the paper says
+-- [01 T0 T1 T2 T3 T4 T5 T6 T7 T8 T9 T10 T11]
 unfoldable pub Claim-170 : Type 0
 Claim-170 = holds table ≡ true

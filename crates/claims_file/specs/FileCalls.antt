@@ -41,6 +41,7 @@ use Rattle.file_words.proofs.load.Reads as load
 use Rattle.file_words.proofs.store.Reads as store
 
 -- `arrive` gives the file after a message arrived
+-- [01 F22]
 unfoldable pub Claim-1 : Type 0
 Claim-1 = (f r : File) (i : ℕ) → arrive.Learnt tt (f, (i, tt)) r (f, (i, tt)) → r ≡ arrived 255 f i
 
@@ -50,10 +51,12 @@ Claim-2 = (f r : File) (a v : ℕ) → page-write.Learnt tt (f, (a, (v, tt))) r 
     → r ≡ pageWritten 255 f a v
 
 -- `page_read` answers what a word of the page reads
+-- [01 F3]
 unfoldable pub Claim-3 : Type 0
 Claim-3 = (f : File) (a r : ℕ) → page-read.Learnt tt (f, (a, tt)) r (f, (a, tt)) → r ≡ pageRead f a
 
 -- `top_identity` answers the identity of the file's top, or 0
+-- [01 F16]
 unfoldable pub Claim-4 : Type 0
 Claim-4 = (f : File) (r : ℕ) → top-identity.Learnt tt (f, tt) r (f, tt) → r ≡ topIdentity 255 f
 
@@ -62,6 +65,7 @@ unfoldable pub Claim-5 : Type 0
 Claim-5 = (f : File) (r : ℕ) → top.Learnt tt (f, tt) r (f, tt) → r ≡ topOf 255 f
 
 -- `claim` gives the top as it was, and the file after the claim
+-- [01 F20 F22]
 unfoldable pub Claim-6 : Type 0
 Claim-6 = (f : File) (r : Claimed) → claim.Learnt tt (f, tt) r (f, tt)
     → (r .top ≡ topOf 255 f) × (r .file ≡ claimed 255 f)
@@ -83,6 +87,7 @@ unfoldable pub Claim-10 : Type 0
 Claim-10 = (g r : Bool) (d : ℕ) → delivery-legal.Learnt tt (g, (d, tt)) r (g, (d, tt)) → r ≡ deliveryLegal g d
 
 -- `access` gives the answer of an access to a register, and the file after it
+-- [01 X2]
 unfoldable pub Claim-11 : Type 0
 Claim-11 =
     (f : File) (g : Bool) (k : Access) (s v : ℕ) (r : Accessed)

@@ -37,10 +37,12 @@ pub record Stands (f : File) (i : ℕ) : Type 0 where
   pub passes : (f .threshold ≡ 0) ⊎ (i < f .threshold)
 
 -- the top reads 0 exactly if no identity qualifies
+-- [01 F18 X11]
 unfoldable pub Claim-20 : Type 0
 Claim-20 = (n : ℕ) (f : File) → (topOf n f ≡ 0) ↔ ((i : ℕ) → 1 ≤ i → i ≤ n → Stands f i → ⊥)
 
 -- a top that is not 0 is an identity twice; that identity qualifies, and none below it does
+-- [01 F16 F17 F18 X11]
 unfoldable pub Claim-21 : Type 0
 Claim-21 =
     (n : ℕ) (f : File) → topOf n f ≢ 0
@@ -48,10 +50,12 @@ Claim-21 =
     × ((j : ℕ) → 1 ≤ j → j < i → Stands f j → ⊥)
 
 -- threshold P shuts P out, and all above it
+-- [01 F17 M1]
 unfoldable pub Claim-22 : Type 0
 Claim-22 = (n : ℕ) (f : File) → f .threshold ≢ 0 → (i : ℕ) → f .threshold ≤ i → topOf n f ≢ i * 65536 + i
 
 -- a claim clears the pending bit of the top and no other, and nothing else of the file
+-- [01 F20]
 unfoldable pub Claim-23 : Type 0
 Claim-23 =
     (f : File) → Shaped f
@@ -62,11 +66,13 @@ Claim-23 =
     × (claimed 255 f .enable ≡ f .enable)
 
 -- with no top a claim changes nothing
+-- [01 F21]
 unfoldable pub Claim-24 : Type 0
 Claim-24 = (n : ℕ) (f : File) → topOf n f ≡ 0 → claimed n f ≡ f
 
 -- a message sets its own pending bit and no other, and nothing else of the file; a number that is no identity
 -- does nothing
+-- [01 F1]
 unfoldable pub Claim-25 : Type 0
 Claim-25 =
     (f : File) (i : ℕ) → Shaped f
@@ -77,6 +83,7 @@ Claim-25 =
     × (arrived 255 f i .enable ≡ f .enable)
 
 -- arrival does not depend on delivery
+-- [01 F4]
 unfoldable pub Claim-26 : Type 0
 Claim-26 = (n : ℕ) (f : File) (i d : ℕ) → arrived n (withDelivery f d) i ≡ withDelivery (arrived n f i) d
 
@@ -109,10 +116,12 @@ Claim-29 =
     × ((i : ℕ) → i / 64 ≢ j → member (written 255 g f (Enable j) v .enable) i ≡ member (f .enable) i)
 
 -- the illegal select numbers are those below 0x70, those above 0xFF, and the odd ones from 0x80 on
+-- [01 F10 F15]
 unfoldable pub Claim-30 : Type 0
 Claim-30 = (s : ℕ) → (selectLegal s ≡ false) ↔ ((s < 0x70) ⊎ ((0xFF < s) ⊎ ((0x80 ≤ s) × (s % 2 ≡ 1))))
 
 -- an access by an illegal select number answers so and changes nothing
+-- [01 F10 F15]
 unfoldable pub Claim-31 : Type 0
 Claim-31 =
     (n : ℕ) (g : Bool) (f : File) (k : Access) (s v : ℕ) → selectLegal s ≡ false
@@ -125,11 +134,13 @@ pub record KeepsRules (g : Bool) (f : File) : Type 0 where
   pub access : (k : Access) (s v : ℕ) → v < 2 ^ 64 → fileSound 255 g (accessed 255 g f k s v .file) ≡ true
 
 -- every operation on a file keeps its state rules, and with them identity 0 clear
+-- [01 F13]
 unfoldable pub Claim-32 : Type 0
 Claim-32 = (g : Bool) (f : File) → Shaped f → fileSound 255 g f ≡ true → KeepsRules g f
 
 -- a file signals by itself exactly if its delivery is 1 and its top is not 0; a file 0 or 1 with delivery
 -- 0x40000000 may also signal for the wired controller: Claim 89
+-- [01 S16]
 unfoldable pub Claim-33 : Type 0
 Claim-33 = (n : ℕ) (f : File) → (signals n f ≡ true) ↔ ((f .delivery ≡ 1) × (topOf n f ≢ 0))
 
@@ -143,5 +154,6 @@ pub record RoundTrips (l : List ℕ) (at : ℕ) : Type 0 where
 
 -- a file's words in a block: what is stored is loaded, what is loaded is stored as it was, and what stands
 -- apart stays
+-- [01 F23]
 unfoldable pub Claim-34 : Type 0
 Claim-34 = (l : List ℕ) (at : ℕ) → at + 18 ≤ length l → RoundTrips l at

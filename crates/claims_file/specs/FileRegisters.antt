@@ -42,6 +42,7 @@ pub record DeliveryRegister (g : Bool) (f : File) (v : ℕ) : Type 0 where
 
 -- select 0x70, delivery: a read answers it; a write stores 0, 1, and for files 0 and 1 also 0x40000000, and
 -- any other value keeps the old one; nothing else of the file changes
+-- [01 F5 F6 F7]
 unfoldable pub Claim-120 : Type 0
 Claim-120 = (g : Bool) (f : File) (v : ℕ) → DeliveryRegister g f v
 
@@ -54,6 +55,7 @@ pub record ThresholdRegister (g : Bool) (f : File) (v : ℕ) : Type 0 where
       ≡ record { answer = Value 0; file = withThreshold f (v % 256) }
 
 -- select 0x72, threshold: a read answers it; a write keeps the low 8 bits and changes nothing else
+-- [01 F8]
 unfoldable pub Claim-121 : Type 0
 Claim-121 = (g : Bool) (f : File) (v : ℕ) → ThresholdRegister g f v
 
@@ -75,6 +77,7 @@ pub record EnableAlone (f f′ : File) : Type 0 where
 
 -- select 0x80 + 2j: a read shows identities 64j to 64j + 63; a write replaces these, but that identity 0 is
 -- always 0, and nothing else
+-- [01 C6 F9 F11]
 unfoldable pub Claim-122 : Type 0
 Claim-122 =
     (g : Bool) (f : File) (j v : ℕ) → Shaped f → j < 4
@@ -86,6 +89,7 @@ Claim-122 =
     ≡ cond (eqb (i / 64) j) (hasBit v (i % 64) && leb 1 i) (member (f .pending) i))
 
 -- select 0xC0 + 2j: the same for the enable bits
+-- [01 F9 F11 F13]
 unfoldable pub Claim-123 : Type 0
 Claim-123 =
     (g : Bool) (f : File) (j v : ℕ) → Shaped f → j < 4
@@ -133,6 +137,7 @@ pub record SetOrCleared (g : Bool) (f : File) (j v : ℕ) : Type 0 where
   pub clearEnableRest : EnableAlone f (accessed 255 g f Clear (0xC0 + 2 * j) v .file)
 
 -- a set or clear answers the old value and writes old-or-value, or old without value, bit by bit
+-- [01 C5]
 unfoldable pub Claim-124 : Type 0
 Claim-124 =
     (g : Bool) (f : File) (v : ℕ)
@@ -144,6 +149,7 @@ Claim-124 =
 -- 0x71, 0x73 to 0x7F, and the even numbers after 0x80 + 2 * 3 and after 0xC0 + 2 * 3: every kind of access
 -- answers 0 and changes nothing. In the paper's numbers an answer is 0 and the value, an illegal select
 -- number 6 and 0
+-- [01 F12 F14]
 unfoldable pub Claim-125 : Type 0
 Claim-125 =
     ((g : Bool) (f : File) (k : Access) (s v : ℕ)

@@ -50,6 +50,7 @@ pub record BytesReversed (v : ℕ) : Type 0 where
 
 -- a page write reaches identity j at offset 0 exactly with j, and at offset 4 with j in the top byte alone;
 -- all other offsets do nothing, and all reads give 0
+-- [01 B3 C22 F1 F2 F3]
 unfoldable pub Claim-126 : Type 0
 Claim-126 =
     ((f : File) (a v : ℕ) → Shaped f → PageWords f a v) × ((v : ℕ) → v < 2 ^ 32 → BytesReversed v)
@@ -68,6 +69,7 @@ pub record FileRules (g : Bool) (f : File) : Type 0 where
 
 -- a file keeps its state rules exactly if its delivery is a legal one, its threshold is at most 255, and
 -- identity 0 is neither pending nor enabled
+-- [01 F5 F6 R1 R2]
 unfoldable pub Claim-127 : Type 0
 Claim-127 = (g : Bool) (f : File) → (fileSound 255 g f ≡ true) ↔ FileRules g f
 
@@ -82,6 +84,7 @@ pub record DeliveryApart (f : File) (d : ℕ) : Type 0 where
   pub off : d ≢ 1 → signals 255 (withDelivery f d) ≡ false
 
 -- the top, and what a claim takes, do not depend on delivery; a file's own signal does
+-- [01 F19]
 unfoldable pub Claim-128 : Type 0
 Claim-128 = (f : File) (d : ℕ) → DeliveryApart f d
 
@@ -99,6 +102,7 @@ pub record KeepsShape (g : Bool) (f : File) : Type 0 where
 
 -- identity i is bit i mod 32 of word i div 32; of two files of this shape with the same delivery, threshold,
 -- pending and enable bits, one is the other: so claims that speak of bits speak of the whole file
+-- [01 F23]
 unfoldable pub Claim-129 : Type 0
 Claim-129 =
     ((w k : ℕ) → (hasBit w k ≡ true) ↔ (w / 2 ^ k % 2 ≡ 1))

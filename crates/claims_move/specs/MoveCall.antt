@@ -46,6 +46,7 @@ use Rattle.monitor.proofs.vsk_move.Reads as vsk-move
 
 -- the call, and the function that C calls, for any numbers, any blocks and any record: the answer, both
 -- blocks and the record are those of the outcome; and nothing is asked of the caller
+-- [01 C4 C16 V1 V2 V3 V4 X2]
 unfoldable pub Claim-100 : Type 0
 Claim-100 =
     (l : Lfts 3) (b b′ g g′ s s′ : RefT (List ℕ)) (oh of nh nf n : ℕ)
@@ -65,6 +66,7 @@ Claim-100 =
 
 -- an access is not barred exactly if old and new are two different guest files, each a file 2 to 4 of a hart
 -- 0 to 3, its number is 1 to 89, and the child domain is not in direct mode
+-- [01 C13 V9 V10 V11]
 unfoldable pub Claim-101 : Type 0
 Claim-101 =
     (b : Board) (oh of nh nf n : ℕ)
@@ -93,6 +95,7 @@ pub record EnableBecame (f f′ : File) (p : ℕ → Bool) : Type 0 where
 -- what each of the 89 accesses leaves: o and f are old and new before it, o′ and f′ after it, and x .saved is
 -- the record after it. Each access is one of these twelve, in the six steps of 01. Identity i of a set is bit
 -- i % 64 of its word i / 64; identity 0 is never set
+-- [01 V5 V6 V15 V16 V19 V20 V21 V30 M3 X9]
 unfoldable pub Claim-102 : Type 0
 Claim-102 =
     (b : Board) → Fit b → (oh of nh nf n : ℕ) → isMove oh of nh nf n ≡ true → (s : List ℕ)
@@ -147,6 +150,7 @@ pub record Renamed (t t′ h f : ℕ) : Type 0 where
 -- the child domain all but its targets are as they were, genmsi too, which stands with the targets. Access
 -- 8 + i makes the target of source i name new instead of old, with the same identity, if it named old; in
 -- every other case a target is as it was
+-- [01 V1 V7 V8 V17]
 unfoldable pub Claim-103 : Type 0
 Claim-103 =
     (b : Board) → Fit b → (oh of nh nf n : ℕ) → isMove oh of nh nf n ≡ true → (s : List ℕ)

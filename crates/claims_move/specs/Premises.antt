@@ -42,6 +42,7 @@ use Rattle.transfer_laws.specs.After.FileCall.{pageRead, pageWrite, register, t
 -- shift has the same wires and page writes, those to new going to old, and no access. A run makes its calls
 -- in order and hands on the block, the log and the record that each leaves; and AccessesDone, which
 -- Claim-106 says of a shift, means that each access, made where the shift makes it, is done
+-- [01 V3 V12 V13 V14 V18 V22 V23 V24 V25 V26 V27 V28 V29]
 unfoldable pub Claim-175 : Type 0
 Claim-175 =
     (m : Stations) (x : Lent) (es : List Event) (c : Call) (cs : List Call) (n j level h f a v : ℕ)

@@ -38,6 +38,7 @@ use Rattle.transfer_cases.specs.Needed.{NeedsMessages, NeedsGuestOld, NeedsGues
 -- calls one after the other: what a call leaves is ready for the next one, whether it is refused or not; a
 -- refused one leaves all as it was, and an accepted one the board and the record that `step` says. So a
 -- run, which folds the outcome of each call, speaks of the blocks that the code leaves
+-- [01 X7 X8]
 unfoldable pub Claim-104 : Type 0
 Claim-104 =
     (c : Call) (x : Lent) → Ready x → Small c
@@ -56,6 +57,7 @@ MovedWhere P =
 -- demand 3: the new file is the one that the station would have had with no move; every file but old and
 -- new, every wire, and every pending and enable bit of both domains is the same as with no move; and so is
 -- all else of the machine domain, and the sourcecfg words and delivery structures of the child
+-- [01 V22 V23 V30 X8 X9]
 unfoldable pub Claim-105 : Type 0
 Claim-105 =
     MovedWhere (λ m x y. let b = boardIn x in
@@ -71,12 +73,14 @@ Claim-105 =
     × (b .wired .child .delivery ≡ b′ .wired .child .delivery))
 
 -- with the premises of a move every one of the 89 accesses is done, and none is refused
+-- [01 V13]
 unfoldable pub Claim-106 : Type 0
 Claim-106 =
     (m : Stations) (x : Lent) (es : List Event) → Started x → TwoGuests m → ByMessages x → NoneNamesNew m x
     → AllAccesses es → PagesKept m 0 es → AccessesDone m 0 es x
 
 -- no scan is dropped: what is pending for the station with no move is pending in its new file
+-- [01 M3]
 unfoldable pub Claim-107 : Type 0
 Claim-107 =
     MovedWhere (λ m x y. (i : ℕ) → member (oldIn m (boardIn y) .pending) i ≡ true
@@ -120,12 +124,14 @@ Claim-110 =
 
 -- the premises of a move can be met: a start and a shift in full, in which a device and a wire bring messages
 -- to old before they change over, and to new after it
+-- [01 V18]
 unfoldable pub Claim-111 : Type 0
 Claim-111 = Example
 
 -- each premise of a move is needed: without it, or with a bound that is off by one, and with all the others,
 -- there is a start and a shift whose end differs. Of `Started` it drops the length of the log alone, and of
 -- `TwoGuests` that old, or new, is a guest file
+-- [01 V12 V25 V26 V27]
 unfoldable pub Claim-112 : Type 0
 Claim-112 =
     NeedsAll × PagesAre × NeedsPagesNew × NeedsPagesOld × NeedsFresh × NeedsMessages × NeedsGuestOld

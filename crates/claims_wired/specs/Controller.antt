@@ -56,6 +56,7 @@ OneAtMost w = (sent false (w .root) .messages ≡ []) ⊎ (sent true (w .child) 
 
 -- the messages of a call: those of the change, machine domain first, of which one domain at most sends; a
 -- read sends nothing; the message of a genmsi is the only one of its call
+-- [01 W43 W45 X10]
 unfoldable pub Claim-77 : Type 0
 Claim-77 =
     (w : Wired) → Sound w

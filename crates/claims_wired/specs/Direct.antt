@@ -23,6 +23,7 @@ abbrev pub priority : Domain → ℕ → ℕ
 priority d i = numberOf (sourceAt d i .target)
 
 -- in direct mode topi reads 0 exactly if no source qualifies
+-- [01 S6]
 unfoldable pub Claim-43 : Type 0
 Claim-43 =
     (d : Domain) (h : ℕ) → byMessages d ≡ false
@@ -30,6 +31,7 @@ Claim-43 =
 
 -- in direct mode topi that is not 0 is source × 65536 + priority of a source that qualifies, with the least
 -- priority number, and the lowest source among equals
+-- [01 S7 S8 S10 M5]
 unfoldable pub Claim-44 : Type 0
 Claim-44 =
     (d : Domain) (h : ℕ) → byMessages d ≡ false → topiOf d h ≢ 0
@@ -40,16 +42,19 @@ Claim-44 =
     × (priority d i ≡ priority d (topSource d h) → topSource d h ≤ i))
 
 -- by messages topi reads 0 and a claimi changes nothing
+-- [01 S14]
 unfoldable pub Claim-45 : Type 0
 Claim-45 = (d : Domain) (h : ℕ) → byMessages d ≡ true → (topiOf d h ≡ 0) × (hartClaimed d h ≡ d)
 
 -- a claimi of 0 in direct mode clears iforce, and that alone
+-- [01 S13]
 unfoldable pub Claim-46 : Type 0
 Claim-46 =
     (d : Domain) (h : ℕ) → byMessages d ≡ false → topiOf d h ≡ 0
     → hartClaimed d h ≡ withStructure d h (withoutForce (structureAt d h))
 
 -- a domain signals a hart exactly if DM = 0, IE = 1, idelivery = 1, and iforce or topi not 0
+-- [01 S18]
 unfoldable pub Claim-47 : Type 0
 Claim-47 =
     (d : Domain) (h : ℕ)
@@ -59,6 +64,7 @@ Claim-47 =
 
 -- a source counts for a hart exactly if it is pending and enabled, its target names the hart, and ithreshold
 -- is 0 or greater than its priority; so ithreshold P, not 0, shuts out P itself
+-- [01 S6 S9 M1]
 unfoldable pub Claim-48 : Type 0
 Claim-48 =
     (d : Domain) (h i : ℕ)
@@ -69,6 +75,7 @@ Claim-48 =
 
 -- a claimi that does not answer 0 takes the pending bit of the top source, if that is no level source, and
 -- changes nothing else
+-- [01 S12 M2]
 unfoldable pub Claim-49 : Type 0
 Claim-49 =
     (d : Domain) (h : ℕ) → DomainShaped d → byMessages d ≡ false → topiOf d h ≢ 0

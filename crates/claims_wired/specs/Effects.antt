@@ -58,11 +58,13 @@ OneDomain =
 
 -- which change the write to each register makes, and that it changes its own domain alone if it is no
 -- sourcecfg
+-- [01 W2 W5 W40]
 unfoldable pub Claim-143 : Type 0
 Claim-143 = ChangesMade × OneDomain
 
 -- the causes of Claim-40 change the pending bit alone, and nothing of a source that is not active and, by its
 -- rule, not pending; setip and in_clrip are two of them
+-- [01 W39]
 unfoldable pub Claim-144 : Type 0
 Claim-144 =
     (s : Source) (m : Bool)

@@ -41,6 +41,7 @@ NamedIn k v j = (j / 32 ≡ k) × (v / 2 ^ (j % 32) % 2 ≡ 1)
 
 -- setie and setienum set enable bits, clrie and clrienum clear them: of the active sources whose bits are 1,
 -- or of the one of that number; nothing else changes
+-- [01 W39]
 unfoldable pub Claim-134 : Type 0
 Claim-134 =
     (c : Bool) (d : Domain) (wires : List ℕ) (v : ℕ) → DomainShaped d

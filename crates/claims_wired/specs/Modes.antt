@@ -42,11 +42,13 @@ pub record Remoded (m wire : Bool) (s : Source) (v : ℕ) (s′ : Source) : Type
 
 -- what a sourcecfg write makes of its source: zeros if it becomes inactive, a start if it becomes active, and
 -- its pending bit by 4.7
+-- [01 W22 W23 W24 W27]
 unfoldable pub Claim-94 : Type 0
 Claim-94 = (m wire : Bool) (s : Source) (v : ℕ) → Remoded m wire s v (moded s m v wire)
 
 -- a write to sourcecfg[i] of the machine domain: where the source is newly delegated or taken back, the
 -- child's is all zeros; where not, the child is as it was; and every other source of the child is
+-- [01 W17]
 unfoldable pub Claim-95 : Type 0
 Claim-95 =
     (w : Wired) (i v : ℕ) → DomainShaped (w .child) → i < 64

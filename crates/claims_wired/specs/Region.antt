@@ -74,6 +74,7 @@ Unnamed a = (r : Word) → Numbered r → a ≢ addressOf r
 
 -- each register is at its address, and at no other; every other address has none, the configurable message
 -- addresses 0x1BC0 to 0x1BCC among them; and every register that an address names is one that there is
+-- [01 B4 B14 W1 W2 W3 W4 W5 W6 W7 S1 S4]
 unfoldable pub Claim-130 : Type 0
 Claim-130 =
     ((r : Word) → Numbered r → wordAt (addressOf r) ≡ r)
@@ -84,6 +85,7 @@ Claim-130 =
 
 -- the number registers, clrie and every address with no register read 0; such an address, topi and claimi
 -- ignore writes
+-- [01 B14 C22 W38]
 unfoldable pub Claim-131 : Type 0
 Claim-131 =
     (c : Bool) (d : Domain) (wires : List ℕ)

@@ -27,6 +27,7 @@ Bit v n b = v / 2 ^ n % 2 ≡ cond b 1 0
 -- bit n of word k is source 32 k + n: setip reads its pending bit, setie its enable bit, and in_clrip the
 -- level of its wire if it is active, with no regard to what its mode makes of the wire; number 0 reads 0
 -- there
+-- [01 W36 W37]
 unfoldable pub Claim-132 : Type 0
 Claim-132 =
     (d : Domain) (wires : List ℕ) (k : ℕ)
@@ -39,6 +40,7 @@ Claim-132 =
     × (WordsFit (d .enable) → reads (Setie k) < 2 ^ 32)
 
 -- domaincfg: 0x80 in bits 31:24, IE in bit 8, DM in bit 2, and 0 in every other bit, BE in bit 0 among them
+-- [01 B13 W8 W9]
 unfoldable pub Claim-133 : Type 0
 Claim-133 =
     (w : Wired) → Sound w → (c : Bool)
@@ -49,6 +51,7 @@ Claim-133 =
 -- the modes: 0, and 1024 with which a source is delegated, are not active; 6 and 7 are the level modes;
 -- the rectified value is the wire for 4 (Edge1) and 6 (Level1), its opposite for 5 (Edge0) and 7 (Level0),
 -- and low for every other
+-- [01 W14 W15 W21 W25 W26]
 unfoldable pub Claim-139 : Type 0
 Claim-139 =
     (m : ℕ)
@@ -60,6 +63,7 @@ Claim-139 =
 -- topi and claimi of a hart read the same: by messages 0, and in direct mode 0 exactly if no source counts
 -- for that hart (Claim-48 says which do), else what Claim-44 says; a sourcecfg and a target read what is
 -- stored of their source
+-- [01 S11]
 unfoldable pub Claim-145 : Type 0
 Claim-145 =
     (d : Domain) (wires : List ℕ)

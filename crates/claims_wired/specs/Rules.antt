@@ -92,6 +92,7 @@ pub record WiredRules (w : Wired) : Type 0 where
       → sourceAt (w .child) i .mode ≡ 0
 
 -- the test of the state rules passes exactly if the rules hold as plain statements
+-- [01 W20 W22 R1 R3 R4 R5 R6 R7 R8]
 unfoldable pub Claim-73 : Type 0
 Claim-73 = (w : Wired) → Long w → (wiredSound w ≡ true) ↔ WiredRules w
 
@@ -106,6 +107,7 @@ Claim-74 =
     × ((c : Bool) (r : Word) → Sound (passed (claimedIn w c r)))
 
 -- a source is active in one domain at most
+-- [01 W21]
 unfoldable pub Claim-75 : Type 0
 Claim-75 =
     (w : Wired) → Sound w → (i : ℕ) → 1 ≤ i → i ≤ 63 → isActive (sourceAt (w .root) i .mode) ≡ true

@@ -21,6 +21,7 @@ use Rattle.domain_sending_laws.specs.Candidates.{candidates, messageAt, DomainP
 
 -- a domain sends the messages of its active, pending and enabled sources, ascending, and none if IE and DM
 -- are not both 1
+-- [01 W46]
 unfoldable pub Claim-50 : Type 0
 Claim-50 =
     (c : Bool) (d : Domain)
@@ -29,6 +30,7 @@ Claim-50 =
 
 -- the sources that a domain sends are in ascending order, and exactly those of 1 to 63 that are active,
 -- pending and enabled
+-- [01 W46]
 unfoldable pub Claim-147 : Type 0
 Claim-147 =
     (d : Domain) → let cs = candidates d in
@@ -38,12 +40,14 @@ Claim-147 =
     × (sourceAt d i .enabled ≡ true)))
 
 -- after the pass of messages no source of a domain that sends is left to be sent
+-- [01 W47 R8]
 unfoldable pub Claim-51 : Type 0
 Claim-51 =
     (c : Bool) (d : Domain) → (isEnabled d && byMessages d) ≡ true
     → (i : ℕ) → 1 ≤ i → i < 64 → candidate (sourceAt (sent c d .domain) i) ≡ false
 
 -- 63 log words always suffice, and each message names a file that there is: file 0 from the machine domain
+-- [01 W35]
 unfoldable pub Claim-52 : Type 0
 Claim-52 =
     (c : Bool) (d : Domain)
@@ -51,6 +55,7 @@ Claim-52 =
     × ((k : ℕ) → k < length (sent c d .messages) → Names c (getD (sent c d .messages) k 0))
 
 -- sending clears the pending bits of what was sent, and changes nothing else
+-- [01 W47]
 unfoldable pub Claim-53 : Type 0
 Claim-53 =
     (c : Bool) (d : Domain)
@@ -60,6 +65,7 @@ Claim-53 =
 
 -- a write to genmsi sends one message by messages, whatever IE is, to the machine or the supervisor file of a
 -- hart, and none in direct mode
+-- [01 W43]
 unfoldable pub Claim-54 : Type 0
 Claim-54 =
     (c : Bool) (d : Domain) (v : ℕ)

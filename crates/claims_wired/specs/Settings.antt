@@ -39,6 +39,7 @@ pub record NumbersAre (d d′ : Domain) (wires : List ℕ) (h a b t : ℕ) : Typ
 
 -- in direct mode idelivery and iforce store 0 and 1 and keep the old value otherwise, and ithreshold keeps
 -- the low 8 bits; by messages all three read 0, ignore writes, and so keep what is stored
+-- [01 S1 S2 S3 S14 S15]
 unfoldable pub Claim-135 : Type 0
 Claim-135 =
     (c : Bool) (d : Domain) (wires : List ℕ) (h v : ℕ) → DomainShaped d → h < 4
@@ -57,6 +58,7 @@ Claim-135 =
 
 -- genmsi: by messages a write keeps the hart, bits 19:18, and the identity, bits 7:0, which are read again,
 -- and changes nothing else; in direct mode it reads 0 and ignores writes; Busy, bit 12, always reads 0
+-- [01 W41 W42 W44]
 unfoldable pub Claim-136 : Type 0
 Claim-136 =
     ((c : Bool) (d : Domain) (wires : List ℕ) (v : ℕ) → DomainShaped d
@@ -67,6 +69,7 @@ Claim-136 =
     × ((w : Wired) → Sound w → (c : Bool) → readIn w c Genmsi / 2 ^ 12 % 2 ≡ 0)
 
 -- a claimi of 0 in direct mode clears iforce, and that alone: Claim-46 in plain numbers
+-- [01 S13]
 unfoldable pub Claim-142 : Type 0
 Claim-142 =
     (d : Domain) (wires : List ℕ) (h : ℕ) → DomainShaped d → h < 4 → byMessages d ≡ false → topiOf d h ≡ 0

@@ -50,6 +50,7 @@ WrittenInChild w i v =
 -- a sourcecfg write stores, of every number: in the machine domain 1024 if bit 10 is set, else bits 2:0, of
 -- which 2 and 3 become 0; in the child bits 2:0 likewise, but 0 if bit 10 is set or the source is not
 -- delegated; and every other source stays
+-- [01 W12 W13 W14 W15 W16 W19 W20]
 unfoldable pub Claim-137 : Type 0
 Claim-137 =
     (w : Wired) → Long w → (i : ℕ) → 1 ≤ i → i ≤ 63 → (v : ℕ) → WrittenInMachine w i v × WrittenInChild w i v

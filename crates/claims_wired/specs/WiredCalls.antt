@@ -72,6 +72,7 @@ Claim-64 =
     × (r ≡ length (sent c (domainOf (now b)) .messages))
 
 -- `deliver` leaves the files, and so each of their 360 words, as the messages make them
+-- [01 B17]
 unfoldable pub Claim-65 : Type 0
 Claim-65 =
     (l : Lfts 2) (f f′ g : RefT (List ℕ)) (n : ℕ)

@@ -34,6 +34,7 @@ use Rattle.wired_registers.specs.Wired.{writtenIn}
 use Rattle.claims_wired.specs.Rules.{Sound, TargetStored}
 
 -- a write of v to word k of a family changes the sources whose bits are set, and a number that source alone
+-- [01 W3]
 unfoldable pub Claim-55 : Type 0
 Claim-55 =
     (d : Domain) (wires : List ℕ) (family : Change) (v : ℕ) → DomainShaped d
@@ -54,6 +55,7 @@ pub record Restarted (m x : Bool) (s s′ : Source) : Type 0 where
 
 -- a write to domaincfg: IE is bit 8 and DM bit 2; with the same DM nothing else changes, and with another,
 -- genmsi is 0 and each source is restarted
+-- [01 W8 W10 W11 S15]
 unfoldable pub Claim-56 : Type 0
 Claim-56 =
     ((d : Domain) (wires : List ℕ) (v : ℕ) → DomainShaped d
@@ -65,6 +67,7 @@ Claim-56 =
     × ((m x : Bool) (s : Source) → Restarted m x s (redelivered s m x))
 
 -- a wire set as it is, and a delegation of what is delegated, change nothing
+-- [01 W18]
 unfoldable pub Claim-57 : Type 0
 Claim-57 =
     (w : Wired) → Sound w → (i : ℕ) → 1 ≤ i → i ≤ 63
@@ -80,6 +83,7 @@ pub record TargetKept (c m : Bool) (v t : ℕ) : Type 0 where
   pub guest : m ≡ true → c ≡ true → guestOf t ≡ guestOf v
 
 -- a write to a target: nothing of an inactive source, and of an active one the target alone
+-- [01 W29 W31 W32 W34]
 unfoldable pub Claim-58 : Type 0
 Claim-58 =
     ((c : Bool) (d : Domain) (i v : ℕ) → DomainShaped d → 1 ≤ i → i ≤ 63

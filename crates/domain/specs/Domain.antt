@@ -24,6 +24,7 @@ pub record Domain : Type 0 where
   pub enable : List ℕ
   pub delivery : List ℕ
 
+-- [01 B8]
 unfoldable pub domainOf : List ℕ → Domain
 domainOf l =
     record {
@@ -43,12 +44,15 @@ dmBit = 2
 unfoldable pub configOf : Domain → ℕ
 configOf d = getD (d .source) 0 0
 
+-- [01 W8]
 unfoldable pub isEnabled : Domain → Bool
 isEnabled d = hasBit (configOf d) ieBit
 
+-- [01 W8]
 unfoldable pub byMessages : Domain → Bool
 byMessages d = hasBit (configOf d) dmBit
 
+-- [01 W45]
 abbrev pub sends : Domain → Bool
 sends d = isEnabled d && byMessages d
 

@@ -8,6 +8,7 @@ use Rattle.sizes.specs.Sizes.{structureSize}
 use Rattle.domain_delivery.specs.declared.Delivery.{Delivery}
 use Rattle.domain.specs.Domain.{Domain, withDeliveries}
 
+-- [01 B6]
 unfoldable pub structureAt : Domain → ℕ → Delivery
 structureAt d h =
     record {

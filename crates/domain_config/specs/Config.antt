@@ -16,6 +16,7 @@ use Rattle.source.specs.Pending.{redelivered}
 use Rattle.domain.specs.Domain.{Domain, byMessages, withConfig, withGenerated}
 use Rattle.domain.specs.Slot.{sourceAt, withSource}
 
+-- [01 T9]
 unfoldable pub keptConfig : ℕ → ℕ
 keptConfig v = packed (fieldOf v ieBit 1) ieBit (packed (fieldOf v dmBit 1) dmBit 0)
 
@@ -27,6 +28,7 @@ redeliveredFrom d ws i zero = d
 redeliveredFrom d ws i (suc n) = redeliveredFrom (redeliveredAt d ws i) ws (suc i) n
 
 -- e is d with the new domaincfg word
+-- [01 W10]
 unfoldable pub modeSettled : Domain → Domain → List ℕ → Domain
 modeSettled d e ws =
     cond (Bool·beq (byMessages d) (byMessages e)) e (redeliveredFrom (withGenerated e 0) ws 1 sourceCount)

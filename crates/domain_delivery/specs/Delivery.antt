@@ -15,6 +15,7 @@ use lib.Dec.{eqb, leb, ltb}
 use Rattle.words.specs.Threshold.{passes}
 use Rattle.domain_delivery.specs.declared.Delivery.{Delivery}
 
+-- [01 S2]
 unfoldable pub switchOf : ℕ → ℕ → ℕ
 switchOf old v = cond (leb v 1) v old
 
@@ -26,6 +27,7 @@ unfoldable pub withIforce : Delivery → ℕ → Delivery
 withIforce d v =
     record { idelivery = d .idelivery; iforce = switchOf (d .iforce) v; ithreshold = d .ithreshold }
 
+-- [01 S3]
 unfoldable pub withIthreshold : Delivery → ℕ → Delivery
 withIthreshold d v = record { idelivery = d .idelivery; iforce = d .iforce; ithreshold = v % 256 }
 
@@ -35,8 +37,10 @@ withoutForce d = record { idelivery = d .idelivery; iforce = 0; ithreshold = d .
 unfoldable pub deliverySound : Delivery → Bool
 deliverySound d = leb (d .idelivery) 1 && leb (d .iforce) 1 && ltb (d .ithreshold) 256
 
+-- [01 S9]
 unfoldable pub lets : Delivery → ℕ → Bool
 lets d p = passes (d .ithreshold) p
 
+-- [01 S18]
 unfoldable pub structureSignals : Delivery → Bool → ℕ → Bool
 structureSignals d e t = e && eqb (d .idelivery) 1 && (not (eqb (d .iforce) 0) || not (eqb t 0))

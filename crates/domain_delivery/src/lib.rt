@@ -4,6 +4,7 @@ ghost use mathlib.Core.Path.{_≡_};
 ghost use Rattle.domain_delivery.specs.Delivery.{switchOf, withIdelivery, withIforce, withIthreshold};
 ghost use Rattle.domain_delivery.specs.Delivery.{withoutForce, deliverySound, lets, structureSignals};
 
+// [01 S5]
 pub struct Delivery {
     pub idelivery: u32,
     pub iforce: u32,

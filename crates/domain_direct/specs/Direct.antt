@@ -26,16 +26,20 @@ use Rattle.domain_direct.specs.declared.Setting.the-variants.{Idelivery,
 
 -- ---- what a claim leaves, and the signal
 
+-- [01 S13]
 unfoldable pub unforced : Domain → ℕ → Domain
 unforced d h = withStructure d h (withoutForce (structureAt d h))
 
+-- [01 S12]
 unfoldable pub released : Domain → ℕ → Domain
 released d i = withSource d i (cleared (sourceAt d i) false)
 
+-- [01 S12 S13]
 unfoldable pub hartClaimed : Domain → ℕ → Domain
 hartClaimed d h =
     cond (byMessages d) d (cond (eqb (topSource d h) 0) (unforced d h) (released d (topSource d h)))
 
+-- [01 S18]
 unfoldable pub signalOf : Domain → ℕ → Bool
 signalOf d h = not (byMessages d) && structureSignals (structureAt d h) (isEnabled d) (topiOf d h)
 
@@ -51,8 +55,10 @@ writtenAt x Idelivery v = withIdelivery x v
 writtenAt x Iforce v = withIforce x v
 writtenAt x Ithreshold v = withIthreshold x v
 
+-- [01 S1 S14]
 unfoldable pub settingOf : Domain → ℕ → Setting → ℕ
 settingOf d h g = cond (byMessages d) 0 (numberAt (structureAt d h) g)
 
+-- [01 S14 S15]
 unfoldable pub settingWritten : Domain → ℕ → Setting → ℕ → Domain
 settingWritten d h g v = cond (byMessages d) d (withStructure d h (writtenAt (structureAt d h) g v))

@@ -15,17 +15,22 @@ use Rattle.file_message.specs.Message.{logWord}
 use Rattle.source_target.specs.Target.{hartOf, numberOf}
 use Rattle.domain.specs.Domain.{Domain, generatedAt, byMessages, withGenerated}
 
+-- [01 W42]
 unfoldable pub keptGenerated : ℕ → ℕ
 keptGenerated v = packed (hartOf v) hartAt (numberOf v)
 
+-- [01 W43]
 unfoldable pub generatedOf : Bool → ℕ → ℕ
 generatedOf child v = logWord (hartOf v) (cond child 1 0) (numberOf v)
 
+-- [01 W41]
 unfoldable pub generatedWritten : Domain → ℕ → Domain
 generatedWritten d v = cond (byMessages d) (withGenerated d (keptGenerated v)) d
 
+-- [01 W41 W44]
 unfoldable pub generatedRead : Domain → ℕ
 generatedRead d = cond (byMessages d) (generatedAt d) 0
 
+-- [01 W43]
 unfoldable pub generatedSent : Bool → Domain → ℕ → List ℕ
 generatedSent c d v = cond (byMessages d) (generatedOf c v ∷ []) []

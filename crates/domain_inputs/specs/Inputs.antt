@@ -13,6 +13,7 @@ use Rattle.source_mode.specs.Mode.{isActive}
 use Rattle.domain.specs.Domain.{Domain}
 use Rattle.domain.specs.Slot.{sourceAt}
 
+-- [01 W37]
 unfoldable pub inputBit : Domain → List ℕ → ℕ → Bool
 inputBit d ws i = leb 1 i && isActive (sourceAt d i .mode) && member ws i
 

@@ -23,6 +23,7 @@ use Rattle.domain_region.specs.declared.Word.the-variants.{SetipnumLe, S
 use Rattle.domain_region.specs.declared.Word.the-variants.{Idelivery}
 use Rattle.domain_region.specs.declared.Word.the-variants.{Iforce, Ithreshold, Topi, Claimi, Unused}
 
+-- [01 C21 T10]
 unfoldable pub addressLegal : ℕ → Bool
 addressLegal a = eqb (a % 4) 0 && ltb a 0x5000
 
@@ -36,12 +37,15 @@ pub record Row : Type 0 where
 abbrev pub one : ℕ → Word → Row
 one b w = record { base = b; step = 4; first = 0; last = 0; name = λ k. w }
 
+-- [01 W3]
 abbrev pub wordsFrom : ℕ → ℕ → ℕ → (ℕ → Word) → Row
 wordsFrom b m n r = record { base = b; step = 4; first = m; last = n; name = r }
 
+-- [01 W7 S1 S4]
 abbrev pub structures : ℕ → (ℕ → Word) → Row
 structures o r = record { base = 0x4000 + o; step = 32; first = 0; last = hartCount - 1; name = r }
 
+-- [01 W1 W2 W4 W5 W6]
 unfoldable pub registers : List Row
 registers =
     one 0x0000 Domaincfg
@@ -70,10 +74,12 @@ nameIn r a w =
     let k = (a - r .base) / r .step in
     cond (eqb a (r .base + r .step * k) && leb (r .first) k && leb k (r .last)) (r .name k) w
 
+-- [01 C22]
 unfoldable pub wordIn : List Row → ℕ → Word
 wordIn [] a = Unused
 wordIn (r ∷ rs) a = nameIn r a (wordIn rs a)
 
+-- [01 B14 T10]
 unfoldable pub wordAt : ℕ → Word
 wordAt a = wordIn registers a
 

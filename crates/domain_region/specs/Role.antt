@@ -13,6 +13,7 @@ use Rattle.domain_region.specs.declared.Word.the-variants.{Iforce, Ithre
 use Rattle.domain_region.specs.declared.role.Role.{Role}
 use Rattle.domain_region.specs.declared.role.Role.the-variants.{Claims, Configures, Generates, Plain}
 
+-- [01 S4]
 abbrev pub roleOf : Word → Role
 roleOf Domaincfg = Plain
 roleOf (Sourcecfg i) = Configures i

@@ -29,6 +29,7 @@ use Rattle.domain_direct.specs.Direct.{settingWritten}
 abbrev pub writtenElsewhere : Domain → Domain
 writtenElsewhere d = d
 
+-- [01 W40]
 unfoldable pub registerWritten : Bool → Domain → List ℕ → Word → ℕ → Domain
 registerWritten c d ws Domaincfg v = configWritten d ws v
 registerWritten c d ws (Sourcecfg i) v = writtenElsewhere d

@@ -22,14 +22,17 @@ use Rattle.domain.specs.Structure.{structureAt}
 unfoldable pub standing : Domain → ℕ → Bool
 standing d i = sourceAt d i .pending && sourceAt d i .enabled
 
+-- [01 S6]
 unfoldable pub eligible : Domain → ℕ → ℕ → Bool
 eligible d h i =
     standing d i && eqb (hartOf (sourceAt d i .target)) h
     && lets (structureAt d h) (numberOf (sourceAt d i .target))
 
+-- [01 S7 S8 M5 T7]
 unfoldable pub precedes : Domain → ℕ → ℕ → Bool
 precedes d i b = eqb b 0 || ltb (numberOf (sourceAt d i .target)) (numberOf (sourceAt d b .target))
 
+-- [01 S7 S8]
 unfoldable pub topFrom : Domain → ℕ → ℕ → ℕ → ℕ → ℕ
 topFrom d h i zero b = b
 topFrom d h i (suc n) b = topFrom d h (suc i) n (cond (eligible d h i && precedes d i b) i b)
@@ -37,6 +40,7 @@ topFrom d h i (suc n) b = topFrom d h (suc i) n (cond (eligible d h i && precede
 unfoldable pub topSource : Domain → ℕ → ℕ
 topSource d h = topFrom d h 1 sourceCount 0
 
+-- [01 S10 T6]
 unfoldable pub topiOf : Domain → ℕ → ℕ
 topiOf d h =
     cond (byMessages d || eqb (topSource d h) 0) 0

@@ -21,9 +21,11 @@ use Rattle.domain_inputs.specs.Inputs.{inputWord}
 use Rattle.domain_direct.specs.declared.Setting.the-variants as setting
 use Rattle.domain_direct.specs.Direct.{topiOf, settingOf}
 
+-- [01 W9 R10 T9]
 abbrev pub configMark : ℕ
 configMark = 0x80000000
 
+-- [01 B13 W36 W38 S11]
 unfoldable pub registerValue : Domain → List ℕ → Word → ℕ
 registerValue d ws Domaincfg = configMark + configOf d
 registerValue d ws (Sourcecfg i) = sourceAt d i .mode

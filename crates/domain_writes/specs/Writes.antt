@@ -28,9 +28,11 @@ unfoldable pub changedFrom : Domain → List ℕ → Change → ℕ → ℕ → 
 changedFrom d ws c v i zero = d
 changedFrom d ws c v i (suc n) = changedFrom (changedBit d ws c v i) ws c v (suc i) n
 
+-- [01 W3]
 unfoldable pub wordChanged : Domain → List ℕ → Change → ℕ → ℕ → Domain
 wordChanged d ws c k v = cond (eqb k 0) (changedFrom d ws c v 1 31) (changedFrom d ws c v 32 32)
 
+-- [01 W39]
 unfoldable pub numberChanged : Domain → List ℕ → Change → ℕ → Domain
 numberChanged d ws c v = cond (leb 1 v && leb v sourceCount) (changedAt d ws c v) d
 

@@ -26,6 +26,7 @@ held f (Pending j) = doubleword (f .pending) j
 held f (Enable j) = doubleword (f .enable) j
 held f Unused = 0
 
+-- [01 F7 F8]
 unfoldable pub written : ℕ → Bool → File → Register → ℕ → File
 written n g f Delivery v = cond (deliveryLegal g v) (withDelivery f v) f
 written n g f Threshold v = withThreshold f (v % (n + 1))
@@ -34,6 +35,7 @@ written n g f (Enable j) v = withEnable f (putDoubleword (f .enable) j v)
 written n g f Unused v = f
 
 -- set and clear answer the old value, and a write 0
+-- [01 C6]
 unfoldable pub accessedAt : ℕ → Bool → File → Access → Register → ℕ → Accessed
 accessedAt n g f Read r v = record { answer = Value (held f r); file = f }
 accessedAt n g f Write r v = record { answer = Value 0; file = written n g f r v }
@@ -41,6 +43,7 @@ accessedAt n g f Set r v = record { answer = Value (held f r); file = written n 
 accessedAt n g f Clear r v =
     record { answer = Value (held f r); file = written n g f r (without (held f r) v) }
 
+-- [01 C3 X2]
 unfoldable pub accessed : ℕ → Bool → File → Access → ℕ → ℕ → Accessed
 accessed n g f k s v =
     cond (selectLegal s) (accessedAt n g f k (registerOf n s) v) (record { answer = Illegal; file = f })

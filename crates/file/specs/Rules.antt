@@ -13,9 +13,11 @@ use Rattle.file.specs.declared.File.{File}
 unfoldable pub deliveryRule : Bool → File → Bool
 deliveryRule g f = deliveryLegal g (f .delivery)
 
+-- [01 R1]
 unfoldable pub thresholdRule : ℕ → File → Bool
 thresholdRule n f = leb (f .threshold) n
 
+-- [01 R2]
 unfoldable pub zeroRule : File → Bool
 zeroRule f = not (member (f .pending) 0) && not (member (f .enable) 0)
 

@@ -16,17 +16,22 @@ use Rattle.file.specs.Parts.{withPendingSet}
 unfoldable pub use Rattle.words.specs.Threshold.{passes}
 unfoldable pub use Rattle.file_search.specs.Search.{lowest}
 
+-- [01 F16 F17]
 unfoldable pub qualifies : File → ℕ → Bool
 qualifies f i = member (f .pending) i && member (f .enable) i && passes (f .threshold) i
 
+-- [01 F16 T1]
 unfoldable pub topIdentity : ℕ → File → ℕ
 topIdentity n f = lowest (qualifies f) 1 n
 
+-- [01 F18 F19]
 unfoldable pub topOf : ℕ → File → ℕ
 topOf n f = topIdentity n f * 65536 + topIdentity n f
 
+-- [01 F20 F21]
 unfoldable pub claimed : ℕ → File → File
 claimed n f = cond (eqb (topIdentity n f) 0) f (withPendingSet f (remove (f .pending) (topIdentity n f)))
 
+-- [01 S16]
 unfoldable pub signals : ℕ → File → Bool
 signals n f = eqb (f .delivery) 1 && not (eqb (topOf n f) 0)

@@ -10,6 +10,7 @@ pub use register::Reply;
 use sizes::FILE_SET_SIZE;
 pub use top::Claimed;
 
+// [01 F22 F23]
 pub struct File {
     pub delivery: u32,
     pub threshold: u32,

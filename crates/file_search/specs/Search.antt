@@ -11,6 +11,7 @@ use Rattle.sizes.specs.Sizes.{identities}
 use Rattle.words.specs.Bits.{hasBit}
 use Rattle.words.specs.Sets.{member}
 
+-- [01 X11]
 unfoldable pub lowest : (ℕ → Bool) → ℕ → ℕ → ℕ
 lowest p i zero = 0
 lowest p i (suc k) = let rest = lowest p (suc i) k in cond (p i) i rest

@@ -5,8 +5,10 @@ use Prim.Native.Nat.{ℕ}
 use mathlib.Core.Bool.{Bool, not, _&&_, _||_}
 use lib.Dec.{eqb}
 
+-- [01 F6]
 abbrev pub fromWired : ℕ
 fromWired = 0x40000000
 
+-- [01 F5 F6]
 unfoldable pub deliveryLegal : Bool → ℕ → Bool
 deliveryLegal g d = eqb d 0 || eqb d 1 || (not g && eqb d fromWired)

@@ -10,11 +10,13 @@ use lib.ListN.{getD, set}
 use Rattle.words.specs.Bits.{withoutBit}
 use Rattle.words.specs.Parts.{low, high, joined}
 
+-- [01 F11]
 unfoldable pub doubleword : List ℕ → ℕ → ℕ
 doubleword ws j = joined (getD ws (2 * j) 0) (getD ws (2 * j + 1) 0)
 
 unfoldable pub putHalves : List ℕ → ℕ → ℕ → List ℕ
 putHalves ws j v = set (set ws (2 * j) (low v)) (2 * j + 1) (high v)
 
+-- [01 F11 F13]
 unfoldable pub putDoubleword : List ℕ → ℕ → ℕ → List ℕ
 putDoubleword ws j v = putHalves ws j (cond (eqb j 0) (withoutBit v 0) v)

@@ -23,12 +23,15 @@ eip0 = 0x80
 abbrev pub eie0 : ℕ
 eie0 = 0xC0
 
+-- [01 F10 F15 T11]
 unfoldable pub selectLegal : ℕ → Bool
 selectLegal s = leb eidelivery s && leb s 0xFF && not (leb eip0 s && eqb (s % 2) 1)
 
+-- [01 F12]
 unfoldable pub registersFrom : ℕ → ℕ → (ℕ → Register) → ℕ → Register
 registersFrom n base r s = cond (leb ((s - base) / 2) (n / 64)) (r ((s - base) / 2)) Unused
 
+-- [01 F9 F14 T11]
 unfoldable pub registerOf : ℕ → ℕ → Register
 registerOf n s =
     cond (eqb s eidelivery) Delivery

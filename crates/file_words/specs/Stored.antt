@@ -10,6 +10,7 @@ use lib.Seq.{sets}
 use Rattle.sizes.specs.Sizes.{fileSetSize, thresholdPlace, pendingPlace, enablePlace}
 use Rattle.file.specs.declared.File.{File}
 
+-- [01 F23]
 unfoldable pub fileWords : File → List ℕ
 fileWords f = f .delivery ∷ f .threshold ∷ f .pending ++ f .enable
 

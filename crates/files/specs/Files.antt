@@ -62,9 +62,11 @@ withFile fs k f = set fs k f
 unfoldable pub namedBy : ℕ → ℕ
 namedBy m = fileNumber (hartIn m) (fileIn m)
 
+-- [01 B17]
 unfoldable pub reached : List File → ℕ → List File
 reached fs m = withFile fs (namedBy m) (arrived identities (theFile fs (namedBy m)) (identityIn m))
 
+-- [01 B15]
 unfoldable pub allReached : List File → List ℕ → List File
 allReached fs [] = fs
 allReached fs (m ∷ ms) = allReached (reached fs m) ms

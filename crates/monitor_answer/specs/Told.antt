@@ -18,6 +18,7 @@ pub record Numbers (r : VskAnswer) (a : Answer) : Type 0 where
   pub value : r .value ≡ answerValue a
   pub count : r .count ≡ answerCount a
 
+-- [01 X1 X3]
 pub record Told (o : Outcome) (r : VskAnswer) (l g s : List ℕ) : Type 0 where
   pub refusal : r .refusal ≡ o .number
   pub value : r .value ≡ o .value
@@ -26,5 +27,6 @@ pub record Told (o : Outcome) (r : VskAnswer) (l g s : List ℕ) : Type 0 where
   pub log : g ≡ o .log
   pub saved : s ≡ o .saved
 
+-- [01 B16 C16 X4]
 abbrev pub Tells : Call → List ℕ → List ℕ → VskAnswer → List ℕ → List ℕ → Type 0
 Tells c l g r l′ g′ = (s : List ℕ) → Told (outcome c l g s) r l′ g′ s

@@ -4,6 +4,7 @@ ghost use Rattle.monitor_answer.specs.Told.{Numbers};
 use board_call::Answer;
 
 // What C is answered, in two registers. The refusal is 0 if the call is done.
+// [01 B16]
 #[repr(C)]
 pub struct VskAnswer {
     pub value: u64,

@@ -16,24 +16,30 @@ use Prim.Native.Nat.{ℕ, _+_, _*_}
 
 -- ---- counts
 
+-- [01 B1]
 abbrev pub hartCount : ℕ
 hartCount = 4
 
+-- [01 B2]
 abbrev pub hartFiles : ℕ
 hartFiles = 5
 
+-- [01 B2]
 abbrev pub firstGuest : ℕ
 firstGuest = 2
 
 abbrev pub fileCount : ℕ
 fileCount = hartCount * hartFiles
 
+-- [01 B5]
 abbrev pub domainCount : ℕ
 domainCount = 2
 
+-- [01 B3]
 abbrev pub identities : ℕ
 identities = 255
 
+-- [01 B4]
 abbrev pub sourceCount : ℕ
 sourceCount = 63
 
@@ -102,11 +108,14 @@ wiredSize = childPlace + domainSize
 abbrev pub wiredPlace : ℕ
 wiredPlace = filesSize
 
+-- [01 B7]
 abbrev pub blockSize : ℕ
 blockSize = wiredPlace + wiredSize
 
+-- [01 B10]
 abbrev pub logSize : ℕ
 logSize = 63
 
+-- [01 V3]
 abbrev pub recordSize : ℕ
 recordSize = 10

@@ -35,10 +35,12 @@ abbrev pub withMode : Source → ℕ → Source
 withMode s m = record { mode = m; target = s .target; pending = s .pending; enabled = s .enabled }
 
 -- a source that is not active in the domain: pending, enable and target are 0
+-- [01 W22]
 abbrev pub inactive : ℕ → Source
 inactive m = record { mode = m; target = 0; pending = false; enabled = false }
 
 -- a source that becomes active: enable is 0, the target has its start value
+-- [01 W23]
 abbrev pub fresh : Bool → ℕ → Source
 fresh m mode = record { mode = mode; target = startTarget m; pending = false; enabled = false }
 
@@ -53,18 +55,21 @@ abbrev pub directPending : Bool → Bool
 directPending high = high
 
 -- a level source by messages: a rise sets it, and it is cleared whenever the rectified value is low (4.7)
+-- [01 M4]
 abbrev pub messagesPending : Source → Bool → Bool → Bool
 messagesPending s rose high = high && (s .pending || rose)
 
 abbrev pub levelPending : Source → Bool → Bool → Bool → Bool
 levelPending s m rose high = cond m (messagesPending s rose high) (directPending high)
 
+-- [01 W28]
 unfoldable pub settled : Source → Bool → Bool → Bool → Source
 settled s m rose high =
     withPending s (cond (isLevel (s .mode)) (levelPending s m rose high) (otherPending s rose))
 
 -- ---- what happens to the source
 
+-- [01 W28]
 unfoldable pub wireChanged : Source → Bool → Bool → Bool → Source
 wireChanged s m was is =
     settled s m (not (isRectified (s .mode) was) && isRectified (s .mode) is) (isRectified (s .mode) is)
@@ -76,6 +81,7 @@ pended s m wire =
     (withPending s (cond (isLevel (s .mode)) (s .pending || (m && isRectified (s .mode) wire)) true)) s
 
 -- a level source: not in direct mode
+-- [01 M2]
 unfoldable pub cleared : Source → Bool → Source
 cleared s m = withPending s (isLevel (s .mode) && not m && s .pending)
 
@@ -88,6 +94,7 @@ changed s Clear m wire = cleared s m
 changed s Enable m wire = switched s true
 changed s Disable m wire = switched s false
 
+-- [01 W24 W27]
 unfoldable pub moded : Source → Bool → ℕ → Bool → Source
 moded s m mode wire =
     cond (isActive mode)
@@ -95,6 +102,7 @@ moded s m mode wire =
     (not (isRectified (s .mode) wire) && isRectified mode wire) (isRectified mode wire))
     (inactive mode)
 
+-- [01 W11]
 unfoldable pub redelivered : Source → Bool → Bool → Source
 redelivered s m wire =
     cond (isActive (s .mode)) (settled (withTarget s (startTarget m)) m false (isRectified (s .mode) wire)) s
@@ -102,5 +110,6 @@ redelivered s m wire =
 unfoldable pub retargeted : Source → Bool → Bool → ℕ → Source
 retargeted s c m v = cond (isActive (s .mode)) (withTarget s (keptTarget c m v)) s
 
+-- [01 W46]
 unfoldable pub candidate : Source → Bool
 candidate s = isActive (s .mode) && s .pending && s .enabled

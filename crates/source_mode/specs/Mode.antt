@@ -13,21 +13,27 @@ use lib.Dec.{eqb, ltb}
 use Rattle.words.specs.Bits.{hasBit}
 use Rattle.words.specs.Parts.{fieldOf}
 
+-- [01 W13]
 abbrev pub delegatedWord : ℕ
 delegatedWord = 1024
 
+-- [01 W14 W21]
 unfoldable pub isActive : ℕ → Bool
 isActive m = not (eqb m 0) && ltb m delegatedWord
 
+-- [01 W15]
 unfoldable pub isLevel : ℕ → Bool
 isLevel m = eqb m 6 || eqb m 7
 
+-- [01 W15 W25 W26]
 unfoldable pub isRectified : ℕ → Bool → Bool
 isRectified m wire = ((eqb m 4 || eqb m 6) && wire) || ((eqb m 5 || eqb m 7) && not wire)
 
+-- [01 W14 W16]
 unfoldable pub keptMode : ℕ → ℕ
 keptMode v = cond (eqb (fieldOf v 0 3) 2 || eqb (fieldOf v 0 3) 3) 0 (fieldOf v 0 3)
 
+-- [01 W12 W20]
 unfoldable pub sourceWord : Bool → Bool → ℕ → ℕ
 sourceWord c has v =
     cond c (cond (has && not (hasBit v 10)) (keptMode v) 0) (cond (hasBit v 10) delegatedWord (keptMode v))

@@ -20,12 +20,15 @@ use Rattle.source.specs.Pending.{candidate}
 unfoldable pub modeRange : Bool → Source → Bool
 modeRange c s = eqb (s .mode) (sourceWord c true (s .mode))
 
+-- [01 R1]
 unfoldable pub targetRange : Bool → Bool → Source → Bool
 targetRange c m s = not (isActive (s .mode)) || eqb (s .target) (keptTarget c m (s .target))
 
+-- [01 R3]
 unfoldable pub inactiveRule : Source → Bool
 inactiveRule s = isActive (s .mode) || (eqb (s .target) 0 && not (s .pending) && not (s .enabled))
 
+-- [01 R5 R6]
 unfoldable pub levelRule : Bool → Bool → Source → Bool
 levelRule m wire s =
     let high = isRectified (s .mode) wire in
@@ -34,6 +37,7 @@ levelRule m wire s =
 unfoldable pub sourceSteady : Bool → Bool → Bool → Source → Bool
 sourceSteady c m wire s = modeRange c s && targetRange c m s && inactiveRule s && levelRule m wire s
 
+-- [01 R8]
 unfoldable pub sentRule : Bool → Source → Bool
 sentRule sends s = not (sends && candidate s)
 

@@ -21,25 +21,32 @@ guestAt = 12
 unfoldable pub hartOf : ℕ → ℕ
 hartOf t = fieldOf t hartAt 2
 
+-- [01 W32]
 unfoldable pub guestOf : ℕ → ℕ
 guestOf t = fieldOf t guestAt 2
 
+-- [01 W31]
 unfoldable pub numberOf : ℕ → ℕ
 numberOf t = fieldOf t 0 8
 
+-- [01 W11 W30 W33]
 unfoldable pub startTarget : Bool → ℕ
 startTarget messages = cond messages 0 1
 
 -- a written priority of 0 becomes 1
+-- [01 W29]
 unfoldable pub priorityOf : ℕ → ℕ
 priorityOf v = cond (eqb (numberOf v) 0) 1 (numberOf v)
 
 -- an identity, in the child below a guest index
+-- [01 W32]
 unfoldable pub receiverOf : Bool → ℕ → ℕ
 receiverOf child v = cond child (packed (guestOf v) guestAt (numberOf v)) (numberOf v)
 
+-- [01 W29 W31 W34 T8]
 unfoldable pub keptTarget : Bool → Bool → ℕ → ℕ
 keptTarget child messages v = packed (hartOf v) hartAt (cond messages (receiverOf child v) (priorityOf v))
 
+-- [01 W35 T8]
 unfoldable pub messageOf : Bool → ℕ → ℕ
 messageOf child t = logWord (hartOf t) (cond child (guestOf t + 1) 0) (numberOf t)

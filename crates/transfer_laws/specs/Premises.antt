@@ -47,6 +47,7 @@ pub record TwoGuests (m : Stations) : Type 0 where
 unfoldable pub ByMessages : Lent → Type 0
 ByMessages x = byMessages (boardIn x .wired .child) ≡ true
 
+-- [01 V12]
 unfoldable pub NoneNamesNew : Stations → Lent → Type 0
 NoneNamesNew m x =
     (i : ℕ) → 1 ≤ i → i ≤ sourceCount
@@ -59,9 +60,11 @@ accessesIn (Event.wire i level ∷ es) = accessesIn es
 accessesIn (Event.page h f a v ∷ es) = accessesIn es
 accessesIn (Event.access ∷ es) = suc (accessesIn es)
 
+-- [01 V13]
 unfoldable pub AllAccesses : List Event → Type 0
 AllAccesses es = accessesIn es ≡ accesses
 
+-- [01 V18 V25 V26 V27]
 unfoldable pub PagesKept : Stations → ℕ → List Event → Type 0
 PagesKept m n [] = Unit {0}
 PagesKept m n (Event.wire i level ∷ es) = PagesKept m n es

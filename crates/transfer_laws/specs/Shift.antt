@@ -21,6 +21,7 @@ pub record Stations : Type 0 where
   pub newHart : ℕ
   pub newFile : ℕ
 
+-- [01 V22 V23 V24]
 pub data Event : Type 0 where
   wire : (i level : ℕ) → Event
   page : (h f a v : ℕ) → Event
@@ -35,12 +36,14 @@ isOld m h f = eqb h (m .oldHart) && eqb f (m .oldFile)
 abbrev pub isNew : Stations → ℕ → ℕ → Bool
 isNew m h f = eqb h (m .newHart) && eqb f (m .newFile)
 
+-- [01 V13 V22 V23]
 unfoldable pub withMove : Stations → ℕ → List Event → List Call
 withMove m n [] = []
 withMove m n (wire i level ∷ es) = Wire i level ∷ withMove m n es
 withMove m n (page h f a v ∷ es) = PageWrite h f a v ∷ withMove m n es
 withMove m n (access ∷ es) = accessOf m (suc n) ∷ withMove m (suc n) es
 
+-- [01 V28 V29 V30]
 unfoldable pub withoutMove : Stations → List Event → List Call
 withoutMove m [] = []
 withoutMove m (wire i level ∷ es) = Wire i level ∷ withoutMove m es

@@ -38,6 +38,7 @@ structureRange d h = deliverySound (structureAt d h)
 unfoldable pub sourceZeroRule : List ℕ → Bool
 sourceZeroRule ws = not (member ws 0)
 
+-- [01 R7]
 unfoldable pub generatedRule : Domain → Bool
 generatedRule d = byMessages d || eqb (generatedAt d) 0
 
@@ -50,6 +51,7 @@ domainSound c ws d =
     && sourceZeroRule (d .enable)
     && every (structureRange d) 0 hartCount && every (sourceRule c ws d) 1 sourceCount
 
+-- [01 R4]
 unfoldable pub delegatedRule : Wired → ℕ → Bool
 delegatedRule w i = isDelegated w i || eqb (sourceAt (w .child) i .mode) 0
 

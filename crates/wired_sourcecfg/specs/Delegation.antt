@@ -20,6 +20,7 @@ use Rattle.wired_state.specs.Wires.{Wired, isDelegated}
 unfoldable pub sourceModed : Domain → ℕ → ℕ → Bool → Domain
 sourceModed d i mode wire = withSource d i (moded (sourceAt d i) (byMessages d) mode wire)
 
+-- [01 W19]
 unfoldable pub childWritten : Wired → ℕ → ℕ → Wired
 childWritten w i v =
     record {
@@ -28,6 +29,7 @@ childWritten w i v =
       child = sourceModed (w .child) i (sourceWord true (isDelegated w i) v) (member (w .wires) i);
     }
 
+-- [01 W17 W18]
 unfoldable pub rootWritten : Wired → ℕ → ℕ → Wired
 rootWritten w i v =
     record {

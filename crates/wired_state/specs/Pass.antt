@@ -12,6 +12,7 @@ pub record Out : Type 0 where
   pub wired : Wired
   pub messages : List ℕ
 
+-- [01 W45]
 unfoldable pub flushed : Wired → Out
 flushed w =
     let first = sent false (w .root) in

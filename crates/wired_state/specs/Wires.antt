@@ -21,6 +21,7 @@ use Rattle.source.specs.Pending.{wireChanged}
 use Rattle.domain.specs.Domain.{Domain, domainOf, byMessages}
 use Rattle.domain.specs.Slot.{sourceAt, withSource}
 
+-- [01 B5]
 pub record Wired : Type 0 where
   pub wires : List ℕ
   pub root : Domain

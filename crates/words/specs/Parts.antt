@@ -6,6 +6,7 @@
 --   packed hi at lo       the field hi from bit at on, above lo, a number below 2 ^ at
 use Prim.Native.Nat.{ℕ, _+_, _*_, _/_, _%_, _^_}
 
+-- [01 F2 W40]
 unfoldable pub reversed : ℕ → ℕ
 reversed w = w % 256 * 2 ^ 24 + w / 2 ^ 8 % 256 * 2 ^ 16 + w / 2 ^ 16 % 256 * 2 ^ 8 + w / 2 ^ 24 % 256
 

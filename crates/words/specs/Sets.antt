@@ -11,6 +11,7 @@ use mathlib.Core.List.{List}
 use lib.ListN.{getD, set}
 use Rattle.words.specs.Bits.{hasBit, withBit, withoutBit}
 
+-- [01 X11]
 unfoldable pub member : List ℕ → ℕ → Bool
 member ws i = hasBit (getD ws (i / 32) 0) (i % 32)
 

@@ -6,5 +6,6 @@ use Prim.Native.Nat.{ℕ}
 use mathlib.Core.Bool.{Bool, _||_}
 use lib.Dec.{eqb, ltb}
 
+-- [01 F17 M1 T2 T3]
 unfoldable pub passes : ℕ → ℕ → Bool
 passes t i = eqb t 0 || ltb i t
