@@ -104,7 +104,7 @@ Claim-150 =
 -- the pass of messages after a change, in each domain (c says that it is the child): nothing but pending bits
 -- changes, and no wire. A pending bit stays unless the domain has IE and DM and the source is active, pending
 -- and enabled: then it is cleared, and a message with the hart, file and identity of its target is sent
--- [01 W45]
+-- [01 W45 W47]
 unfoldable pub Claim-151 : Type 0
 Claim-151 =
     (call : Call) (b : Board) (s : List ℕ)

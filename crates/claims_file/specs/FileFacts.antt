@@ -116,7 +116,7 @@ Claim-29 =
     × ((i : ℕ) → i / 64 ≢ j → member (written 255 g f (Enable j) v .enable) i ≡ member (f .enable) i)
 
 -- the illegal select numbers are those below 0x70, those above 0xFF, and the odd ones from 0x80 on
--- [01 F10 F15]
+-- [01 F10 F14 F15]
 unfoldable pub Claim-30 : Type 0
 Claim-30 = (s : ℕ) → (selectLegal s ≡ false) ↔ ((s < 0x70) ⊎ ((0xFF < s) ⊎ ((0x80 ≤ s) × (s % 2 ≡ 1))))
 

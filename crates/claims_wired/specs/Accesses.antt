@@ -96,7 +96,7 @@ pub record ReadsBack (w : Wired) (c : Bool) (v : ℕ) : Type 0 where
   pub unused : readBack w c v Unused ≡ 0
 
 -- what every register reads where v was just written to it, before anything is sent
--- [01 W34]
+-- [01 W29 W34]
 unfoldable pub Claim-138 : Type 0
 Claim-138 = (w : Wired) → Sound w → (c : Bool) (v : ℕ) → ReadsBack w c v
 

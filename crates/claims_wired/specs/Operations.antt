@@ -66,6 +66,6 @@ SourcecfgsDo =
     (member (w .wires) i))
 
 -- each cause is what an operation does to its source
--- [01 W27 W28 W40 S12]
+-- [01 W27 W28 W40]
 unfoldable pub Claim-59 : Type 0
 Claim-59 = RegistersDo × WiresDo × SourcecfgsDo

@@ -40,7 +40,7 @@ Claim-147 =
     × (sourceAt d i .enabled ≡ true)))
 
 -- after the pass of messages no source of a domain that sends is left to be sent
--- [01 W47 R8]
+-- [01 R8]
 unfoldable pub Claim-51 : Type 0
 Claim-51 =
     (c : Bool) (d : Domain) → (isEnabled d && byMessages d) ≡ true
