@@ -33,6 +33,7 @@ Says 𝓤 asked ensured φ = ent 𝓤 (emp 𝓤) asked × ent 𝓤 ensured (fact
 -- the code of each function over a lent record meets its contract, which asks nothing of a caller and settles
 -- the record: a v below 2 is the new idelivery or iforce, any other v leaves the record as it was, the new
 -- ithreshold is v mod 256, and the other two numbers stay
+-- [01 S5]
 unfoldable pub Claim-179 : Type 2
 Claim-179 =
     (M : Type 1)
