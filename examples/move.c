@@ -24,7 +24,8 @@ typedef struct board {
 
 static board moved, still;
 static uint64_t saved[VSK_SAVED_NUMBERS];
-static unsigned calls, wrong;
+static unsigned calls;
+static int wrong;
 
 /* A call that must be done; its value. */
 static uint64_t done(vsk_answer a)

@@ -1,0 +1,82 @@
+/* The move of a station: its record, what bars an access, and what the 89 accesses leave. */
+#include "check.h"
+
+#include <string.h>
+
+#define OLD 0, VSK_GUEST_FILE(1)
+#define NEW 1, VSK_GUEST_FILE(2)
+#define S VSK_SUPERVISOR_DOMAIN
+
+static uint64_t saved[VSK_SAVED_NUMBERS];
+static uint64_t kept_saved[VSK_SAVED_NUMBERS];
+
+static int record_changed(void)
+{
+    return memcmp(saved, kept_saved, sizeof saved) != 0;
+}
+
+/* A station in old, which wire 9 reaches with identity 200; the record holds other numbers. */
+static void station(void)
+{
+    start();
+    DONE(vsk_domain_write(BLOCKS, S, VSK_DOMAINCFG, VSK_DOMAINCFG_IE | VSK_DOMAINCFG_DM), 0);
+    DONE(vsk_domain_write(BLOCKS, VSK_MACHINE_DOMAIN, VSK_SOURCECFG(9), VSK_SOURCE_DELEGATED), 0);
+    DONE(vsk_domain_write(BLOCKS, S, VSK_SOURCECFG(9), VSK_SOURCE_EDGE1), 0);
+    DONE(vsk_domain_write(BLOCKS, S, VSK_TARGET(9), VSK_TARGET_MESSAGE(0, 1, 200)), 0);
+    DONE(vsk_domain_write(BLOCKS, S, VSK_SETIENUM, 9), 0);
+    for (unsigned j = 0; j < 4; j++)
+        DONE(vsk_register(BLOCKS, OLD, VSK_WRITE, VSK_EIE(j), UINT64_C(0x10) << j), 0);
+    DONE(vsk_register(BLOCKS, OLD, VSK_WRITE, VSK_EITHRESHOLD, 222), 0);
+    DONE(vsk_register(BLOCKS, OLD, VSK_WRITE, VSK_EIDELIVERY, VSK_DELIVERY_ON), 0);
+    DONE(vsk_page_write(BLOCKS, OLD, VSK_SETEIPNUM_LE, 70), 0);
+    memset(saved, 0xA5, sizeof saved);
+    memcpy(kept_saved, saved, sizeof saved);
+}
+
+static void barred(void)
+{
+    const uint64_t far = UINT64_C(1) << 32;
+    station();
+    REFUSED(vsk_move(BLOCKS, OLD, NEW, 0, saved), VSK_NO_SUCH);
+    REFUSED(vsk_move(BLOCKS, OLD, NEW, VSK_ACCESSES + 1, saved), VSK_NO_SUCH);
+    REFUSED(vsk_move(BLOCKS, OLD, NEW, far + 1, saved), VSK_NO_SUCH);
+    REFUSED(vsk_move(BLOCKS, OLD, OLD, 1, saved), VSK_NO_SUCH);
+    REFUSED(vsk_move(BLOCKS, OLD, 3, VSK_SUPERVISOR_FILE, 1, saved), VSK_NO_SUCH);
+    REFUSED(vsk_move(BLOCKS, VSK_HARTS, 2, NEW, 1, saved), VSK_NO_SUCH);
+    REFUSED(vsk_move(BLOCKS, 0, VSK_FILES, NEW, 1, saved), VSK_NO_SUCH);
+    DONE(vsk_domain_write(BLOCKS, S, VSK_DOMAINCFG, VSK_DOMAINCFG_IE), 0);
+    REFUSED(vsk_move(BLOCKS, OLD, NEW, 1, saved), VSK_NO_SUCH); /* direct delivery */
+    CHECK(!record_changed());
+}
+
+/* The record changes by accesses 1, 2 and 72 to 79, the state by no access that only reads. */
+static void moved(void)
+{
+    station();
+    for (unsigned access = 1; access <= VSK_ACCESSES; access++) {
+        const int reads = access == 1 || access == 2 || (access >= 72 && access <= 79);
+        keep();
+        memcpy(kept_saved, saved, sizeof saved);
+        DONE(vsk_move(BLOCKS, OLD, NEW, access, saved), 0);
+        CHECK(record_changed() == reads);
+        CHECK(!reads || state_changes() == 0);
+        EQUAL(log_changes(), 0);
+        if (access == 40)
+            SENT(vsk_wire(BLOCKS, 9, 1), 0, 1); /* its target is rewritten already */
+    }
+    EQUAL(messages[0], VSK_LOGGED(1, VSK_GUEST_FILE(2), 200));
+    DONE(vsk_register(BLOCKS, NEW, VSK_READ, VSK_EIDELIVERY, 0), VSK_DELIVERY_ON);
+    DONE(vsk_register(BLOCKS, NEW, VSK_READ, VSK_EITHRESHOLD, 0), 222);
+    DONE(vsk_register(BLOCKS, NEW, VSK_READ, VSK_EIP(1), 0), VSK_IDENTITY_BIT(70));
+    DONE(vsk_register(BLOCKS, NEW, VSK_READ, VSK_EIP(3), 0), VSK_IDENTITY_BIT(200));
+    for (unsigned j = 0; j < 4; j++)
+        DONE(vsk_register(BLOCKS, NEW, VSK_READ, VSK_EIE(j), 0), UINT64_C(0x10) << j);
+    DONE(vsk_domain_read(BLOCKS, S, VSK_TARGET(9)), VSK_TARGET_MESSAGE(1, 2, 200));
+    DONE(vsk_register(BLOCKS, OLD, VSK_READ, VSK_EIDELIVERY, 0), VSK_DELIVERY_OFF);
+}
+
+void test_moves(void)
+{
+    barred();
+    moved();
+}
