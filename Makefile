@@ -1,11 +1,12 @@
-# make proves and builds what there is and runs the example in C; make test is the whole gate; see make help.
+# make proves and builds what there is and runs the tests and examples in C; make test is the whole gate; see
+# make help.
 .DEFAULT_GOAL := all
-.PHONY: all test check compare archives boards audit cases mutants bench example tools fmt style numbers layers \
-    pictures claims sentences clean help toolchain
+.PHONY: all test check compare ctest archives boards audit cases mutants bench example tools fmt style numbers
+.PHONY: layers pictures claims sentences clean help toolchain
 
 # rt check runs each program once it is proved, and compares what it wrote
 all: check
-	@$(MAKE) --no-print-directory example
+	@scripts/ctest
 
 # rt ci comes last and nothing follows it: its last line is the verdict
 test: toolchain
@@ -13,6 +14,7 @@ test: toolchain
 	@scripts/style
 	@rt fmt --check
 	@scripts/compare
+	@scripts/ctest
 	@scripts/boards
 	@rt ci
 
@@ -49,9 +51,13 @@ mutants: toolchain
 bench: toolchain
 	@scripts/bench
 
-# a monitor in C on the proved archive; it is skipped, and says so, where a tool that it needs is not there
+# the header against the compiled library, for the machine at hand; without gcc it is skipped, and says so
+ctest: toolchain
+	@scripts/ctest
+
+# the part of ctest that builds and runs the examples, with what they print
 example: toolchain
-	@scripts/example
+	@scripts/ctest --examples
 
 tools:
 	@scripts/board-tools
@@ -84,9 +90,9 @@ clean:
 	@rm -rf target
 
 help:
-	@echo "make          prove every crate, build and run the programs and the C example"
-	@echo "make test     the whole gate: style, layout, the second program, then rt ci, from nothing; its last line is"
-	@echo "              the verdict"
+	@echo "make          prove every crate, build and run the programs, the tests in C and the examples in C"
+	@echo "make test     the whole gate: style, layout, the second program, the tests in C, the archives of the"
+	@echo "              boards, then rt ci, from nothing; its last line is the verdict"
 	@echo "make check    prove what changed since it was last proved, and run the programs"
 	@echo "make compare  compare the proved archive, compiled for this machine, with the second program"
 	@echo "make archives write target/archives: the proved archive for x86-64, aarch64 and RISC-V (lp64d, lp64)"
@@ -95,7 +101,8 @@ help:
 	@echo "make cases    have the second program write anew what the program cases is run on"
 	@echo "make mutants  try wrong models: the comparison has to see each"
 	@echo "make bench    time every call, and count its instructions, beside plain C with the same promises"
-	@echo "make example  prove what the C functions need, build the examples in C on them, run and compare them"
+	@echo "make ctest    hold the C header to the compiled library: prototypes, tests, programs to be refused"
+	@echo "make example  build the examples in C for this machine, run them, print and compare what they print"
 	@echo "make tools    install what boards needs for RISC-V (Debian, as root): a C compiler and an emulator"
 	@echo "make fmt      bring every source file under crates/ into the layout"
 	@echo "make style    what the checker does not see: sizes, layers, width, headers, holes, contracts, names, paths"
