@@ -42,6 +42,8 @@ static void topi(void)
     EQUAL(word(VSK_TOPI(HART)), 0);
     put(VSK_ITHRESHOLD(HART), 3);
     EQUAL(word(VSK_TOPI(HART)), 0x00080002);
+    put(VSK_ITHRESHOLD(HART), 0x1FF);
+    EQUAL(word(VSK_ITHRESHOLD(HART)), 255);
     put(VSK_ITHRESHOLD(HART), 256);
     EQUAL(word(VSK_ITHRESHOLD(HART)), 0);
     put(VSK_TOPI(HART), 1);
@@ -112,6 +114,9 @@ static void signals(void)
     put(VSK_DOMAINCFG, VSK_DOMAINCFG_IE);
     DONE(vsk_signals(BLOCKS, HART), 0);
     put(VSK_IDELIVERY(HART), 1);
+    put(VSK_IDELIVERY(HART), 2); /* keeps the old value */
+    EQUAL(word(VSK_IDELIVERY(HART)), 1);
+    EQUAL(word(VSK_IFORCE(HART)), 0);
     DONE(vsk_signals(BLOCKS, HART), VSK_SIGNAL(VSK_MACHINE_FILE));
     DONE(vsk_register(BLOCKS, HART, VSK_MACHINE_FILE, VSK_WRITE, VSK_EIDELIVERY, VSK_DELIVERY_ON), 0);
     DONE(vsk_signals(BLOCKS, HART), 0);

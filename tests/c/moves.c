@@ -3,27 +3,42 @@
 
 #include <string.h>
 
-#define OLD 0, VSK_GUEST_FILE(1)
-#define NEW 1, VSK_GUEST_FILE(2)
+#define OLD 1, VSK_GUEST_FILE(2)
+#define NEW 2, VSK_GUEST_FILE(3)
 #define S VSK_SUPERVISOR_DOMAIN
 
 static uint64_t saved[VSK_SAVED_NUMBERS];
 static uint64_t kept_saved[VSK_SAVED_NUMBERS];
+
+/* Targets that do not name old: another hart, below and above it, and another guest of its hart. */
+static const uint32_t beside[] = {
+    VSK_TARGET_MESSAGE(0, 2, 201), VSK_TARGET_MESSAGE(3, 2, 202),
+    VSK_TARGET_MESSAGE(1, 1, 203), VSK_TARGET_MESSAGE(1, 3, 204), VSK_TARGET_MESSAGE(1, 0, 205),
+};
 
 static int record_changed(void)
 {
     return memcmp(saved, kept_saved, sizeof saved) != 0;
 }
 
-/* A station in old, which wire 9 reaches with identity 200; the record holds other numbers. */
+/* Source i of the child, with a target. */
+static void targeted(unsigned i, uint32_t target)
+{
+    DONE(vsk_domain_write(BLOCKS, VSK_MACHINE_DOMAIN, VSK_SOURCECFG(i), VSK_SOURCE_DELEGATED), 0);
+    DONE(vsk_domain_write(BLOCKS, S, VSK_SOURCECFG(i), VSK_SOURCE_EDGE1), 0);
+    DONE(vsk_domain_write(BLOCKS, S, VSK_TARGET(i), target), 0);
+}
+
+/* A station in old, which wire 9 reaches with identity 200; other sources go to files beside it. The record
+ * holds other numbers. */
 static void station(void)
 {
     start();
     DONE(vsk_domain_write(BLOCKS, S, VSK_DOMAINCFG, VSK_DOMAINCFG_IE | VSK_DOMAINCFG_DM), 0);
-    DONE(vsk_domain_write(BLOCKS, VSK_MACHINE_DOMAIN, VSK_SOURCECFG(9), VSK_SOURCE_DELEGATED), 0);
-    DONE(vsk_domain_write(BLOCKS, S, VSK_SOURCECFG(9), VSK_SOURCE_EDGE1), 0);
-    DONE(vsk_domain_write(BLOCKS, S, VSK_TARGET(9), VSK_TARGET_MESSAGE(0, 1, 200)), 0);
+    targeted(9, VSK_TARGET_MESSAGE(1, 2, 200));
     DONE(vsk_domain_write(BLOCKS, S, VSK_SETIENUM, 9), 0);
+    for (unsigned k = 0; k < sizeof beside / sizeof beside[0]; k++)
+        targeted(10 + k, beside[k]);
     for (unsigned j = 0; j < 4; j++)
         DONE(vsk_register(BLOCKS, OLD, VSK_WRITE, VSK_EIE(j), UINT64_C(0x10) << j), 0);
     DONE(vsk_register(BLOCKS, OLD, VSK_WRITE, VSK_EITHRESHOLD, 222), 0);
@@ -64,14 +79,16 @@ static void moved(void)
         if (access == 40)
             SENT(vsk_wire(BLOCKS, 9, 1), 0, 1); /* its target is rewritten already */
     }
-    EQUAL(messages[0], VSK_LOGGED(1, VSK_GUEST_FILE(2), 200));
+    EQUAL(messages[0], VSK_LOGGED(2, VSK_GUEST_FILE(3), 200));
     DONE(vsk_register(BLOCKS, NEW, VSK_READ, VSK_EIDELIVERY, 0), VSK_DELIVERY_ON);
     DONE(vsk_register(BLOCKS, NEW, VSK_READ, VSK_EITHRESHOLD, 0), 222);
     DONE(vsk_register(BLOCKS, NEW, VSK_READ, VSK_EIP(1), 0), VSK_IDENTITY_BIT(70));
     DONE(vsk_register(BLOCKS, NEW, VSK_READ, VSK_EIP(3), 0), VSK_IDENTITY_BIT(200));
     for (unsigned j = 0; j < 4; j++)
         DONE(vsk_register(BLOCKS, NEW, VSK_READ, VSK_EIE(j), 0), UINT64_C(0x10) << j);
-    DONE(vsk_domain_read(BLOCKS, S, VSK_TARGET(9)), VSK_TARGET_MESSAGE(1, 2, 200));
+    DONE(vsk_domain_read(BLOCKS, S, VSK_TARGET(9)), VSK_TARGET_MESSAGE(2, 3, 200));
+    for (unsigned k = 0; k < sizeof beside / sizeof beside[0]; k++)
+        DONE(vsk_domain_read(BLOCKS, S, VSK_TARGET(10 + k)), beside[k]);
     DONE(vsk_register(BLOCKS, OLD, VSK_READ, VSK_EIDELIVERY, 0), VSK_DELIVERY_OFF);
 }
 

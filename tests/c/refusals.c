@@ -46,6 +46,30 @@ static void rules(void)
     DONE(vsk_top(BLOCKS, 0, 0), 0);
 }
 
+/* A word out of its range, by its place in docs/LAYOUT.md, on a board after a reset: refusal 3. */
+static void ranges(void)
+{
+    static const uint32_t broken[][2] = {
+        {0, 2}, {1, 256}, {2, 1}, {10, 1},            /* hart 0, file 0: delivery, threshold, identity 0 */
+        {36, 0x40000000},                             /* hart 0, file 2: a guest follows no domain */
+        {342, 2}, {343, 256}, {344, 1}, {352, 1},     /* hart 3, file 4 */
+        {360, 1},                                     /* wire 0 */
+        {362, 1}, {363, 2}, {425, 8}, {426, 1},       /* machine: domaincfg, sourcecfg[1], [63], genmsi */
+        {427, 1}, {489, 1}, {490, 2}, {492, 2},       /* targets, pending and enable of an inactive source */
+        {494, 2}, {495, 2}, {496, 256}, {505, 256},   /* idelivery, iforce, ithreshold, that of hart 3 */
+        {506, 1}, {507, 4}, {570, 1}, {571, 1},       /* child: domaincfg, undelegated, genmsi, target */
+        {634, 2}, {636, 2}, {638, 2}, {649, 256},     /* pending, enable, idelivery, ithreshold of hart 3 */
+    };
+    start();
+    for (unsigned n = 0; n < sizeof broken / sizeof broken[0]; n++) {
+        const uint32_t was = state[broken[n][0]];
+        state[broken[n][0]] = broken[n][1];
+        REFUSED(vsk_signals(BLOCKS, 0), VSK_BROKEN_RULE);
+        state[broken[n][0]] = was;
+        DONE(vsk_signals(BLOCKS, 0), 0);
+    }
+}
+
 static void no_such(void)
 {
     start();
@@ -103,6 +127,7 @@ void test_refusals(void)
     memset(saved, 0, sizeof saved);
     lengths();
     rules();
+    ranges();
     no_such();
     addresses();
     selects();

@@ -49,11 +49,16 @@ static void sourcecfg(void)
     put(M, VSK_SOURCECFG(9), VSK_SOURCE_DELEGATED | VSK_SOURCE_EDGE1);
     EQUAL(word(M, VSK_SOURCECFG(9)), VSK_SOURCE_DELEGATED);
     put(S, VSK_SOURCECFG(9), VSK_SOURCE_EDGE1);
+    put(M, VSK_SOURCECFG(9), VSK_SOURCE_DELEGATED); /* again */
     EQUAL(word(S, VSK_SOURCECFG(9)), VSK_SOURCE_EDGE1);
     put(S, VSK_SOURCECFG(9), 2);
     EQUAL(word(S, VSK_SOURCECFG(9)), 0);
-    put(M, VSK_SOURCECFG(9), 3);
+    put(S, VSK_SOURCECFG(9), VSK_SOURCE_EDGE0);
+    put(M, VSK_SOURCECFG(9), 3); /* taken back */
     EQUAL(word(M, VSK_SOURCECFG(9)), 0);
+    EQUAL(word(S, VSK_SOURCECFG(9)), 0);
+    put(M, VSK_SOURCECFG(9), VSK_SOURCE_DELEGATED);
+    EQUAL(word(S, VSK_SOURCECFG(9)), 0);
 }
 
 /* in_clrip reads a wire as it is, whatever the mode makes of it. */
@@ -95,7 +100,9 @@ static void numbers(void)
     EQUAL(word(M, VSK_SETIE(0)), VSK_SOURCE_BIT(5));
     put(M, VSK_CLRIE(0), VSK_SOURCE_BIT(5));
     EQUAL(word(M, VSK_SETIE(0)), 0);
-    EQUAL(word(M, VSK_SETIPNUM) | word(M, VSK_CLRIE(0)), 0);
+    put(M, VSK_SETIENUM, 5);
+    EQUAL(word(M, VSK_SETIPNUM) | word(M, VSK_SETIPNUM_LE) | word(M, VSK_SETIPNUM_BE), 0);
+    EQUAL(word(M, VSK_CLRIPNUM) | word(M, VSK_SETIENUM) | word(M, VSK_CLRIENUM) | word(M, VSK_CLRIE(0)), 0);
 }
 
 /* With IE, a change of DM sends at once what is pending and enabled, with identity 0: to the machine file of
@@ -121,6 +128,31 @@ static void changed_with_ie(uint64_t domain, uint32_t logged)
     put(domain, VSK_DOMAINCFG, VSK_DOMAINCFG_IE); /* and to direct delivery: hart 0, priority 1 */
     EQUAL(word(domain, VSK_TARGET(6)), VSK_TARGET_DIRECT(0, 1));
     EQUAL(word(domain, VSK_TOPI(0)), 0x00060001);
+}
+
+/* A change of DM restarts every target and genmsi, and is no rise of a wire. */
+static void changed_alone(void)
+{
+    start();
+    for (unsigned i = 1; i <= VSK_SOURCES; i++) {
+        active(M, i, VSK_SOURCE_EDGE1);
+        put(M, VSK_TARGET(i), VSK_TARGET_DIRECT(i, i));
+        DONE(vsk_wire(BLOCKS, i, 1), 0);
+        put(M, VSK_CLRIPNUM, i);
+    }
+    put(M, VSK_DOMAINCFG, VSK_DOMAINCFG_DM);
+    for (unsigned i = 1; i <= VSK_SOURCES; i++) {
+        EQUAL(word(M, VSK_TARGET(i)), 0);
+        put(M, VSK_TARGET(i), VSK_TARGET_MESSAGE(i, 0, i));
+    }
+    put(M, VSK_DOMAINCFG, VSK_DOMAINCFG_DM); /* the same DM */
+    EQUAL(word(M, VSK_TARGET(63)), VSK_TARGET_MESSAGE(63, 0, 63));
+    put(M, VSK_DOMAINCFG, 0);
+    for (unsigned i = 1; i <= VSK_SOURCES; i++)
+        EQUAL(word(M, VSK_TARGET(i)), VSK_TARGET_DIRECT(0, 1));
+    EQUAL(word(M, VSK_SETIP(0)) | word(M, VSK_SETIP(1)), 0);
+    EQUAL(word(M, VSK_SETIE(0)), 0xFFFFFFFE);
+    EQUAL(word(M, VSK_SETIE(1)), 0xFFFFFFFF);
 }
 
 /* Without IE nothing goes out before the targets are written. */
@@ -156,6 +188,26 @@ static void targets(void)
     put(S, VSK_SOURCECFG(8), VSK_SOURCE_INACTIVE);
     put(S, VSK_SOURCECFG(8), VSK_SOURCE_EDGE1);
     EQUAL(word(S, VSK_TARGET(8)), 0);
+}
+
+/* Each domain in each mode keeps its own fields of a target. */
+static void kept_fields(void)
+{
+    start();
+    active(M, 10, VSK_SOURCE_EDGE1);
+    active(S, 11, VSK_SOURCE_EDGE1);
+    put(S, VSK_TARGET(11), VSK_TARGET_MESSAGE(2, 3, 0)); /* direct: no guest, and a priority */
+    EQUAL(word(S, VSK_TARGET(11)), VSK_TARGET_DIRECT(2, 1));
+    put(M, VSK_DOMAINCFG, VSK_DOMAINCFG_DM);
+    put(S, VSK_DOMAINCFG, VSK_DOMAINCFG_DM);
+    put(M, VSK_TARGET(10), VSK_TARGET_MESSAGE(2, 3, 0)); /* by messages: no guest, identity 0 stays */
+    EQUAL(word(M, VSK_TARGET(10)), VSK_TARGET_MESSAGE(2, 0, 0));
+    put(S, VSK_TARGET(11), VSK_TARGET_MESSAGE(2, 3, 0));
+    EQUAL(word(S, VSK_TARGET(11)), VSK_TARGET_MESSAGE(2, 3, 0));
+    put(M, VSK_TARGET(10), 0xFFFFFFFF);
+    put(S, VSK_TARGET(11), 0xFFFFFFFF);
+    EQUAL(word(M, VSK_TARGET(10)), VSK_TARGET_MESSAGE(3, 0, 255));
+    EQUAL(word(S, VSK_TARGET(11)), VSK_TARGET_MESSAGE(3, 3, 255));
 }
 
 static void genmsi(void)
@@ -200,8 +252,10 @@ void test_wired(void)
     numbers();
     changed_with_ie(M, 0);
     changed_with_ie(S, VSK_LOGGED(0, VSK_SUPERVISOR_FILE, 0));
+    changed_alone();
     changed_without_ie();
     targets();
+    kept_fields();
     genmsi();
     unnamed();
 }
