@@ -38,6 +38,6 @@ wiredWords w = w .wires ++ domainWords (w .root) ++ domainWords (w .child)
 unfoldable pub blockOf : Board → List ℕ
 blockOf b = wordsOf (b .files) ++ wiredWords (b .wired)
 
--- [01 C11]
+-- [01 C12]
 unfoldable pub boardSound : Board → Bool
 boardSound b = filesSound (b .files) && wiredSound (b .wired)

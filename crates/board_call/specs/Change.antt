@@ -62,7 +62,7 @@ abbrev pub onWired : Board → Wired → ℕ → List ℕ → List ℕ → Chang
 onWired b w v ms s =
     record { board = record { files = b .files; wired = w }; value = v; own = ms; saved = s }
 
--- [01 C2 W51]
+-- [01 C2 W52]
 abbrev pub onFile : Board → ℕ → File → ℕ → List ℕ → Changed
 onFile b k f v s =
     record {
@@ -72,7 +72,7 @@ onFile b k f v s =
       saved = s;
     }
 
--- [01 C6]
+-- [01 C7]
 abbrev pub answering : Board → ℕ → List ℕ → Changed
 answering b v s = record { board = b; value = v; own = []; saved = s }
 

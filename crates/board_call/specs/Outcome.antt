@@ -29,7 +29,7 @@ pub record Stepped : Type 0 where
   pub messages : List ℕ
   pub saved : List ℕ
 
--- [01 B15]
+-- [01 B15 W45]
 unfoldable pub thenSent : Changed → Stepped
 thenSent x =
     let after = flushed (x .board .wired) in
@@ -53,11 +53,11 @@ pub record Outcome : Type 0 where
   pub log : List ℕ
   pub saved : List ℕ
 
--- [01 C18 V4]
+-- [01 C19 V4]
 abbrev pub refusedAs : ℕ → List ℕ → List ℕ → List ℕ → Outcome
 refusedAs n l g s = record { number = n; value = 0; count = 0; block = l; log = g; saved = s }
 
--- [01 C8 W49 X7 X10]
+-- [01 C9 W50 X7 X10]
 abbrev pub doneAs : Stepped → List ℕ → Outcome
 doneAs x g =
     record {

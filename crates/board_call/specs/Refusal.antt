@@ -36,7 +36,7 @@ use Rattle.board_call.specs.declared.Call.{Call}
 use Rattle.board_call.specs.declared.Call.the-variants.{Reset, Wire, DomainRead, DomainWrite, PageRead}
 use Rattle.board_call.specs.declared.Call.the-variants.{PageWrite, Register, Top, Claim, Signals, Move}
 
--- [01 C20]
+-- [01 C21]
 unfoldable pub isWire : ℕ → ℕ → Bool
 isWire w level = leb 1 w && leb w sourceCount && leb level 1
 
@@ -47,16 +47,16 @@ isFile h f = ltb h hartCount && ltb f hartFiles
 unfoldable pub isGuestFile : ℕ → ℕ → Bool
 isGuestFile h f = ltb h hartCount && leb firstGuest f && ltb f hartFiles
 
--- [01 C13 V9 V10]
+-- [01 C14 V9 V10]
 unfoldable pub isMove : ℕ → ℕ → ℕ → ℕ → ℕ → Bool
 isMove oh of nh nf n =
     isGuestFile oh of && isGuestFile nh nf && not (eqb oh nh && eqb of nf) && leb 1 n && leb n accesses
 
--- [01 C21]
+-- [01 C22]
 unfoldable pub isPageAddress : ℕ → Bool
 isPageAddress a = eqb (a % 4) 0 && ltb a 4096
 
--- [01 C19]
+-- [01 C20]
 unfoldable pub testsRules : Call → Bool
 testsRules Reset = false
 testsRules (Wire w level) = true
@@ -70,7 +70,7 @@ testsRules (Claim h f) = true
 testsRules (Signals h) = true
 testsRules (Move oh of nh nf n) = true
 
--- [01 C12 V11]
+-- [01 C13 V11]
 unfoldable pub present : Call → Board → Bool
 present Reset b = true
 present (Wire w level) b = isWire w level
@@ -84,7 +84,7 @@ present (Claim h f) b = isFile h f
 present (Signals h) b = ltb h hartCount
 present (Move oh of nh nf n) b = isMove oh of nh nf n && byMessages (b .wired .child)
 
--- [01 C14]
+-- [01 C15]
 unfoldable pub addressed : Call → Bool
 addressed Reset = true
 addressed (Wire w level) = true
@@ -98,7 +98,7 @@ addressed (Claim h f) = true
 addressed (Signals h) = true
 addressed (Move oh of nh nf n) = true
 
--- [01 C15]
+-- [01 C16]
 unfoldable pub selected : Call → Bool
 selected Reset = true
 selected (Wire w level) = true
@@ -116,12 +116,12 @@ pub record Test : Type 0 where
   pub number : ℕ
   pub passed : Bool
 
--- [01 C17]
+-- [01 C18]
 unfoldable pub firstFailed : List Test → ℕ
 firstFailed [] = 0
 firstFailed (t ∷ ts) = cond (t .passed) (firstFailed ts) (t .number)
 
--- [01 C9 C10 C11]
+-- [01 C10 C11 C12]
 unfoldable pub blockTests : Bool → List ℕ → List ℕ → List Test
 blockTests t l g =
     record { number = 1; passed = eqb (length l) blockSize }
@@ -142,6 +142,6 @@ blockRefusal t l g = firstFailed (blockTests t l g)
 unfoldable pub nameRefusal : Call → Board → ℕ
 nameRefusal c b = firstFailed (nameTests c b)
 
--- [01 C7 X5]
+-- [01 C8 X5]
 unfoldable pub refusalOf : Call → List ℕ → List ℕ → ℕ
 refusalOf c l g = firstFailed (blockTests (testsRules c) l g ++ nameTests c (boardOf l))

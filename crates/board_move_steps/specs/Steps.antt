@@ -31,7 +31,7 @@ pendingAt k = 2 + k
 abbrev pub enableAt : ℕ → ℕ
 enableAt k = 6 + k
 
--- [01 V5 V6 V7 V15 V16 V19 V20 V21 V30 M3]
+-- [01 V5 V6 V7 V15 V16 V19 V20 V21 V30 M3 M4]
 unfoldable pub actOf : ℕ → Act
 actOf n =
     -- 1. save old delivery and threshold, set old delivery 0

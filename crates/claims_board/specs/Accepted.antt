@@ -41,7 +41,7 @@ use Rattle.board_runs.specs.Ready.{boardIn, Ready}
 -- an accepted call answers 0, its value, and the number of the messages that it sent; the block is that of
 -- the board that `step` says; the messages stand first in the log, in order, and later log words stay; both
 -- blocks keep their lengths
--- [01 C8 W48 W49 X7 X10]
+-- [01 C9 W49 W50 X7 X10]
 unfoldable pub Claim-171 : Type 0
 Claim-171 =
     (c : Call) (x : Lent) → Ready x → Small c → nameRefusal c (boardIn x) ≡ 0
@@ -56,7 +56,7 @@ Claim-171 =
 
 -- reset, a wire, a move, a write and a read of a page answer 0; a top and a claim the top as it was, and the
 -- signals those of the hart's five files
--- [01 C4 C6 X6]
+-- [01 C4 C7 X6]
 unfoldable pub Claim-172 : Type 0
 Claim-172 =
     (b : Board) (s : List ℕ)

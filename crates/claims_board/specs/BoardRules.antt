@@ -25,7 +25,7 @@ pub record FileKept (f : ℕ) (x : File) : Type 0 where
 
 -- a board keeps the state rules exactly if each file f of each hart h keeps those of a file, and the wired
 -- controller its own; every block of 650 words has the lengths that this asks
--- [01 B2 C11 R2]
+-- [01 B2 C12 R2]
 unfoldable pub Claim-118 : Type 0
 Claim-118 =
     ((b : Board) → Long (b .wired)

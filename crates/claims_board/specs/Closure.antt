@@ -104,7 +104,7 @@ Claim-150 =
 -- the pass of messages after a change, in each domain (c says that it is the child): nothing but pending bits
 -- changes, and no wire. A pending bit stays unless the domain has IE and DM and the source is active, pending
 -- and enabled: then it is cleared, and a message with the hart, file and identity of its target is sent
--- [01 W45 W47]
+-- [01 W45 W46 W48]
 unfoldable pub Claim-151 : Type 0
 Claim-151 =
     (call : Call) (b : Board) (s : List ℕ)
@@ -170,7 +170,7 @@ maySend (Signals h) = false
 maySend (Move oh of nh nf n) = false
 
 -- a call that is neither a wire nor a write to a domain sends nothing, and leaves the board as its change did
--- [01 W51]
+-- [01 W52]
 unfoldable pub Claim-154 : Type 0
 Claim-154 =
     (b : Board) → Fit b → (c : Call) → nameRefusal c b ≡ 0 → maySend c ≡ false → (s : List ℕ)
@@ -181,7 +181,7 @@ Claim-154 =
 -- the messages of a call reach the files that they name with the identities that they name, and nothing
 -- else: identity i of file f of hart h is pending if it was, or if the message 2048 h + 256 f + i was sent.
 -- Identity 0 stays, and so do delivery, threshold and enable bits
--- [01 B15 B17 W50]
+-- [01 B15 B17 W51]
 unfoldable pub Claim-152 : Type 0
 Claim-152 =
     (b : Board) → Fit b → (c : Call) → nameRefusal c b ≡ 0 → (s : List ℕ) (h f : ℕ) → h < 4 → f < 5

@@ -28,7 +28,7 @@ use Rattle.claims_wired.specs.Rules.{Sound}
 
 -- a wire is set, and wire i stays at its level: source i stays as it was, and in a domain that sends it is
 -- not to be sent. So a level source that was sent is not sent again by itself while its wire stays high
--- [01 M4]
+-- [01 M5]
 unfoldable pub Claim-96 : Type 0
 Claim-96 =
     (w : Wired) → Sound w → (j : ℕ) → 1 ≤ j → j ≤ 63 → (level : Bool)
@@ -40,7 +40,7 @@ Claim-96 =
 -- the call on wire i, with its messages: no other source changes, in either domain; source i is what the wire
 -- makes of it, and where the domain sends it is then sent if it is to be. Its message is sent exactly then,
 -- and no other
--- [01 W50]
+-- [01 W51]
 unfoldable pub Claim-97 : Type 0
 Claim-97 =
     (w : Wired) → Sound w → (i : ℕ) → 1 ≤ i → i ≤ 63 → (level : Bool)

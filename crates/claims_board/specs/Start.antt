@@ -42,7 +42,7 @@ pub record DomainAtStart (d : Domain) : Type 0 where
 -- reset answers 0, sends nothing and leaves the log and any record. On what it leaves no call is refused for
 -- its blocks, domaincfg reads 0x80000000 in both domains, delivery is 0x40000000 in files 0 and 1 of each
 -- hart, the wires are low, and everything else is 0
--- [01 C19 R9 R10]
+-- [01 C20 R9 R10]
 unfoldable pub Claim-160 : Type 0
 Claim-160 =
     (l g s : List ℕ) → length l ≡ 650 → length g ≡ 63

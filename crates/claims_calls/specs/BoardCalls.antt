@@ -114,7 +114,7 @@ Passes c l g =
     (length l ≡ 650) × (length g ≡ 63) × (testsRules c ≡ true → boardSound (boardOf l) ≡ true)
 
 -- the table of refusals: each number where it applies and no lower one does, and 0 where none does
--- [01 B7 B10 C7 C8 C9 C10 C11 C12 C13 C14 C15 C17 X5]
+-- [01 B7 B10 C8 C9 C10 C11 C12 C13 C14 C15 C16 C18 X5]
 unfoldable pub Claim-84 : Type 0
 Claim-84 =
     (c : Call) (l g : List ℕ) → let b = boardOf l in
@@ -128,7 +128,7 @@ Claim-84 =
     × (Passes c l g → present c b ≡ true → addressed c ≡ true → selected c ≡ true → refusalOf c l g ≡ 0)
 
 -- a refused call answers its number, 0 and 0, and changes neither block, nor the record of a move
--- [01 C18 V4]
+-- [01 C19 V4]
 unfoldable pub Claim-85 : Type 0
 Claim-85 =
     (c : Call) (l g s : List ℕ) → refusalOf c l g ≢ 0

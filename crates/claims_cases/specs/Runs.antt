@@ -41,7 +41,7 @@ delegated =
 
 -- the table cases T1 to T11 by whole calls: from the block that a reset leaves, what the last call answers,
 -- with the first word of the log, and what it leaves
--- [01 T1 T2 T3 T4 T5 T6 T7 T8 T9 T10 T11 X6]
+-- [01 M6 T1 T2 T3 T4 T5 T6 T7 T8 T9 T10 T11 X6]
 unfoldable pub Claim-163 : Type 0
 Claim-163 =
     -- T1, T2, T3

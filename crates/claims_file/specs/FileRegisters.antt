@@ -77,7 +77,7 @@ pub record EnableAlone (f f′ : File) : Type 0 where
 
 -- select 0x80 + 2j: a read shows identities 64j to 64j + 63; a write replaces these, but that identity 0 is
 -- always 0, and nothing else
--- [01 C6 F9 F11]
+-- [01 C7 F9 F11]
 unfoldable pub Claim-122 : Type 0
 Claim-122 =
     (g : Bool) (f : File) (j v : ℕ) → Shaped f → j < 4
@@ -137,7 +137,7 @@ pub record SetOrCleared (g : Bool) (f : File) (j v : ℕ) : Type 0 where
   pub clearEnableRest : EnableAlone f (accessed 255 g f Clear (0xC0 + 2 * j) v .file)
 
 -- a set or clear answers the old value and writes old-or-value, or old without value, bit by bit
--- [01 C5]
+-- [01 C5 C6]
 unfoldable pub Claim-124 : Type 0
 Claim-124 =
     (g : Bool) (f : File) (v : ℕ)

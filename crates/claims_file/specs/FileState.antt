@@ -50,7 +50,7 @@ pub record BytesReversed (v : ℕ) : Type 0 where
 
 -- a page write reaches identity j at offset 0 exactly with j, and at offset 4 with j in the top byte alone;
 -- all other offsets do nothing, and all reads give 0
--- [01 B3 C22 F1 F2 F3]
+-- [01 B3 C23 F1 F2 F3]
 unfoldable pub Claim-126 : Type 0
 Claim-126 =
     ((f : File) (a v : ℕ) → Shaped f → PageWords f a v) × ((v : ℕ) → v < 2 ^ 32 → BytesReversed v)

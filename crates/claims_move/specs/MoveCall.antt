@@ -46,7 +46,7 @@ use Rattle.monitor.proofs.vsk_move.Reads as vsk-move
 
 -- the call, and the function that C calls, for any numbers, any blocks and any record: the answer, both
 -- blocks and the record are those of the outcome; and nothing is asked of the caller
--- [01 C4 C16 V1 V2 V3 V4 X2]
+-- [01 C4 C17 V1 V2 V3 V4 X2]
 unfoldable pub Claim-100 : Type 0
 Claim-100 =
     (l : Lfts 3) (b b′ g g′ s s′ : RefT (List ℕ)) (oh of nh nf n : ℕ)
@@ -66,7 +66,7 @@ Claim-100 =
 
 -- an access is not barred exactly if old and new are two different guest files, each a file 2 to 4 of a hart
 -- 0 to 3, its number is 1 to 89, and the child domain is not in direct mode
--- [01 C13 V9 V10 V11]
+-- [01 C14 V9 V10 V11]
 unfoldable pub Claim-101 : Type 0
 Claim-101 =
     (b : Board) (oh of nh nf n : ℕ)

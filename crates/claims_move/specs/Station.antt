@@ -57,7 +57,7 @@ MovedWhere P =
 -- demand 3: the new file is the one that the station would have had with no move; every file but old and
 -- new, every wire, and every pending and enable bit of both domains is the same as with no move; and so is
 -- all else of the machine domain, and the sourcecfg words and delivery structures of the child
--- [01 V22 V23 V30 X8 X9]
+-- [01 V22 V23 V30 M4 X8 X9]
 unfoldable pub Claim-105 : Type 0
 Claim-105 =
     MovedWhere (λ m x y. let b = boardIn x in
@@ -80,7 +80,7 @@ Claim-106 =
     → AllAccesses es → PagesKept m 0 es → AccessesDone m 0 es x
 
 -- no scan is dropped: what is pending for the station with no move is pending in its new file
--- [01 M3]
+-- [01 M4]
 unfoldable pub Claim-107 : Type 0
 Claim-107 =
     MovedWhere (λ m x y. (i : ℕ) → member (oldIn m (boardIn y) .pending) i ≡ true

@@ -122,7 +122,7 @@ rowHolds r =
 
 -- the table holds: each mode, delivery mode and cause of a row has the row's effect on the pending bit,
 -- whatever the bits were
--- [01 W28 S12 M2 M4]
+-- [01 W28 S12 M2 M5]
 unfoldable pub Claim-40 : Type 0
 Claim-40 = every rowHolds table ≡ true
 

@@ -31,7 +31,7 @@ Claim-43 =
 
 -- in direct mode topi that is not 0 is source × 65536 + priority of a source that qualifies, with the least
 -- priority number, and the lowest source among equals
--- [01 S7 S8 S10 M5]
+-- [01 S7 S8 S10 M6]
 unfoldable pub Claim-44 : Type 0
 Claim-44 =
     (d : Domain) (h : ℕ) → byMessages d ≡ false → topiOf d h ≢ 0

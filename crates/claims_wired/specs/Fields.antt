@@ -12,7 +12,7 @@ use Rattle.source_target.specs.Target.{hartOf, guestOf, numberOf, startTarget, 
 -- 7:0; its start value is 1 in direct mode and 0 by messages; its message is logged as hart × 2048 + file ×
 -- 256 + identity, file 0 from the machine domain and 1 + guest index from the child; and a logged word names
 -- that file of that hart, with that identity
--- [01 W30 W31 W32 W33 W35 W48]
+-- [01 W30 W31 W32 W33 W35 W49]
 unfoldable pub Claim-146 : Type 0
 Claim-146 =
     ((t : ℕ) → (hartOf t ≡ t / 2 ^ 18 % 4) × (guestOf t ≡ t / 2 ^ 12 % 4) × (numberOf t ≡ t % 256))

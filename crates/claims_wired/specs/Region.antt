@@ -85,7 +85,7 @@ Claim-130 =
 
 -- the number registers, clrie and every address with no register read 0; such an address, topi and claimi
 -- ignore writes
--- [01 B14 C22 W38]
+-- [01 B14 C23 W38]
 unfoldable pub Claim-131 : Type 0
 Claim-131 =
     (c : Bool) (d : Domain) (wires : List ℕ)

@@ -21,7 +21,7 @@ use Rattle.domain_sending_laws.specs.Candidates.{candidates, messageAt, DomainP
 
 -- a domain sends the messages of its active, pending and enabled sources, ascending, and none if IE and DM
 -- are not both 1
--- [01 W46]
+-- [01 W46 W47]
 unfoldable pub Claim-50 : Type 0
 Claim-50 =
     (c : Bool) (d : Domain)
@@ -30,7 +30,7 @@ Claim-50 =
 
 -- the sources that a domain sends are in ascending order, and exactly those of 1 to 63 that are active,
 -- pending and enabled
--- [01 W46]
+-- [01 W47]
 unfoldable pub Claim-147 : Type 0
 Claim-147 =
     (d : Domain) → let cs = candidates d in
@@ -55,7 +55,7 @@ Claim-52 =
     × ((k : ℕ) → k < length (sent c d .messages) → Names c (getD (sent c d .messages) k 0))
 
 -- sending clears the pending bits of what was sent, and changes nothing else
--- [01 W47]
+-- [01 W48]
 unfoldable pub Claim-53 : Type 0
 Claim-53 =
     (c : Bool) (d : Domain)

@@ -52,7 +52,7 @@ isEnabled d = hasBit (configOf d) ieBit
 unfoldable pub byMessages : Domain → Bool
 byMessages d = hasBit (configOf d) dmBit
 
--- [01 W45]
+-- [01 W46]
 abbrev pub sends : Domain → Bool
 sends d = isEnabled d && byMessages d
 

@@ -23,7 +23,7 @@ use Rattle.domain_region.specs.declared.Word.the-variants.{SetipnumLe, S
 use Rattle.domain_region.specs.declared.Word.the-variants.{Idelivery}
 use Rattle.domain_region.specs.declared.Word.the-variants.{Iforce, Ithreshold, Topi, Claimi, Unused}
 
--- [01 C21 T10]
+-- [01 C22 T10]
 unfoldable pub addressLegal : ℕ → Bool
 addressLegal a = eqb (a % 4) 0 && ltb a 0x5000
 
@@ -74,7 +74,7 @@ nameIn r a w =
     let k = (a - r .base) / r .step in
     cond (eqb a (r .base + r .step * k) && leb (r .first) k && leb k (r .last)) (r .name k) w
 
--- [01 C22]
+-- [01 C23]
 unfoldable pub wordIn : List Row → ℕ → Word
 wordIn [] a = Unused
 wordIn (r ∷ rs) a = nameIn r a (wordIn rs a)

@@ -26,11 +26,11 @@ pub record Sent : Type 0 where
 abbrev pub sentNothing : Domain → Sent
 sentNothing d = record { domain = d; messages = [] }
 
--- [01 W47]
+-- [01 W48]
 unfoldable pub servedAt : Domain → ℕ → Domain
 servedAt d i = cond (candidate (sourceAt d i)) (withSource d i (withPending (sourceAt d i) false)) d
 
--- [01 W50]
+-- [01 W51]
 unfoldable pub messagesAt : Bool → Domain → ℕ → List ℕ
 messagesAt c d i = cond (candidate (sourceAt d i)) (messageOf c (sourceAt d i .target) ∷ []) []
 
@@ -40,10 +40,10 @@ sentFrom c d i (suc n) =
     let later = sentFrom c (servedAt d i) (suc i) n in
     record { domain = later .domain; messages = messagesAt c d i ++ later .messages }
 
--- [01 W46]
+-- [01 W47]
 unfoldable pub sent : Bool → Domain → Sent
 sent c d = cond (sends d) (sentFrom c d 1 sourceCount) (sentNothing d)
 
--- [01 W48 W49]
+-- [01 W49 W50]
 unfoldable pub logged : List ℕ → List ℕ → List ℕ
 logged l ms = ms ++ drop (length ms) l

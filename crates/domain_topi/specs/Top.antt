@@ -28,7 +28,7 @@ eligible d h i =
     standing d i && eqb (hartOf (sourceAt d i .target)) h
     && lets (structureAt d h) (numberOf (sourceAt d i .target))
 
--- [01 S7 S8 M5 T7]
+-- [01 S7 S8 M6 T7]
 unfoldable pub precedes : Domain → ℕ → ℕ → Bool
 precedes d i b = eqb b 0 || ltb (numberOf (sourceAt d i .target)) (numberOf (sourceAt d b .target))
 

@@ -11,11 +11,11 @@ use Rattle.words.specs.Sets.{insert}
 use Rattle.file.specs.declared.File.{File}
 use Rattle.file.specs.Parts.{withPendingSet}
 
--- [01 F1 F4 W50 T4]
+-- [01 F1 F4 W51 T4]
 unfoldable pub arrived : ℕ → File → ℕ → File
 arrived n f i = cond (leb 1 i && leb i n) (withPendingSet f (insert (f .pending) i)) f
 
--- [01 C2 C22 F2 T5]
+-- [01 C2 C23 F2 T5]
 unfoldable pub pageWritten : ℕ → File → ℕ → ℕ → File
 pageWritten n f a v = cond (eqb a 0) (arrived n f v) (cond (eqb a 4) (arrived n f (reversed v)) f)
 

@@ -35,7 +35,7 @@ written n g f (Enable j) v = withEnable f (putDoubleword (f .enable) j v)
 written n g f Unused v = f
 
 -- set and clear answer the old value, and a write 0
--- [01 C6]
+-- [01 C5 C7]
 unfoldable pub accessedAt : ℕ → Bool → File → Access → Register → ℕ → Accessed
 accessedAt n g f Read r v = record { answer = Value (held f r); file = f }
 accessedAt n g f Write r v = record { answer = Value 0; file = written n g f r v }

@@ -3,7 +3,7 @@
 --   hartIn m, fileIn m, identityIn m   the parts of a log word: bits 12:11, bits 10:8, and bits 7:0
 use Prim.Native.Nat.{ℕ, _+_, _*_, _/_, _%_}
 
--- [01 W48]
+-- [01 W49]
 unfoldable pub logWord : ℕ → ℕ → ℕ → ℕ
 logWord hart file identity = hart * 2048 + file * 256 + identity
 

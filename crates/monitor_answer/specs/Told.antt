@@ -27,6 +27,6 @@ pub record Told (o : Outcome) (r : VskAnswer) (l g s : List ℕ) : Type 0 where
   pub log : g ≡ o .log
   pub saved : s ≡ o .saved
 
--- [01 B16 C16 X4]
+-- [01 B16 C17 X4]
 abbrev pub Tells : Call → List ℕ → List ℕ → VskAnswer → List ℕ → List ℕ → Type 0
 Tells c l g r l′ g′ = (s : List ℕ) → Told (outcome c l g s) r l′ g′ s

@@ -55,7 +55,7 @@ abbrev pub directPending : Bool → Bool
 directPending high = high
 
 -- a level source by messages: a rise sets it, and it is cleared whenever the rectified value is low (4.7)
--- [01 M4]
+-- [01 M5]
 abbrev pub messagesPending : Source → Bool → Bool → Bool
 messagesPending s rose high = high && (s .pending || rose)
 
@@ -110,6 +110,6 @@ redelivered s m wire =
 unfoldable pub retargeted : Source → Bool → Bool → ℕ → Source
 retargeted s c m v = cond (isActive (s .mode)) (withTarget s (keptTarget c m v)) s
 
--- [01 W46]
+-- [01 W47]
 unfoldable pub candidate : Source → Bool
 candidate s = isActive (s .mode) && s .pending && s .enabled

@@ -27,10 +27,10 @@ withoutBit w k = w - bitOf w k * 2 ^ k
 unfoldable pub putBit : ℕ → ℕ → Bool → ℕ
 putBit w k b = cond b (withBit w k) (withoutBit w k)
 
--- [01 C5]
+-- [01 C6]
 unfoldable pub union : ℕ → ℕ → ℕ
 union w v = bitOr w v
 
--- [01 C5]
+-- [01 C6]
 unfoldable pub without : ℕ → ℕ → ℕ
 without w v = w - bitAnd w v
