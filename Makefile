@@ -16,6 +16,7 @@ test: toolchain
 	@scripts/compare
 	@scripts/ctest
 	@scripts/boards
+	@scripts/audit
 	@rt ci
 
 check: toolchain
