@@ -41,8 +41,8 @@ CHAIN = [
 ]
 SECOND = ('*the second program*, `second/`\na plain model of the papers, written from them alone: nothing of '
           'crates/ was read for it')
-RANDOM = ('*random calls*\ntwo million in each gate, half of them from a fresh seed; after each call the '
-          'answer and every word are compared')
+RANDOM = ('*random calls*, on the machine at hand\ntwo million in each gate, half of them from a fresh seed; '
+          'after each call the answer and every word are compared')
 RECORDED = ('*recorded cases*, T1 to T11 first, and fresh ones: made on each archive that the machine can '
             'run, RISC-V in an emulator; the same, byte for byte, as the second program has them')
 EXAMPLES = ('*two monitors in C*, `examples/station.c` and `examples/move.c`, are built for the machine at hand '

@@ -40,10 +40,10 @@ ENDS = [
     '*none to another station:* Claim #109\nevery file but old and new has the same pending bits',
     '*the shift goes on:* Claim #110\ncalls on new answer, and new signals, as old would have',
 ]
-NOT_SAID = ('*Not compared:* the targets that step 3 rewrites, what is left in old, the logs (their '
-            'words name the files), and time. What new held before is lost.')
+NOT_SAID = ('*Not compared:* the targets of the supervisor’s domain, which step 3 rewrites, and its genmsi; what is left in '
+            'old; the logs, whose words name the files; time. What new held before is lost.')
 ANYWHERE = 'anywhere: before, after, and between any two accesses, also of one step'
-NO_CALL = 'none from the first event to the last: nobody claims, nobody accesses a register'
+NO_CALL = 'none from the first event to the last, for any station on any hart: no claim, no register'
 CHANGED_OVER = 'each device changes over in here, once, from old’s page to new’s'
 COMPARED = 'the same wires and page writes, those to new going to old, and no access: `withoutMove`'
 
@@ -117,8 +117,8 @@ def lanes(picture, y):
         (START, at(3), 'is at work', PLAIN), (at(3), at(71), 'is silent, and takes messages', QUIET),
         (at(71), END, 'is left silent, with what it held', PLAIN)])
     return lane(picture, y, 'and the file *new*', [
-        (START, at(8), 'loses what it held', PLAIN), (at(8), at(79), 'is silent, and takes messages', QUIET),
-        (at(79), at(89), 'gets what was saved', PLAIN), (at(89), END, 'at work', WORKS)]) + 4
+        (START, at(8), 'is emptied by access 8', PLAIN), (at(8), at(79), 'is silent, and takes messages', QUIET),
+        (at(79), at(89), 'what was saved is added', PLAIN), (at(89), END, 'at work', WORKS)]) + 4
 
 
 def ending(picture, y):

@@ -1,0 +1,68 @@
+# The sources as pages: where each name is defined, and the files of claims in pieces.
+import glob
+import html
+import os
+import re
+
+ROOT = os.path.dirname(os.path.dirname(os.path.dirname(os.path.abspath(__file__))))
+DEFINED = re.compile(r'^((?:unfoldable |abbrev )?pub (?:record |data )?)([\w′·-]+)(?= ?[:(]| .*:)')
+WORD = re.compile(r"[A-Za-z][\w′]*(?:-[\w′]+)*")
+
+
+def claim_files():
+    found = glob.glob(os.path.join(ROOT, 'crates/claims*/specs/*.antt'))
+    order = sorted(os.path.relpath(f, ROOT) for f in found if not f.endswith('/Lib.antt'))
+    return sorted(order, key=lambda f: f != 'crates/claims/specs/Demands.antt')
+
+
+def index(place_of):
+    """The place of each definition of specs/. A name of one or two letters is a variable more often than that."""
+    found = {}
+    for path in sorted(glob.glob(os.path.join(ROOT, 'crates/*/specs/*.antt'))):
+        name = os.path.relpath(path, ROOT)
+        for number, line in enumerate(open(path), 1):
+            m = DEFINED.match(line)
+            if m and len(m.group(2)) > 2 and not re.match(r'(use|mod)$', m.group(2)):
+                found.setdefault(m.group(2), '%s#L%d' % (place_of(name), number))
+    return found
+
+
+def leads(word, line, start):
+    """Whether a word of a line is a name there: not a field, and in a comment only what no plain word looks like."""
+    if line[max(0, start - 1):start] in ('.', '·', '-', '_', '/'):
+        return False
+    comment = re.match(r'\s*(--|//|#|/?\*)', line)
+    return not comment or bool(re.search(r'[a-z][A-Z]|-\d', word))
+
+
+def linked(text, index, here):
+    """The text for a page: each name that is defined somewhere leads there."""
+    folder = os.path.dirname(here) or '.'
+    rows = []
+    for line in text.splitlines():
+        out, last = [], 0
+        for m in WORD.finditer(line):
+            place = index.get(m.group(0))
+            if place and leads(m.group(0), line, m.start()):
+                out += [html.escape(line[last:m.start()], quote=False),
+                        '<a href="%s">%s</a>' % (os.path.relpath(place, folder), m.group(0))]
+                last = m.end()
+        rows.append(''.join(out) + html.escape(line[last:], quote=False))
+    return '\n'.join(rows)
+
+
+def blocks(path):
+    """The pieces of a file between empty lines, without its imports, each with the names that it defines."""
+    text = open(os.path.join(ROOT, path)).read()
+    for piece in re.split(r'\n{2,}', text.strip()):
+        lines = [l for l in piece.split('\n') if not re.match(r'(unfoldable pub )?use ', l)]
+        if lines:
+            names = [m.group(2) for m in map(DEFINED.match, lines) if m]
+            yield names, '\n'.join(lines)
+
+
+def claims():
+    """The names of the demands and claims, in their order."""
+    found = [n for path in claim_files() for names, _ in blocks(path) for n in names
+             if re.match(r'(Claim|Demand)-\d+$', n)]
+    return sorted(found, key=lambda n: (n.startswith('Claim'), int(n.split('-')[1])))
