@@ -34,12 +34,14 @@ use Rattle.board_move_files_laws.proofs.RestoredEffects.{restored-thres
 use Rattle.board_move_files_laws.proofs.RestoredEffects.{restored-delivery}
 
 module _ (n : ℕ) (x : Three) (c : File) (r : Related n x c) where
-  untouched-later : Untouched (suc n) (x .old) c
-  untouched-later =
+  -- an access that leaves the old file, as all but the third do
+  untouched-later : n ≢ 2 → Untouched (suc n) (x .old) c
+  untouched-later d =
       record {
         threshold = r .untouched .threshold;
         enable = r .untouched .enable;
         delivery = λ h. r .untouched .delivery (omega arith);
+        silent = λ h. r .untouched .silent (omega arith);
       }
 
   -- an access that concerns no pending set, and one that saves nothing
@@ -51,26 +53,26 @@ module _ (n : ℕ) (x : Three) (c : File) (r : Related n x c) where
   noted-idle = noted-later n (x .numbers) (x .old .pending) c (r .noted)
 
   -- an access that only saves
-  saves : (s : List ℕ) → n < 79 → ((k : ℕ) → k < 4 → (k + 5 ≢ suc n) × (k + 80 ≢ suc n))
+  saves : (s : List ℕ) → n ≢ 2 → n < 79 → ((k : ℕ) → k < 4 → (k + 5 ≢ suc n) × (k + 80 ≢ suc n))
       → Noted (suc n) s (x .old .pending) c
       → Related (suc n) (record { old = x .old; new = x .new; numbers = s }) c
-  saves s h idle noted =
+  saves s d h idle noted =
       record {
-        untouched = untouched-later;
+        untouched = untouched-later d;
         shared = shared-idle idle;
         noted = noted;
         restored = restored-early (suc n) (x .new) c (omega arith);
       }
 
   -- an access that only changes the new file
-  changes : (f : File) → 2 ≤ n → ((k : ℕ) → k < 8 → k + 72 ≢ suc n)
+  changes : (f : File) → 3 ≤ n → ((k : ℕ) → k < 8 → k + 72 ≢ suc n)
       → Shared (suc n) (x .old .pending) (f .pending) (c .pending) → Restored (suc n) f c
       → Related (suc n) (withNew x f) c
   changes f l idle shared restored =
       record {
-        untouched = untouched-later;
+        untouched = untouched-later (omega arith);
         shared = shared;
-        noted = noted-idle l idle;
+        noted = noted-idle (omega arith) idle;
         restored = restored;
       }
 
@@ -80,14 +82,14 @@ module _ (n : ℕ) (x : Three) (c : File) (r : Related n x c) where
   pub delivery-saved : n ≡ 0 → After
   delivery-saved e =
       rw (acted-delivery (suc n) x (ap suc e))
-      (saves (set (x .numbers) deliveryAt (x .old .delivery)) (omega arith) (omega arith)
+      (saves (set (x .numbers) deliveryAt (x .old .delivery)) (omega arith) (omega arith) (omega arith)
       (noted-delivery n (x .numbers) (x .old .pending) c (r .noted) (x .old .delivery) e
       (r .untouched .delivery (omega arith))))
 
   pub threshold-saved : n ≡ 1 → After
   threshold-saved e =
       rw (acted-threshold (suc n) x (ap suc e))
-      (saves (set (x .numbers) thresholdAt (x .old .threshold)) (omega arith) (omega arith)
+      (saves (set (x .numbers) thresholdAt (x .old .threshold)) (omega arith) (omega arith) (omega arith)
       (noted-threshold n (x .numbers) (x .old .pending) c (r .noted) (x .old .threshold) e
       (r .untouched .threshold)))
 
@@ -99,6 +101,7 @@ module _ (n : ℕ) (x : Three) (c : File) (r : Related n x c) where
           threshold = r .untouched .threshold;
           enable = r .untouched .enable;
           delivery = λ h. absurd (omega arith);
+          silent = λ h. refl;
         };
         shared = shared-idle (omega arith);
         noted = noted-idle (omega arith) (omega arith);
@@ -133,7 +136,7 @@ module _ (n : ℕ) (x : Three) (c : File) (r : Related n x c) where
       let k = suc n - 72 in
       let v = doubleword (x .old .pending) k in
       rw (acted-pending (suc n) x (omega arith) (omega arith))
-      (saves (set (x .numbers) (pendingAt k) v) (omega arith) (omega arith)
+      (saves (set (x .numbers) (pendingAt k) v) (omega arith) (omega arith) (omega arith)
       (noted-pending n (x .numbers) (x .old .pending) c (r .noted) v k (omega arith) (omega arith) refl))
 
   pub enable-saved : 75 ≤ n → n < 79 → After
@@ -141,7 +144,7 @@ module _ (n : ℕ) (x : Three) (c : File) (r : Related n x c) where
       let k = suc n - 76 in
       let v = doubleword (x .old .enable) k in
       rw (acted-enable (suc n) x (omega arith) (omega arith))
-      (saves (set (x .numbers) (enableAt k) v) (omega arith) (omega arith)
+      (saves (set (x .numbers) (enableAt k) v) (omega arith) (omega arith) (omega arith)
       (noted-enable n (x .numbers) (x .old .pending) c (r .noted) v k (omega arith) (omega arith)
       (ap (λ (ws : List ℕ). doubleword ws k) (r .untouched .enable))))
 

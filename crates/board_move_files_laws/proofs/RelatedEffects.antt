@@ -37,7 +37,12 @@ pub related-start : (o f : File) (s : List ℕ) → length s ≡ recordSize
     → Related 0 (record { old = o; new = f; numbers = s }) o
 related-start o f s e =
     record {
-      untouched = record { threshold = refl; enable = refl; delivery = λ h. refl };
+      untouched = record {
+        threshold = refl;
+        enable = refl;
+        delivery = λ h. refl;
+        silent = λ h. absurd (omega arith);
+      };
       shared = record {
         alone = λ h i w. refl;
         empty = λ h i l. absurd (omega arith);
@@ -72,6 +77,7 @@ related-pending n x c p f q r kept s =
         threshold = r .untouched .threshold;
         enable = r .untouched .enable;
         delivery = r .untouched .delivery;
+        silent = r .untouched .silent;
       };
       shared = s;
       noted = record {

@@ -61,6 +61,7 @@ pub record Untouched (n : ℕ) (o c : File) : Type 0 where
   pub threshold : o .threshold ≡ c .threshold
   pub enable : o .enable ≡ c .enable
   pub delivery : n < 3 → o .delivery ≡ c .delivery
+  pub silent : 3 ≤ n → o .delivery ≡ 0
 
 -- where what is pending in c is; o, f and c are the pending sets of the old file, of the new one, and of c
 pub record Shared (n : ℕ) (o f c : List ℕ) : Type 0 where

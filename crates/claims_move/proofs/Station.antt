@@ -1,4 +1,4 @@
--- Claims 104 to 112, by the laws of runs and of the move. Assumes nothing.
+-- Claims 104 to 112 and 180, by the laws of runs and of the move. Assumes nothing.
 use Prim.Native.Nat.{ℕ}
 use mathlib.Core.Path.{_≡_, refl, sym, ap, _∙_}
 use mathlib.Core.Bool.{Bool, true, false, not, _&&_}
@@ -18,17 +18,18 @@ use Rattle.transfer_laws.specs.Shift.{Stations, Event, withMove, withoutMove}
 use Rattle.transfer_laws.specs.Premises.{Started, TwoGuests, ByMessages, NoneNamesNew, AllAccesses, PagesKept}
 use Rattle.transfer_laws.specs.Premises.{Premises}
 use Rattle.transfer_laws.specs.Moved.{newNumber, oldIn, newIn, Moved, MoveKeeps, MoveDone}
-use Rattle.transfer_laws.specs.After.{FileCall, SameSignal}
+use Rattle.transfer_laws.specs.After.{FileCall, SameSignal, MoveLeaves}
 use Rattle.transfer_laws.proofs.Invariant.{new-lt}
 use Rattle.transfer_laws.proofs.ShiftEffects.{move-beside, move-keeps, move-done}
 use Rattle.transfer_laws.proofs.AfterEffects.{said-same, file-same, claim-said, claim-left, goes-on}
 use Rattle.transfer_laws.proofs.AfterEffects.{same-signal}
+use Rattle.transfer_laws.proofs.LeftEffects.{wire-leaves, move-leaves}
 use Rattle.transfer_cases.proofs.ExampleShift.{example}
 use Rattle.transfer_cases.proofs.NeededShifts.{pages-are, needs-all, needs-pages-new, needs-pages-old}
 use Rattle.transfer_cases.proofs.NeededShifts.{needs-fresh, needs-messages, needs-guest-old, needs-guest-new}
 use Rattle.transfer_cases.proofs.NeededShifts.{needs-started}
 use Rattle.claims_move.specs.Station.{Claim-104, Claim-105, Claim-106, Claim-107, Claim-108, Claim-109}
-use Rattle.claims_move.specs.Station.{Claim-110, Claim-111, Claim-112}
+use Rattle.claims_move.specs.Station.{Claim-110, Claim-111, Claim-112, Claim-180}
 
 pub claim-104 : Claim-104
 unfolding Claim-104
@@ -136,6 +137,13 @@ claim-110 m x es s g b f a p =
       (λ cs small. let r = goes-on m g cs small _ _ (q .ready) (q .ready′) same in (r .said, r .station)),
       same-signal m g _ _ same,
     )
+
+pub claim-180 : Claim-180
+unfolding Claim-180 MoveLeaves
+claim-180 m x es s g b f a p =
+    let q = premises m x es s g b f a p in
+    let left = move-leaves m x es q in
+    (left .silent, left .signal, left .unnamed, wire-leaves m g _ (move-beside m x es q .ready) left)
 
 pub claim-111 : Claim-111
 unfolding Claim-111

@@ -1,15 +1,15 @@
--- Claims 104 to 112, the auditor's question: when the monitor moves a station in the middle of a shift, can
--- a scan be dropped, doubled or handed to the wrong station? 01, "The move, with its premises".
+-- Claims 104 to 112 and 180, the auditor's question: when the monitor moves a station in the middle of a
+-- shift, can a scan be dropped, doubled or handed to the wrong station? 01, "The move, with its premises".
 --   MovedWhere P     P holds of what is lent after every shift with a move and after the same shift without
 --                    it, where the premises of 01 are met: each is a definition of Rattle.transfer_laws,
 --                    Premises
 -- Premises: of Claim-104 `Ready x`, 650 words of a board that keeps the rules and whose files have words of
 -- 32 bits, 63 words of log and a record of numbers of 64 bits, and `Small c`, a value of 64 bits; of claims
--- 105 to 110 the six of 01, `Started`, `TwoGuests`, `ByMessages`, `NoneNamesNew`, `AllAccesses` and
+-- 105 to 110 and 180 the six of 01, `Started`, `TwoGuests`, `ByMessages`, `NoneNamesNew`, `AllAccesses` and
 -- `PagesKept`, which Claim-111 shows can be met, and Claim-112 that each is needed; of Claim-110 besides
 -- `SmallCalls cs`, register values of 64 bits in the calls afterwards. Claims 111 and 112 have none.
 -- No axioms.
-use Prim.Native.Nat.{ℕ, _+_, _*_, _<_}
+use Prim.Native.Nat.{ℕ, _+_, _*_, _≤_, _<_}
 use mathlib.Core.Path.{_≡_}
 use mathlib.Core.Bool.{Bool, true, false}
 use mathlib.Core.List.{List, map}
@@ -18,9 +18,11 @@ use Rattle.words.specs.Bits.{hasBit}
 use Rattle.words.specs.Sets.{member}
 use Rattle.file.specs.Top.{topIdentity}
 use Rattle.files.specs.Files.{fileNumber, theFile}
+use Rattle.domain.specs.Slot.{sourceAt}
 use Rattle.wired_state.specs.Wires.{domainIn}
+use Rattle.board_move_steps.specs.Names.{namesFile}
 use Rattle.board_call.specs.declared.Call.{Call}
-use Rattle.board_call.specs.declared.Call.the-variants.{Claim}
+use Rattle.board_call.specs.declared.Call.the-variants.{Wire, Claim}
 use Rattle.board_call.specs.Change.{signalsTo}
 use Rattle.board_call.specs.Outcome.{step}
 use Rattle.board_call.specs.Refusal.{nameRefusal, refusalOf}
@@ -119,6 +121,17 @@ Claim-110 =
     ≡ oldIn m (boardIn (ran (map (callOn (m .oldHart) (m .oldFile)) cs) y))))
     × (hasBit (signalsTo (boardIn x) (m .newHart) 5) (m .newFile)
     ≡ hasBit (signalsTo (boardIn y) (m .oldHart) 5) (m .oldFile)))
+
+-- what is left of the old file may have pending bits, but it is silent: its delivery is 0, it signals its
+-- hart no more, no target of the child names it, of an active source or not, and no wire set afterwards
+-- changes it
+unfoldable pub Claim-180 : Type 0
+Claim-180 =
+    MovedWhere (λ m x y. let b = boardIn x in
+    (oldIn m b .delivery ≡ 0) × (hasBit (signalsTo b (m .oldHart) 5) (m .oldFile) ≡ false)
+    × ((i : ℕ) → 1 ≤ i → i ≤ 63
+    → namesFile (sourceAt (b .wired .child) i .target) (m .oldHart) (m .oldFile) ≡ false)
+    × ((i level : ℕ) → oldIn m (boardIn (after (Wire i level) x)) ≡ oldIn m b))
 
 -- ---- the premises
 

@@ -61,6 +61,12 @@ number-parts : (h f h′ f′ : ℕ) → f < 5 → f′ < 5 → fileNumber h f �
 unfolding fileNumber
 number-parts h f h′ f′ a b e = (omega arith, omega arith)
 
+-- a machine file is no guest's
+pub machine-apart : (k h f : ℕ) → isGuestFile h f ≡ true → fileNumber k 0 ≢ fileNumber h f
+machine-apart k h f there q =
+    let parts = number-parts k 0 h f (omega arith) (guest-high h f there) q in
+    omega (arith, guest-low h f there, parts .1)
+
 number-below : (h f : ℕ) → h < 4 → f < 5 → fileNumber h f < 20
 unfolding fileNumber
 number-below h f a b = omega arith
@@ -166,12 +172,10 @@ module _ (m : Stations) (g : TwoGuests m) where
         (reached (b′ .files) (messageOf false t))
     machine-comes t =
         let k = fileNumber (hartOf t) 0 in
-        let apart : (h f : ℕ) → isGuestFile h f ≡ true → k ≢ fileNumber h f = λ h f there q.
-        let parts = number-parts (hartOf t) 0 h f (omega arith) (guest-high h f there) q in
-        omega (arith, guest-low h f there, parts .1) in
         rw (message-reaches false t (b .files), message-reaches false t (b′ .files))
         (come-same k (numberOf t) (number-below (hartOf t) 0 (hartOf-lt t) (omega arith))
-        (apart (m .newHart) (m .newFile) (g .new)) (λ q. absurd (apart (m .oldHart) (m .oldFile) (g .old) q)))
+        (machine-apart (hartOf t) (m .newHart) (m .newFile) (g .new))
+        (λ q. absurd (machine-apart (hartOf t) (m .oldHart) (m .oldFile) (g .old) q)))
 
     -- that of the child goes where its target says: the same file, or new for old
     child-comes : (i t t′ : ℕ) → 1 ≤ i → i < 64

@@ -4,3 +4,4 @@ pub mod ActedEffects
 pub mod Invariant
 pub mod ShiftEffects
 pub mod AfterEffects
+pub mod LeftEffects

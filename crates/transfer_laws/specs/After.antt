@@ -8,11 +8,17 @@
 --   GoesOn m x y          calls on new from x on answer what the same calls on old from y on answer, and the
 --                         two files are the same again after them
 --   SameSignal m b b′     new signals its hart in b exactly if old signals its hart in b′
-use Prim.Native.Nat.{ℕ}
+--   OldLeft m b           what the move leaves of old: its delivery is 0, it signals its hart no more, and no
+--                         target of the child names it
+--   MoveLeaves            so it is left by every move, start and shift that meets the premises
+use Prim.Native.Nat.{ℕ, _≤_}
 use mathlib.Core.Path.{_≡_}
+use mathlib.Core.Bool.{false}
 use mathlib.Core.List.{List, map}
-use Rattle.sizes.specs.Sizes.{hartFiles}
+use Rattle.sizes.specs.Sizes.{hartFiles, sourceCount}
 use Rattle.words.specs.Bits.{hasBit}
+use Rattle.domain.specs.Slot.{sourceAt}
+use Rattle.board_move_steps.specs.Names.{namesFile}
 use Rattle.board_block.specs.Block.{Board}
 use Rattle.board_call.specs.declared.Call.{Call}
 use Rattle.board_call.specs.declared.Call.the-variants.{PageRead, PageWrite, Register, Top, Claim}
@@ -20,7 +26,8 @@ use Rattle.board_call.specs.Change.{signalsTo}
 use Rattle.board_call.specs.Outcome.{Outcome}
 use Rattle.board_runs.specs.Runs.{Lent, ran, outcomesOf}
 use Rattle.board_runs.specs.Ready.{boardIn, AllSmall}
-use Rattle.transfer_laws.specs.Shift.{Stations}
+use Rattle.transfer_laws.specs.Shift.{Stations, Event, withMove}
+use Rattle.transfer_laws.specs.Premises.{Premises}
 use Rattle.transfer_laws.specs.Moved.{oldIn, newIn}
 
 pub data FileCall : Type 0 where
@@ -61,3 +68,14 @@ unfoldable pub SameSignal : Stations → Board → Board → Type 0
 SameSignal m b b′ =
     hasBit (signalsTo b (m .newHart) hartFiles) (m .newFile)
     ≡ hasBit (signalsTo b′ (m .oldHart) hartFiles) (m .oldFile)
+
+pub record OldLeft (m : Stations) (b : Board) : Type 0 where
+  pub silent : oldIn m b .delivery ≡ 0
+  pub signal : hasBit (signalsTo b (m .oldHart) hartFiles) (m .oldFile) ≡ false
+  pub unnamed : (i : ℕ) → 1 ≤ i → i ≤ sourceCount
+      → namesFile (sourceAt (b .wired .child) i .target) (m .oldHart) (m .oldFile) ≡ false
+
+unfoldable pub MoveLeaves : Type 0
+MoveLeaves =
+    (m : Stations) (x : Lent) (es : List Event) → Premises m x es
+    → OldLeft m (boardIn (ran (withMove m 0 es) x))

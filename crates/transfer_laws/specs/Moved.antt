@@ -8,8 +8,8 @@
 --   AccessesDone m n es x  every access of the shift is done, and none refused
 --   MoveDone               so it is then, too
 -- Not claimed: the targets that step 3 rewrites differ by design; what new held before the move is lost;
--- old is left silent, with what it held at access 72; and the logs are not compared, since their words name
--- the files.
+-- old is left with what it held at access 72, silent, as OldLeft of After says; and the logs are not
+-- compared, since their words name the files.
 use Prim.Native.Nat.{ℕ, suc, _<_}
 use mathlib.Core.Path.{_≡_}
 use mathlib.Core.Bool.{Bool}
