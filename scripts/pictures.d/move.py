@@ -40,7 +40,7 @@ ENDS = [
     '*none to another station:* Claim #109\nevery file but old and new has the same pending bits',
     '*the shift goes on:* Claim #110\ncalls on new answer, and new signals, as old would have',
 ]
-NOT_SAID = ('*Not compared:* the targets of the supervisor’s domain, which step 3 rewrites, and its genmsi; what is left in '
+NOT_SAID = ('*Not compared:* the targets of the supervisor’s domain, which step 3 rewrites, and its genmsi; what is pending in '
             'old; the logs, whose words name the files; time. What new held before is lost.')
 ANYWHERE = 'anywhere: before, after, and between any two accesses, also of one step'
 NO_CALL = 'none from the first event to the last, for any station on any hart: no claim, no register'
@@ -115,7 +115,7 @@ def lanes(picture, y):
     y = lane(picture, y, '*any other call*', [(START, END, NO_CALL, NOBODY)]) + 4
     y = lane(picture, y, 'so the file *old*', [
         (START, at(3), 'is at work', PLAIN), (at(3), at(71), 'is silent, and takes messages', QUIET),
-        (at(71), END, 'is left silent, with what it held', PLAIN)])
+        (at(71), END, 'is left silent, with what it held: Claim #180', PLAIN)])
     return lane(picture, y, 'and the file *new*', [
         (START, at(8), 'is emptied by access 8', PLAIN), (at(8), at(79), 'is silent, and takes messages', QUIET),
         (at(79), at(89), 'what was saved is added', PLAIN), (at(89), END, 'at work', WORKS)]) + 4

@@ -58,7 +58,8 @@ MovedWhere P =
 
 -- demand 3: the new file is the one that the station would have had with no move; every file but old and
 -- new, every wire, and every pending and enable bit of both domains is the same as with no move; and so is
--- all else of the machine domain, and the sourcecfg words and delivery structures of the child
+-- all else of the machine domain, and domaincfg, the sourcecfg words and the delivery structures of the
+-- child
 -- [01 V22 V23 V30 M4 X8 X9]
 unfoldable pub Claim-105 : Type 0
 Claim-105 =
