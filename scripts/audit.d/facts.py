@@ -35,11 +35,16 @@ def said(*words):
 
 
 def archives():
-    """Each target with its archive, if make archives wrote it."""
+    """Each target with its archive, if make archives wrote it: one whose stamp says that it was proved."""
     folder = os.path.join(ROOT, 'target', 'archives')
     found = sorted(os.listdir(folder)) if os.path.isdir(folder) else []
     paths = [(name, os.path.join(folder, name, 'libmonitor.a')) for name in found if name != 'module']
-    return [(name, path) for name, path in paths if os.path.exists(path)]
+    return [(name, path) for name, path in paths if os.path.exists(path) and proved(path)]
+
+
+def proved(path):
+    with open(path, 'rb') as file:
+        return b' logic=proved ' in file.read()
 
 
 def commit():
@@ -58,11 +63,11 @@ def versions():
              'gcc        ' + said('gcc', '--version'), 'rustc      ' + said('rustc', '--version'),
              'qemu       ' + said('qemu-riscv64-static', '--version'), 'python3    ' + sys.version.split()[0]]
     told = os.path.join(ROOT, 'target', 'archives', 'ARCHIVES.txt')
-    if os.path.exists(told):
+    if archives():
         lines += ['', 'The archives:', '', open(told).read().rstrip(), '']
         lines += ['sha256 %s  %s/libmonitor.a' % (sum_of(path), name) for name, path in archives()]
     else:
-        lines += ['', 'No archives: make archives writes them.']
+        lines += ['', 'No archives that were proved are here: make archives writes them.']
     return '\n'.join(lines) + '\n'
 
 
