@@ -77,7 +77,8 @@ extern "C" {
 #define VSK_MACHINE_FILE 0
 #define VSK_SUPERVISOR_FILE 1
 /* The file of guest 1 to 3, as hstatus.VGEIN numbers them. Take care with VGEIN 0, which means no guest
- * file: here it would name the supervisor's, and no call could refuse it. 4 and above give refusal 4. */
+ * file: here it would name the supervisor's, and no call could refuse it; so would -1 the machine file. 4 to
+ * 63, all else that VGEIN can hold, give refusal 4. */
 #define VSK_GUEST_FILE(guest) (UINT64_C(1) + (uint64_t)(guest))
 #define VSK_MACHINE_DOMAIN 0
 #define VSK_SUPERVISOR_DOMAIN 1 /* the child of the machine domain */
@@ -136,20 +137,23 @@ static inline const char *vsk_refusal_name(uint32_t refusal)
  *               VS      stopei, sireg from 0x70 to 0xFF             virtual instruction   2.3
  *            4 comes before 6, so look at the select first: with one outside 0x70 to 0xFF it is as below.
  *
- *   5        A load gets a load access fault, a store or an AMO a store/AMO access fault, whoever made it:
- *            3.5 for a page, 4.5 for a region (a bus error would do as well).
+ *   5        No multiple of 4: a load gets a load access fault, a store or an AMO a store/AMO access fault,
+ *            whoever made it: 3.5 for a page, 4.5 for a region (a bus error would do as well). Outside the
+ *            page or region: the monitor gave an address that is not this device's, and the mistake is its
+ *            own.
  *
  *   6           M       mireg, each one that is refused             illegal instruction   2.1, 3.8.3, 3.8.4
- *               S, HS   sireg, each one that is refused             illegal instruction   2.2, 3.8.3, 3.8.4
+ *               M, HS, S sireg, each one that is refused            illegal instruction   2.2, 3.8.3, 3.8.4
  *               M, HS   vsireg, each one that is refused            illegal instruction   2.3, 3.8.3, 3.8.4
  *               VS      sireg, odd from 0x81 to 0xFF                virtual instruction   3.8.3, 3.8.4
  *               VS      sireg, 0x30 to 0x3F                         virtual instruction   2.3, 6.3.1
  *               VS      sireg, any other that is refused            illegal instruction   2.3
  *
- * Some accesses are no calls at all: 0x30 to 0x3F by mireg, and by sireg from S and HS, are priorities of
+ * Some accesses are no calls at all: 0x30 to 0x3F by mireg, and by sireg from M, HS and S, are priorities of
  * major interrupts (5.2.1, 5.4.1), which the monitor keeps itself; VU gets a virtual instruction exception
- * for sireg, and VS and VU for vsireg, whatever the select is (2.3). Where Smstateen is implemented, 2.5 goes
- * before all of this. */
+ * for sireg, and VS and VU for vsireg, whatever the select is (2.3); so do VU for stopei, and VS and VU for
+ * vstopei (2.4). Odd selects are refused as for XLEN 64: a guest has to run with VSXLEN 64. Where Smstateen
+ * is implemented, 2.5 goes before all of this. */
 
 /* ---- the log ---- */
 
@@ -196,8 +200,10 @@ static inline const char *vsk_refusal_name(uint32_t refusal)
 #define VSK_SOURCE_WORD(i) ((uint32_t)(i) >> 5 & 1u)
 #define VSK_SOURCE_BIT(i) (UINT32_C(1) << ((uint32_t)(i) & 31u))
 
-/* in_clrip reads the levels of the wires of active sources, as wired and not rectified: in this version an
- * active-low source at rest reads 1. M-101 of paper 02 changes this. A write clears pending bits.
+/* in_clrip reads the levels of the wires of active sources, detached ones too, as wired: the standard has the
+ * rectified values there (4.5.7), and M-101 of paper 02 will. In this version an active-low source at rest
+ * reads 1, so a handler must not wait for a 0 there (the first way of 4.9.2) with Level0, or it leaves while
+ * the wire is asserted; let it write setipnum before it leaves (the second way). A write clears pending bits.
  * setipnum_be takes its value with the four bytes reversed: 0x05000000 is source 5. */
 
 /* domaincfg. It reads 0x80 in its top byte, whatever is written: 0x80000104 with IE and DM.
@@ -396,7 +402,8 @@ vsk_answer vsk_top(const uint32_t *VSK_RESTRICT state, size_t state_len,
                    const uint32_t *VSK_RESTRICT log, size_t log_len, uint64_t hart, uint64_t file);
 
 /* Answers a file's top and clears its pending bit; with top 0 it changes nothing. It is what any write to
- * mtopei, stopei or vstopei does, and the value that the same instruction reads (3.9).
+ * mtopei, stopei or vstopei does, and the value that the same instruction reads (3.9). A CSRRS or CSRRC with
+ * x0, or with immediate 0, writes nothing: it is a read, and vsk_top answers it.
  * Refuses 4: no such hart, no such file.
  * Claims 23, 24, 91 and 172. */
 VSK_CALL(read_write, none)
@@ -436,12 +443,16 @@ vsk_answer vsk_signals(const uint32_t *VSK_RESTRICT state, size_t state_len,
  * A refused access leaves the record as it was. Made in this order, each once, with one old, one new and one
  * record, and with no call between the first and the last but vsk_wire and vsk_page_write, they leave new as
  * the file that the station would have had with no move. That is the theorem, Claim-105; docs/AUDIT.md opens
- * with it, and with what it asks for at the start and of the page writes.
+ * with it. What it asks for besides: at the start no active source's target names new, and new is nobody's,
+ * for what it holds is lost; nobody writes to new's page until access 8 is made, nor to old's once access 72
+ * is. A device's write counts when vsk_page_write is called: one on its way to old has to have arrived by
+ * then (6.1.2, step 3), or it is lost. Old is left silent (Claim-180) and keeps its pending and enable bits:
+ * clear them before it is used again, or those scans come twice.
  * It takes ten arguments, of which the last are passed on the stack: four on x86-64, two on RISC-V and on
  * aarch64.
  * Refuses 4: no such access; old and new are not two different guest files; the supervisor domain delivers
  * directly.
- * Claims 100 to 103, and of all 89 together 105 to 110. */
+ * Claims 100 to 103, and of all 89 together 105 to 110 and 180. */
 VSK_CALL(read_write, none) VSK_ASKED(10)
 vsk_answer vsk_move(uint32_t *VSK_RESTRICT state, size_t state_len,
                     const uint32_t *VSK_RESTRICT log, size_t log_len,
