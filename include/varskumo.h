@@ -4,8 +4,9 @@
  * guest files 1 to 3. One wired controller (APLIC) has sources 1 to 63 and two domains.
  *
  * A call is lent two blocks, the state of the board and the message log; there is no memory behind the calls.
- * It answers a vsk_answer. Any number may be given in any place: what names nothing is refused, and numbers
- * that name something are compared in all their 64 bits.
+ * It answers a vsk_answer. Any number may be given as any argument: what names nothing is refused, and
+ * numbers that name something are compared in all their 64 bits. (Of a word that is written, parts that are
+ * too large are cut or ignored, as is said there.)
  *
  * What each call answers and leaves is proved for all numbers and all contents of both blocks: a contract
  * says the outcome of the call (Claim-93; for vsk_move Claim-100) and allows no other (Claim-162), and the
@@ -16,9 +17,12 @@
  *   - both pointers are not null, are aligned for uint32_t, and have as many words behind them as their
  *     lengths say; vsk_move's record is not null, aligned for uint64_t, and has VSK_SAVED_NUMBERS numbers;
  *   - the two blocks do not overlap, nor does the record overlap either;
- *   - one call at a time is made on one state or one log, and nothing else touches them meanwhile.
+ *   - one call at a time is made on one state or one log, and nothing else touches them meanwhile. Nothing
+ *     is proved of calls that overlap, even if they store nothing; a call that an interrupt handler makes in
+ *     the middle of another overlaps it.
  * Where a compiler can see a breach it is told to: gcc warns of a null pointer, of an answer that is dropped,
- * of a block that is shorter than its length, of one block lent twice, and of a state that was never set.
+ * of a block that is shorter than its length, of one block lent twice to a call that stores, and of a state
+ * that was never set.
  *
  * What is stored, if a call is not refused; what is not named here stays as it was (Claims 91, 150 to 156):
  *   vsk_reset         state: every word
@@ -51,7 +55,9 @@
  *         the state or the log means something else, or if a name here is removed. A block that another MAJOR
  *         left must not be lent: it carries no version, and may be taken for a state.
  *   MINOR changes if something is added and all that was there stays as it was.
- *   PATCH changes with the words here, with what compilers are told, and with the speed of a call. */
+ *   PATCH changes with the words here, with what compilers are told, and with the speed of a call.
+ * Nothing compares it with the archive when a monitor runs: the archive's comment section has the version
+ * that it is stamped with, and readelf -p prints it. */
 #define VSK_VERSION_MAJOR 1
 #define VSK_VERSION_MINOR 0
 #define VSK_VERSION_PATCH 0
@@ -77,8 +83,9 @@ extern "C" {
 #define VSK_MACHINE_FILE 0
 #define VSK_SUPERVISOR_FILE 1
 /* The file of guest 1 to 3, as hstatus.VGEIN numbers them. Take care with VGEIN 0, which means no guest
- * file: here it would name the supervisor's, and no call could refuse it; so would -1 the machine file. 4 to
- * 63, all else that VGEIN can hold, give refusal 4. */
+ * file: here it would name the supervisor's, which no call but vsk_move refuses; so would -1 the machine
+ * file. 4 to 63, all else that VGEIN can hold, give refusal 4. For VSEIP take bit VGEIN of VSK_HGEIP:
+ * VSK_SIGNAL looks at low bits, and refuses nothing. */
 #define VSK_GUEST_FILE(guest) (UINT64_C(1) + (uint64_t)(guest))
 #define VSK_MACHINE_DOMAIN 0
 #define VSK_SUPERVISOR_DOMAIN 1 /* the child of the machine domain */
@@ -86,8 +93,9 @@ extern "C" {
 /* ---- answers and refusals ---- */
 
 /* What a call answers. If it sent messages, count is their number and they are the first words of the log, in
- * the order sent; the other words of the log stay as they were. Only vsk_wire and vsk_domain_write send, at
- * most VSK_LOG_WORDS in one call (Claim-86, Claim-171). A message is in its file when the call returns. */
+ * the order sent: the machine domain's before the supervisor domain's, each by ascending source; the other
+ * words of the log stay as they were. Only vsk_wire and vsk_domain_write send, at most VSK_LOG_WORDS in one
+ * call (Claim-86, Claim-171). A message is in its file when the call returns. */
 typedef struct vsk_answer {
     uint64_t value;   /* 0 unless the function's comment says more */
     uint32_t count;   /* messages sent */
@@ -123,37 +131,44 @@ static inline const char *vsk_refusal_name(uint32_t refusal)
     }
 }
 
-/* What a refusal means for the software whose access the monitor was making, with the standard's sections.
+/* What a refusal means for the software whose access the monitor was making: the exception that a hart raises
+ * for it, with the standard's sections. A virtual instruction exception is the hypervisor's to take and never
+ * reaches the guest: a monitor that is the hypervisor keeps the guest's priorities for 0x30 to 0x3F (6.3.1),
+ * and otherwise gives the guest what S has there, an illegal instruction exception.
  *
  *   1, 2, 3  Never a guest's doing. The lengths are the monitor's, and what an accepted call leaves keeps the
  *            rules (Claim-86): with a 3 the state was never reset, or something else wrote to it. The
- *            monitor must stop.
+ *            monitor must stop. A 0 does not say that it was reset: a block of zeros keeps the rules too,
+ *            and is a board on which every file is switched off.
  *
  *   4        Wires, levels, domains, harts, kinds, and the accesses of a move are the monitor's own numbers,
- *            and the mistake is its own. The one number that software chooses is the file, by hstatus.VGEIN.
- *            If VGEIN is the number of no guest file (0, which the monitor has to test for, or above
- *            VSK_GUESTS):
- *               M, HS   vstopei, vsireg from 0x70 to 0xFF           illegal instruction   2.3
- *               VS      stopei, sireg from 0x70 to 0xFF             virtual instruction   2.3
+ *            and the mistake is its own; but a supervisor domain that delivers directly, which bars a move,
+ *            may be its software's doing. Software chooses a hart and a file by the address of a page, where
+ *            a page of no file reads 0 and ignores writes (3.6), and a file by hstatus.VGEIN. If VGEIN is
+ *            the number of no guest file (0, which the monitor has to test for, or above VSK_GUESTS):
+ *               M, HS      vstopei, vsireg from 0x70 to 0xFF        illegal instruction   2.3
+ *               VS         stopei, sireg from 0x70 to 0xFF          virtual instruction   2.3
  *            4 comes before 6, so look at the select first: with one outside 0x70 to 0xFF it is as below.
  *
  *   5        No multiple of 4: a load gets a load access fault, a store or an AMO a store/AMO access fault,
  *            whoever made it: 3.5 for a page, 4.5 for a region (a bus error would do as well). Outside the
- *            page or region: the monitor gave an address that is not this device's, and the mistake is its
+ *            page or region: the monitor gave an offset that is not this device's, and the mistake is its
  *            own.
  *
- *   6           M       mireg, each one that is refused             illegal instruction   2.1, 3.8.3, 3.8.4
- *               M, HS, S sireg, each one that is refused            illegal instruction   2.2, 3.8.3, 3.8.4
- *               M, HS   vsireg, each one that is refused            illegal instruction   2.3, 3.8.3, 3.8.4
- *               VS      sireg, odd from 0x81 to 0xFF                virtual instruction   3.8.3, 3.8.4
- *               VS      sireg, 0x30 to 0x3F                         virtual instruction   2.3, 6.3.1
- *               VS      sireg, any other that is refused            illegal instruction   2.3
+ *   6           M          mireg, but for 0x30 to 0x3F              illegal instruction   2.1, 3.8.3, 3.8.4
+ *               M, HS, S   sireg, but for 0x30 to 0x3F              illegal instruction   2.2, 3.8.3, 3.8.4
+ *               M, HS      vsireg, each one that is refused         illegal instruction   2.3, 3.8.3, 3.8.4
+ *               VS         sireg, odd from 0x81 to 0xFF             virtual instruction   3.8.3, 3.8.4
+ *               VS         sireg, 0x30 to 0x3F                      virtual instruction   2.3, 6.3.1
+ *               VS         sireg, any other that is refused         illegal instruction   2.3
  *
- * Some accesses are no calls at all: 0x30 to 0x3F by mireg, and by sireg from M, HS and S, are priorities of
- * major interrupts (5.2.1, 5.4.1), which the monitor keeps itself; VU gets a virtual instruction exception
- * for sireg, and VS and VU for vsireg, whatever the select is (2.3); so do VU for stopei, and VS and VU for
- * vstopei (2.4). Odd selects are refused as for XLEN 64: a guest has to run with VSXLEN 64. Where Smstateen
- * is implemented, 2.5 goes before all of this. */
+ * Some accesses are no calls at all. 0x30 to 0x3F by mireg, and by sireg from M, HS and S: the even ones are
+ * priorities of major interrupts, which the monitor keeps itself (all 0 and read-only will do), and the odd
+ * ones an illegal instruction (5.2.1, 5.4.1). miselect, siselect and vsiselect, which the monitor keeps too.
+ * VU gets a virtual instruction exception for sireg, and VS and VU for vsireg, whatever the select is (2.3);
+ * so do VU for stopei, and VS and VU for vstopei (2.4). Odd selects are refused as for XLEN 64: a guest has
+ * to run with VSXLEN 64. Before all of this go 2.5, where Smstateen is implemented, and 5.3: while bit 9 of
+ * mvien is 1, stopei, and sireg from 0x70 to 0xFF, are an illegal instruction from S and HS. */
 
 /* ---- the log ---- */
 
@@ -168,13 +183,17 @@ static inline const char *vsk_refusal_name(uint32_t refusal)
 
 /* ---- the wired controller ---- */
 
-/* A region takes aligned accesses of 4 bytes, one call each. Other widths, misaligned accesses and AMOs must
- * not reach it: the monitor answers them itself with an access fault (4.5).
+/* A region takes aligned accesses of 4 bytes, one call each. Other widths, misaligned accesses, AMOs, LR and
+ * SC must not reach it: the monitor answers them itself with an access fault (4.5).
  *
- * The registers of a domain by their addresses: i is a source, 1 to 63; h a hart; k is 0 for sources 1 to 31
- * and 1 for sources 32 to 63. Source 0 has no registers: VSK_SOURCECFG(0) is domaincfg, and VSK_TARGET(0) is
- * genmsi. Too large a number gives the address of another register, or of none: it is not looked at here.
- * Words that are not named here read 0 and ignore writes, those of harts that are not there among them. */
+ * The registers of a domain by their addresses, which count from the start of its region, 0 to 0x4FFC: i is a
+ * source, 1 to 63; h a hart; k is 0 for sources 1 to 31 and 1 for sources 32 to 63. Source 0 has no
+ * registers: VSK_SOURCECFG(0) is domaincfg, and VSK_TARGET(0) is genmsi. Too large a number gives the address
+ * of another register, or of none: it is not looked at here.
+ * Words that are not named here read 0 and ignore writes: those of harts that are not there, and the four
+ * registers of message addresses, 0x1BC0 to 0x1BCC. (The standard has the first two in the machine domain;
+ * fixed addresses may read 0 there, but for the lock, 0x80000000 at 0x1BC4, 4.5.3: if machine software looks,
+ * the monitor answers that read itself.) */
 #define VSK_REGION_BYTES UINT64_C(0x5000)
 #define VSK_DOMAINCFG UINT64_C(0x0000)
 #define VSK_SOURCECFG(i) (UINT64_C(4) * (uint64_t)(i))
@@ -196,15 +215,20 @@ static inline const char *vsk_refusal_name(uint32_t refusal)
 #define VSK_TOPI(h) (UINT64_C(0x4018) + UINT64_C(32) * (uint64_t)(h))
 #define VSK_CLAIMI(h) (UINT64_C(0x401C) + UINT64_C(32) * (uint64_t)(h))
 
-/* Where source i stands in setip, in_clrip, setie and clrie: the word k, and its bit in that word. */
+/* Where source i stands in setip, in_clrip, setie and clrie: the word k, and its bit in that word. Of i only
+ * the low 6 bits count: 65 is source 1. */
 #define VSK_SOURCE_WORD(i) ((uint32_t)(i) >> 5 & 1u)
 #define VSK_SOURCE_BIT(i) (UINT32_C(1) << ((uint32_t)(i) & 31u))
 
-/* in_clrip reads the levels of the wires of active sources, detached ones too, as wired: the standard has the
- * rectified values there (4.5.7), and M-101 of paper 02 will. In this version an active-low source at rest
- * reads 1, so a handler must not wait for a 0 there (the first way of 4.9.2) with Level0, or it leaves while
- * the wire is asserted; let it write setipnum before it leaves (the second way). A write clears pending bits.
- * setipnum_be takes its value with the four bytes reversed: 0x05000000 is source 5. */
+/* setip and setie read their bits; clrie and the registers that take a number read 0. A number that is not
+ * that of an active source does nothing. setipnum_be takes its value with the four bytes reversed: 0x05000000
+ * is source 5.
+ * in_clrip reads the levels of the wires of active sources, detached ones too, as wired: the standard has the
+ * rectified values there (4.5.7), and a later version will (request M-101). In this one an active-low source
+ * at rest reads 1, so a handler must not wait for a 0 there (the first way of 4.9.2) with Level0, or it
+ * leaves while the wire is asserted; let it write setipnum before it leaves (the second way). Or the monitor
+ * turns round the bits of Edge0 and Level0 sources in what it hands to a guest, and clears those of detached
+ * ones. A write to in_clrip clears pending bits. */
 
 /* domaincfg. It reads 0x80 in its top byte, whatever is written: 0x80000104 with IE and DM.
  * A write that changes DM sets genmsi to 0, and the target of each active source to its start value: hart 0
@@ -217,7 +241,13 @@ static inline const char *vsk_refusal_name(uint32_t refusal)
 #define VSK_DOMAINCFG_IE 0x100u         /* the domain delivers */
 #define VSK_DOMAINCFG_DM 0x004u         /* by messages; without it directly */
 
-/* sourcecfg. The supervisor domain has a source only while it is delegated; 2 and 3 are stored as 0. */
+/* sourcecfg. The supervisor domain has a source only while it is delegated, and its sourcecfg is 0 when it
+ * gets or loses one; to delegate again what is delegated changes nothing. 2 and 3 are stored as 0, and so is
+ * a write with VSK_SOURCE_DELEGATED in the supervisor domain; what else is written is not kept.
+ * Pending bits follow 4.7. Where 4.5.2 leaves it open: a write that takes the rectified value from low to
+ * high sets the pending bit, in edge modes too (inactive and detached sources count as low), and what is then
+ * to be sent is sent. All wires are low after a reset: set that of an active-low source to 1 before its mode
+ * is written, or it is pending at once. */
 #define VSK_SOURCE_DELEGATED 0x400u /* machine domain only: the supervisor domain has the source */
 #define VSK_SOURCE_INACTIVE 0u
 #define VSK_SOURCE_DETACHED 1u
@@ -232,7 +262,7 @@ static inline const char *vsk_refusal_name(uint32_t refusal)
  * target for hart 5 is hart 1's, one for guest 4 is the supervisor file's, identity 256 is identity 0. A
  * priority that is 0 is stored as 1. A target can be written only while its source is active, and has its
  * start value whenever it becomes so. genmsi can be written only while its domain has DM, and sends at once,
- * with IE or without. */
+ * with IE or without; it reads what was kept of the last write, and is never busy. */
 #define VSK_TARGET_DIRECT(hart, priority) \
     (((uint32_t)(hart) & 3u) << 18 | ((uint32_t)(priority) & 255u))
 #define VSK_TARGET_MESSAGE(hart, guest, identity) \
@@ -249,9 +279,13 @@ static inline const char *vsk_refusal_name(uint32_t refusal)
 /* topi and claimi of a hart read the same, source x 65536 + priority, or 0 if there is none: of the sources
  * that are pending, enabled and targeted at the hart, and whose priority number is below ithreshold if that
  * is not 0, the one with the least priority number, and the lowest source among equals. Neither IE nor
- * idelivery plays a part. By messages both read 0. In direct mode a read of claimi also claims: it clears the
- * pending bit of the source that it answers, but that of a level source stays while its level stands; if it
- * answers 0, it clears iforce. */
+ * idelivery plays a part. In direct mode a read of claimi also claims: it clears the pending bit of the
+ * source that it answers, but that of a level source stays while its level stands; if it answers 0, it clears
+ * iforce.
+ * idelivery and iforce take 0 and 1, and keep what they have if anything else is written; ithreshold keeps
+ * the low 8 bits. While the domain has DM, all five read 0 and ignore writes, and a read of claimi clears
+ * nothing; the three numbers stay, and are there again when DM is cleared. So clear DM first, then write
+ * them. */
 #define VSK_TOPI_SOURCE(value) ((uint32_t)(value) >> 16 & 63u)
 #define VSK_TOPI_PRIORITY(value) ((uint32_t)(value) & 255u)
 #define VSK_CLAIMI_SOURCE(value) VSK_TOPI_SOURCE(value)
@@ -259,9 +293,9 @@ static inline const char *vsk_refusal_name(uint32_t refusal)
 
 /* ---- the message files ---- */
 
-/* The words of a file's page by their offsets. A page, too, takes aligned accesses of 4 bytes and no others
- * (3.5). A number that is no identity, in all its 32 bits, does nothing. At offset 4 the four bytes of the
- * value are reversed: 0x05000000 is identity 5. */
+/* The words of a file's page by their offsets, 0 to 0xFFC. A page, too, takes aligned accesses of 4 bytes
+ * and no others (3.5). A number that is no identity, in all its 32 bits, does nothing. At offset 4 the four
+ * bytes of the value are reversed: 0x05000000 is identity 5. */
 #define VSK_PAGE_BYTES UINT64_C(0x1000)
 #define VSK_SETEIPNUM_LE UINT64_C(0x000)
 #define VSK_SETEIPNUM_BE UINT64_C(0x004)
@@ -273,7 +307,8 @@ static inline const char *vsk_refusal_name(uint32_t refusal)
 #define VSK_EIP(j) (UINT64_C(0x80) + UINT64_C(2) * (uint64_t)(j))
 #define VSK_EIE(j) (UINT64_C(0xC0) + UINT64_C(2) * (uint64_t)(j))
 
-/* Where identity i stands in eip and eie: the number j, and its bit in that register. */
+/* Where identity i stands in eip and eie: the number j, and its bit in that register. Of i only the low 8
+ * bits count: 257 is identity 1. */
 #define VSK_IDENTITY_WORD(i) ((uint32_t)(i) >> 6 & 3u)
 #define VSK_IDENTITY_BIT(i) (UINT64_C(1) << ((uint32_t)(i) & 63u))
 
@@ -295,16 +330,18 @@ static inline const char *vsk_refusal_name(uint32_t refusal)
 #define VSK_TOP_IDENTITY(value) ((uint32_t)(value) >> 16 & 255u)
 #define VSK_TOP_PRIORITY(value) ((uint32_t)(value) & 255u)
 
-/* The bit of file f, 0 to 4, in the signals of a hart. Of mip, file 0 is MEIP and file 1 SEIP; the file of
- * guest g is bit g of hgeip (3.10). */
+/* The bit of file f, 0 to 4, in the signals of a hart; of f only the low 3 bits count. Of mip, file 0 is MEIP
+ * and file 1 SEIP, beside what software writes there (5.3). The file of guest g is bit g of hgeip (3.10):
+ * VSK_HGEIP makes hgeip out of the signals. */
 #define VSK_SIGNAL(f) (UINT64_C(1) << ((uint32_t)(f) & 7u))
+#define VSK_HGEIP(signals) ((uint64_t)(signals) >> 1 & UINT64_C(14))
 
 /* ---- what compilers are told ---- */
 
 /* VSK_CALL(state, log) says that an answer must be looked at (warn_unused_result), that no pointer is null
  * (nonnull), and how a call uses the blocks (access): read_only, write_only, read_write, or none for a log of
- * which only the length is looked at. gcc compares the lengths with the objects that it can see, and knows
- * which blocks must have been set before. */
+ * which only the length is looked at, spelled so that macros of these names do no harm. gcc compares the
+ * lengths with the objects that it can see, and knows which blocks must have been set before. */
 #if defined(__STDC_VERSION__) && __STDC_VERSION__ >= 199901L
 #define VSK_RESTRICT restrict
 #elif defined(__GNUC__)
@@ -319,7 +356,7 @@ static inline const char *vsk_refusal_name(uint32_t refusal)
 #endif
 #define VSK_ACCESS(mode, pointer, length)
 #if defined(__GNUC__) && defined(__has_attribute)
-#if __GNUC__ >= 12 && __has_attribute(access)
+#if __GNUC__ >= 12 && __has_attribute(__access__)
 #undef VSK_ACCESS
 #define VSK_ACCESS(mode, pointer, length) __attribute__((__access__(mode, pointer, length)))
 #endif
@@ -329,12 +366,13 @@ static inline const char *vsk_refusal_name(uint32_t refusal)
 #else
 #define VSK_ASKED(...)
 #endif
-#define VSK_CALL(state, log) VSK_ASKED(1, 3) VSK_ACCESS(state, 1, 2) VSK_ACCESS(log, 3, 4)
+#define VSK_CALL(state, log) VSK_ASKED(1, 3) VSK_ACCESS(__##state##__, 1, 2) VSK_ACCESS(__##log##__, 3, 4)
 
 /* ---- the calls ---- */
 
 /* Puts the board in its start: wires low, files 0 and 1 follow their domains, all else 0; domaincfg reads
- * 0x80000000. The state may have held anything; the log stays.
+ * 0x80000000. The state may have held anything; the log stays. The wires are then low whatever the devices
+ * do: set each that is high.
  * Claims 87 and 160. */
 VSK_CALL(write_only, none)
 vsk_answer vsk_reset(uint32_t *VSK_RESTRICT state, size_t state_len,
@@ -349,7 +387,7 @@ vsk_answer vsk_wire(uint32_t *VSK_RESTRICT state, size_t state_len,
                     uint32_t *VSK_RESTRICT log, size_t log_len, uint64_t wire, uint64_t level);
 
 /* Reads a word of a domain's region: the value is its 32 bits. A read of claimi claims.
- * Refuses 4: no such domain. 5: the address.
+ * Refuses 4: no such domain. 5: the address, which counts from the start of the region.
  * Claims 130 to 133, 140, 145 and 174; claimi: 46 and 49. */
 VSK_CALL(read_write, none)
 vsk_answer vsk_domain_read(uint32_t *VSK_RESTRICT state, size_t state_len,
@@ -357,7 +395,7 @@ vsk_answer vsk_domain_read(uint32_t *VSK_RESTRICT state, size_t state_len,
                            uint64_t domain, uint64_t address);
 
 /* Writes a word of a domain's region, and sends what is then to be sent.
- * Refuses 4: no such domain. 5: the address.
+ * Refuses 4: no such domain. 5: the address, which counts from the start of the region.
  * Claims 134 to 138 and 143; what it leaves: 156; what it sends: 54, 77 and 151. */
 VSK_CALL(read_write, write_only)
 vsk_answer vsk_domain_write(uint32_t *VSK_RESTRICT state, size_t state_len,
@@ -365,7 +403,7 @@ vsk_answer vsk_domain_write(uint32_t *VSK_RESTRICT state, size_t state_len,
                             uint64_t domain, uint64_t address, uint32_t value);
 
 /* Reads a word of a file's page: 0, for every word of it.
- * Refuses 4: no such hart, no such file. 5: the address.
+ * Refuses 4: no such hart, no such file. 5: the address, which counts from the start of the page.
  * Claims 91, 126 and 172. */
 VSK_CALL(read_only, none)
 vsk_answer vsk_page_read(const uint32_t *VSK_RESTRICT state, size_t state_len,
@@ -374,7 +412,7 @@ vsk_answer vsk_page_read(const uint32_t *VSK_RESTRICT state, size_t state_len,
 
 /* Writes a word of a file's page, as a device does that sends a message: an identity of 1 to 255 becomes
  * pending, whatever the file's delivery is. It is not logged.
- * Refuses 4: no such hart, no such file. 5: the address.
+ * Refuses 4: no such hart, no such file. 5: the address, which counts from the start of the page.
  * Claims 25, 26, 91 and 126. */
 VSK_CALL(read_write, none)
 vsk_answer vsk_page_write(uint32_t *VSK_RESTRICT state, size_t state_len,
@@ -384,7 +422,7 @@ vsk_answer vsk_page_write(uint32_t *VSK_RESTRICT state, size_t state_len,
 /* Accesses a register of a file. The kind is VSK_READ (the value given is ignored), VSK_WRITE, VSK_SET
  * (writes old-or-value) or VSK_CLEAR (writes old without value). A write answers 0, the others the old value:
  * so a CSRRW whose rd is not x0 is a VSK_READ and then a VSK_WRITE, with no other call on the board between
- * them, while CSRRS and CSRRC are one call.
+ * them, and one to x0 a VSK_WRITE, while CSRRS and CSRRC are one call, and with x0 or immediate 0 a VSK_READ.
  * Refuses 4: no such hart, file or kind. 6: the select number.
  * Claims 91 and 120 to 125; the select numbers: 30 and 31. */
 VSK_CALL(read_write, none)
@@ -413,7 +451,8 @@ vsk_answer vsk_claim(uint32_t *VSK_RESTRICT state, size_t state_len,
 /* The signals of a hart: bit f of the value is set if file f signals (VSK_SIGNAL). A file with delivery 1
  * does exactly if its top is not 0; file 0 or 1 with VSK_DELIVERY_WIRED exactly if its domain signals the
  * hart directly: DM clear, IE set, idelivery 1, and iforce or topi not 0. Any call that stores may change
- * them.
+ * them: on a file or in a move those of the harts that it names, a wire or a write to a domain those of any
+ * hart, also where nothing is logged.
  * Refuses 4: no such hart.
  * Claims 89, 91 and 161. */
 VSK_CALL(read_only, none)
@@ -422,13 +461,13 @@ vsk_answer vsk_signals(const uint32_t *VSK_RESTRICT state, size_t state_len,
 
 /* ---- the move of a station ---- */
 
-/* A station is moved from one guest file, old, to another, new, by 89 accesses, each a call, so that wires
- * may change and messages arrive between any two of them (6.1.2). */
+/* A station, which is a guest with its message file, is moved from one guest file, old, to another, new, by
+ * 89 accesses, each a call, so that wires may change and messages arrive between any two of them (6.1.2). */
 #define VSK_ACCESSES 89
 
-/* The record of a move, which its accesses fill and use: old's delivery and threshold, its four words of
- * pending bits and its four of enable bits. It may hold any numbers at first; each access is given what the
- * last one left. */
+/* The record of a move, which its accesses fill and use: first old's delivery, then its threshold, its four
+ * words of pending bits and its four of enable bits. It may hold any numbers at first; each access is given
+ * what the last one left. */
 #define VSK_SAVED_NUMBERS 10
 
 /* Makes one access of a move, 1 to VSK_ACCESSES:
@@ -441,18 +480,22 @@ vsk_answer vsk_signals(const uint32_t *VSK_RESTRICT state, size_t state_len,
  *   80 to 87   set the saved pending bits in new, write the saved enable bits;
  *   88 and 89  write the saved threshold and delivery to new.
  * A refused access leaves the record as it was. Made in this order, each once, with one old, one new and one
- * record, and with no call between the first and the last but vsk_wire and vsk_page_write, they leave new as
- * the file that the station would have had with no move. That is the theorem, Claim-105; docs/AUDIT.md opens
- * with it. What it asks for besides: at the start no active source's target names new, and new is nobody's,
- * for what it holds is lost; nobody writes to new's page until access 8 is made, nor to old's once access 72
- * is. A device's write counts when vsk_page_write is called: one on its way to old has to have arrived by
- * then (6.1.2, step 3), or it is lost. Old is left silent (Claim-180) and keeps its pending and enable bits:
- * clear them before it is used again, or those scans come twice.
+ * record, and with no call between the first and the last that stores but vsk_wire and vsk_page_write, they
+ * leave new as the file that the station would have had with no move. That is the theorem, Claim-105;
+ * docs/AUDIT.md opens with it. So the monitor holds back, on every hart and for every guest, what would
+ * claim, write a register or write to a domain; calls that only read, as vsk_signals, may be made at any time
+ * (Claim-181). What it asks for besides: at the start no active source's target names new, and new is
+ * nobody's, for what it holds is lost; nobody writes to new's page until access 8 is made, nor to old's once
+ * access 72 is. A device's write counts when vsk_page_write is called: one on its way to old has to have
+ * arrived by then (6.1.2, step 3), or it is lost. Old is left silent (Claim-180) and keeps its pending and
+ * enable bits: clear them before it is used again, or those interrupts come twice.
+ * Before access 1 look whether the supervisor domain has DM. A move that is given up after access 1 and
+ * before access 9 is undone by a write of saved[0] to old's eidelivery; what new held is lost.
  * It takes ten arguments, of which the last are passed on the stack: four on x86-64, two on RISC-V and on
  * aarch64.
  * Refuses 4: no such access; old and new are not two different guest files; the supervisor domain delivers
  * directly.
- * Claims 100 to 103, and of all 89 together 105 to 110 and 180. */
+ * Claims 100 to 103, and of all 89 together 105 to 110, 180 and 181. */
 VSK_CALL(read_write, none) VSK_ASKED(10)
 vsk_answer vsk_move(uint32_t *VSK_RESTRICT state, size_t state_len,
                     const uint32_t *VSK_RESTRICT log, size_t log_len,

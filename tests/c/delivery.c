@@ -99,8 +99,11 @@ static void by_messages(void)
     EQUAL(word(VSK_IFORCE(HART)) | word(VSK_ITHRESHOLD(HART)) | word(VSK_IDELIVERY(HART)), 0);
     EQUAL(word(VSK_TOPI(HART)) | word(VSK_CLAIMI(HART)), 0);
     put(VSK_ITHRESHOLD(HART), 1);
+    put(VSK_IDELIVERY(HART), 1);
+    put(VSK_IFORCE(HART), 0);
     EQUAL(state_changes(), 0);
     put(VSK_DOMAINCFG, 0);
+    EQUAL(word(VSK_IDELIVERY(HART)), 0);
     EQUAL(word(VSK_IFORCE(HART)), 1);
     EQUAL(word(VSK_ITHRESHOLD(HART)), 9);
 }

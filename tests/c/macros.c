@@ -1,4 +1,10 @@
 /* The macros of the header: their values, also of too large numbers and of arguments of several types. */
+/* A program's own macros, which the header must not stumble over. */
+#define none 0
+#define read_only 0
+#define write_only 0
+#define read_write 0
+#define nonnull 0
 #include "check.h"
 
 /* ---- constants, and macros in constant expressions ---- */
@@ -100,6 +106,9 @@ static void places(void)
     ONE(VSK_IDENTITY_BIT, 64, 1);
     ONE(VSK_SIGNAL, 0, 1);
     ONE(VSK_SIGNAL, 4, 16);
+    ONE(VSK_HGEIP, 31, 14);
+    ONE(VSK_HGEIP, 4, 2);
+    ONE(VSK_HGEIP, 3, 0);
 }
 
 /* ---- words that are made and taken apart again ---- */
@@ -145,6 +154,10 @@ static void too_large(void)
     EQUAL(VSK_TARGET_DIRECT(five, 0x40003), VSK_TARGET_DIRECT(1, 3));
     EQUAL(VSK_GENMSI_MESSAGE(five, 0x1028), VSK_GENMSI_MESSAGE(1, 40));
     EQUAL(VSK_TARGET_HART(VSK_TARGET_MESSAGE(five, 0, 1)), 1);
+    EQUAL(VSK_SOURCE_WORD(65) + VSK_SOURCE_BIT(65), VSK_SOURCE_WORD(1) + VSK_SOURCE_BIT(1));
+    EQUAL(VSK_IDENTITY_WORD(257) + VSK_IDENTITY_BIT(257), VSK_IDENTITY_WORD(1) + VSK_IDENTITY_BIT(1));
+    EQUAL(VSK_SIGNAL(8), VSK_SIGNAL(VSK_MACHINE_FILE));
+    EQUAL(VSK_HGEIP(UINT64_MAX), 14);
 }
 
 #define AS_TEXT(number) #number

@@ -80,6 +80,11 @@ static void moved(void)
             SENT(vsk_wire(BLOCKS, 9, 1), 0, 1); /* its target is rewritten already */
     }
     EQUAL(messages[0], VSK_LOGGED(2, VSK_GUEST_FILE(3), 200));
+    EQUAL(saved[0], VSK_DELIVERY_ON);
+    EQUAL(saved[1], 222);
+    EQUAL(saved[3], VSK_IDENTITY_BIT(70));
+    for (unsigned j = 0; j < 4; j++)
+        EQUAL(saved[6 + j], UINT64_C(0x10) << j);
     DONE(vsk_register(BLOCKS, NEW, VSK_READ, VSK_EIDELIVERY, 0), VSK_DELIVERY_ON);
     DONE(vsk_register(BLOCKS, NEW, VSK_READ, VSK_EITHRESHOLD, 0), 222);
     DONE(vsk_register(BLOCKS, NEW, VSK_READ, VSK_EIP(1), 0), VSK_IDENTITY_BIT(70));
@@ -92,8 +97,22 @@ static void moved(void)
     DONE(vsk_register(BLOCKS, OLD, VSK_READ, VSK_EIDELIVERY, 0), VSK_DELIVERY_OFF);
 }
 
+/* A move that is given up before access 9: old is as it was once its delivery is written. */
+static void given_up(void)
+{
+    for (unsigned last = 1; last < 9; last++) {
+        station();
+        keep();
+        for (unsigned access = 1; access <= last; access++)
+            DONE(vsk_move(BLOCKS, OLD, NEW, access, saved), 0);
+        DONE(vsk_register(BLOCKS, OLD, VSK_WRITE, VSK_EIDELIVERY, saved[0]), 0);
+        EQUAL(state_changes(), 0);
+    }
+}
+
 void test_moves(void)
 {
     barred();
     moved();
+    given_up();
 }

@@ -46,6 +46,19 @@ static void rules(void)
     DONE(vsk_top(BLOCKS, 0, 0), 0);
 }
 
+/* A block of zeros keeps the rules: it is a board on which every file is switched off. */
+static void zeros(void)
+{
+    start();
+    for (unsigned k = 0; k < VSK_STATE_WORDS; k++)
+        state[k] = 0;
+    for (uint64_t hart = 0; hart < VSK_HARTS; hart++) {
+        DONE(vsk_signals(BLOCKS, hart), 0);
+        for (uint64_t file = 0; file < VSK_FILES; file++)
+            DONE(vsk_register(BLOCKS, hart, file, VSK_READ, VSK_EIDELIVERY, 0), VSK_DELIVERY_OFF);
+    }
+}
+
 /* A word out of its range, by its place in docs/LAYOUT.md, on a board after a reset: refusal 3. */
 static void ranges(void)
 {
@@ -127,6 +140,7 @@ void test_refusals(void)
     memset(saved, 0, sizeof saved);
     lengths();
     rules();
+    zeros();
     ranges();
     no_such();
     addresses();

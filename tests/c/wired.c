@@ -53,12 +53,43 @@ static void sourcecfg(void)
     EQUAL(word(S, VSK_SOURCECFG(9)), VSK_SOURCE_EDGE1);
     put(S, VSK_SOURCECFG(9), 2);
     EQUAL(word(S, VSK_SOURCECFG(9)), 0);
-    put(S, VSK_SOURCECFG(9), VSK_SOURCE_EDGE0);
+    put(S, VSK_SOURCECFG(9), VSK_SOURCE_EDGE1);
+    put(S, VSK_SOURCECFG(9), VSK_SOURCE_DELEGATED | VSK_SOURCE_EDGE1);
+    EQUAL(word(S, VSK_SOURCECFG(9)), 0);
+    put(S, VSK_SOURCECFG(9), 0xFFFFF800 | VSK_SOURCE_EDGE0);
+    EQUAL(word(S, VSK_SOURCECFG(9)), VSK_SOURCE_EDGE0);
     put(M, VSK_SOURCECFG(9), 3); /* taken back */
     EQUAL(word(M, VSK_SOURCECFG(9)), 0);
     EQUAL(word(S, VSK_SOURCECFG(9)), 0);
     put(M, VSK_SOURCECFG(9), VSK_SOURCE_DELEGATED);
     EQUAL(word(S, VSK_SOURCECFG(9)), 0);
+}
+
+/* A write that takes the rectified value from low to high sets the pending bit, and no other write does. */
+static void rises(void)
+{
+    static const uint32_t inverted[] = {VSK_SOURCE_EDGE0, VSK_SOURCE_LEVEL0};
+    static const uint32_t straight[] = {VSK_SOURCE_EDGE1, VSK_SOURCE_LEVEL1};
+    for (unsigned n = 0; n < 2; n++) {
+        start();
+        put(M, VSK_SOURCECFG(6), inverted[n]); /* active low, and its wire is low */
+        put(M, VSK_SOURCECFG(7), straight[n]);
+        DONE(vsk_wire(BLOCKS, 8, 1), 0);
+        put(M, VSK_SOURCECFG(8), inverted[n]); /* its wire was set before */
+        EQUAL(word(M, VSK_SETIP(0)), VSK_SOURCE_BIT(6));
+        put(M, VSK_SOURCECFG(6), VSK_SOURCE_DETACHED);
+        put(M, VSK_CLRIPNUM, 6);
+        EQUAL(word(M, VSK_SETIP(0)), 0);
+        put(M, VSK_SOURCECFG(6), inverted[n]); /* detached counts as low */
+        EQUAL(word(M, VSK_SETIP(0)), VSK_SOURCE_BIT(6));
+    }
+    put(M, VSK_SOURCECFG(6), VSK_SOURCE_EDGE0);
+    put(M, VSK_CLRIPNUM, 6);
+    put(M, VSK_SOURCECFG(6), VSK_SOURCE_EDGE0); /* the same once more: it stays high */
+    EQUAL(word(M, VSK_SETIP(0)), 0);
+    put(M, VSK_DOMAINCFG, SEND);
+    put(M, VSK_SETIENUM, 8);
+    SENT(vsk_domain_write(BLOCKS, M, VSK_SOURCECFG(8), VSK_SOURCE_EDGE1), 0, 1); /* sent at once */
 }
 
 /* in_clrip reads a wire as it is, whatever the mode makes of it. */
@@ -248,6 +279,7 @@ void test_wired(void)
 {
     domaincfg();
     sourcecfg();
+    rises();
     inputs();
     numbers();
     changed_with_ie(M, 0);
