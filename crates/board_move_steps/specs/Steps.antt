@@ -4,6 +4,11 @@
 --                       The record has delivery, threshold, four words of pending bits and four of enable
 --                       bits, at these places:
 --   deliveryAt, thresholdAt, pendingAt k, enableAt k
+--   Act                 what an access may do, a case each; a register is named by its select number:
+--   Save r p            register r of old is read into the record at place p
+--   Zero c r            0 is written to register r, of new if c is true and else of old
+--   Target i            the target of source i, if it names old, is rewritten to name new
+--   Put k r p           the record's number at place p goes to register r of new, written or set as k says
 --   actOf n             what access n does, for n of 1 to 89
 --   actWithin a         the source that a names is one of 1 to 63, its place one of the record's
 use Prim.Native.Nat.{ℕ, _+_, _-_, _*_}

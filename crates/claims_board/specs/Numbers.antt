@@ -21,7 +21,7 @@ use Rattle.board_call.specs.Outcome.{outcome}
 
 -- what each call names is there exactly with these numbers: wires 1 to 63, levels 0 and 1, domains 0 and 1,
 -- harts 0 to 3, files 0 to 4, kinds of access 0 to 3
--- [01 B1 B2 B4 B5 C13]
+-- [01 B1 B2 B4 B5 C13 C21]
 unfoldable pub Claim-115 : Type 0
 Claim-115 =
     (b : Board)
@@ -72,7 +72,7 @@ AtStart c n = (s : List ℕ) → outcome c (blockOf startBoard) (replicate 63 0)
 -- the last that is there is done, and the first that is not is refused with 4; the last address of a page and
 -- of a region is done, the first past it and one that is no multiple of 4 are refused with 5; the first and
 -- the last legal select numbers are done, those beside them and an odd one are refused with 6
--- [01 B1 C18 C21 C22]
+-- [01 B1 C18 C22]
 unfoldable pub Claim-117 : Type 0
 Claim-117 =
     (AtStart (Wire 0 0) 4 × AtStart (Wire 1 0) 0 × AtStart (Wire 63 1) 0 × AtStart (Wire 64 1) 4

@@ -114,7 +114,7 @@ Passes c l g =
     (length l ≡ 650) × (length g ≡ 63) × (testsRules c ≡ true → boardSound (boardOf l) ≡ true)
 
 -- the table of refusals: each number where it applies and no lower one does, and 0 where none does
--- [01 B7 B10 C8 C9 C10 C11 C12 C13 C14 C15 C16 C18 X5]
+-- [01 B7 B10 C8 C9 C10 C11 C12 C13 C14 C15 C16 C18 C21 X5]
 unfoldable pub Claim-84 : Type 0
 Claim-84 =
     (c : Call) (l g : List ℕ) → let b = boardOf l in
@@ -137,9 +137,9 @@ Claim-85 =
 
 -- ---- what an accepted call leaves
 
--- an accepted call leaves a board that keeps the state rules and has its lengths, words of 32 bits in its
--- files, and sends at most 63 messages; of words of 32 bits that keep the rules, a value of 64 bits, and a
--- record of such
+-- given a block of words of 32 bits that keep the rules, a value of 64 bits and a record of such, an accepted
+-- call leaves a board that keeps the state rules and has its lengths, words of 32 bits in its files and a
+-- record of numbers of 64 bits, and sends at most 63 messages
 unfoldable pub Claim-86 : Type 0
 Claim-86 =
     (l g s : List ℕ) → WordsFit l → SavedFit s → (c : Call) → Small c → boardSound (boardOf l) ≡ true

@@ -63,7 +63,7 @@ pub record Given (c : Call) (n : ℕ) : Type 0 where
 -- access, old and new the same, either of them no guest file, and, with numbers that do not bar it, the child
 -- domain in direct mode; 5 by each call with an address, 6 by the one with a select number; and each call is
 -- done for some input
--- [01 C10 C11 C21 X5]
+-- [01 C10 C11 X5]
 unfoldable pub Claim-92 : Type 0
 Claim-92 =
     ((c : Call) → Given c 1 × Given c 2)

@@ -64,7 +64,6 @@ Claim-143 = ChangesMade × OneDomain
 
 -- the causes of Claim-40 change the pending bit alone, and nothing of a source that is not active and, by its
 -- rule, not pending; setip and in_clrip are two of them
--- [01 W39]
 unfoldable pub Claim-144 : Type 0
 Claim-144 =
     (s : Source) (m : Bool)

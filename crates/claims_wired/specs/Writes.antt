@@ -33,8 +33,9 @@ use Rattle.wired_state.specs.Wires.{Wired, wireSet, isDelegated}
 use Rattle.wired_registers.specs.Wired.{writtenIn}
 use Rattle.claims_wired.specs.Rules.{Sound, TargetStored}
 
--- a write of v to word k of a family changes the sources whose bits are set, and a number that source alone
--- [01 W3]
+-- a write of v to word k of a family changes the sources whose bits are set, and a number that source alone;
+-- `changed` leaves a source that is not active (Claim-144, and for enable bits Claim-134)
+-- [01 W3 W39]
 unfoldable pub Claim-55 : Type 0
 Claim-55 =
     (d : Domain) (wires : List ℕ) (family : Change) (v : ℕ) → DomainShaped d
@@ -54,7 +55,8 @@ pub record Restarted (m x : Bool) (s s′ : Source) : Type 0 where
   pub messages : isLevel (s .mode) ≡ true → m ≡ true → s′ .pending ≡ (isRectified (s .mode) x && s .pending)
 
 -- a write to domaincfg: IE is bit 8 and DM bit 2; with the same DM nothing else changes, and with another,
--- genmsi is 0 and each source is restarted
+-- genmsi is 0 and each active source has its start target, keeps its enable bit, and keeps its pending bit if
+-- it is no level source (`Restarted`)
 -- [01 W8 W10 W11 S15]
 unfoldable pub Claim-56 : Type 0
 Claim-56 =
