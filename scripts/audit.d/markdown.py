@@ -24,13 +24,16 @@ def inline(text, link):
         words = inline(m.group(2), link)
         return keep('<a href="%s">%s</a>' % (html.escape(target), words) if target else words)
 
-    def claim(name):
-        target = link('claim:' + name)
+    def numbered(name, kind):
+        target = link('%s:%s' % (kind, name))
         return keep('<a href="%s">%s</a>' % (target, name)) if target else name
 
     text = re.sub(r'`([^`]+)`', lambda m: keep('<code>%s</code>' % html.escape(m.group(1).replace('\\|', '|'))), text)
     text = re.sub(r'(!?)\[([^\]]*)\]\(([^)\s]+)\)', linked, text)
-    text = re.sub(r'\bClaim-\d+\b', lambda m: claim(m.group(0)), text)
+    text = re.sub(r'\bClaim-\d+\b', lambda m: numbered(m.group(0), 'claim'), text)
+    # a decision's own paragraph begins with its number
+    text = re.sub(r'^\*\*(D\d+)\.', lambda m: keep('<a id="%s"></a>' % m.group(1)) + m.group(0), text)
+    text = re.sub(r'(?<!\*\*)\bD\d+\b', lambda m: numbered(m.group(0), 'decision'), text)
     text = html.escape(text.replace('\\|', '|'), quote=False)
     text = re.sub(r'\*\*(.+?)\*\*', r'<b>\1</b>', text)
     text = re.sub(r'(?<![\w*])\*([^*\s][^*]*)\*(?![\w*])', r'<i>\1</i>', text)
@@ -76,7 +79,7 @@ STARTS = r'(#+ |```|\||[-*] |\d+\. )'
 
 
 def to_html(text, link):
-    """link gives a link's place, and that of 'claim:NAME', or None if there is no such place."""
+    """link gives a link's place, and that of 'claim:NAME' or 'decision:NAME', or None if there is no such place."""
     lines, out, k = text.split('\n'), [], 0
     while k < len(lines):
         line = lines[k]

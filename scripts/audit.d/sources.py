@@ -6,6 +6,8 @@ import re
 
 ROOT = os.path.dirname(os.path.dirname(os.path.dirname(os.path.abspath(__file__))))
 DEFINED = re.compile(r'^((?:unfoldable |abbrev )?pub (?:record |data )?)([\w′·-]+)(?= ?[:(]| .*:)')
+IMPORTED = re.compile(r'^use Rattle·(\w+?)(?:·specs)?\.specs\.declared\.(?:\w+\.)*?(\w+)(\.the-variants)?\.\{(.*?)\}',
+                      re.M | re.S)
 WORD = re.compile(r"[A-Za-z][\w′]*(?:-[\w′]+)*")
 
 
@@ -27,6 +29,32 @@ def index(place_of):
     return found
 
 
+def declared(text, place_of):
+    """The place in src/ of each type of the program that a file imports, and of each case of one."""
+    found = {}
+    for crate, kind, cases, names in IMPORTED.findall(text):
+        for path in sorted(glob.glob(os.path.join(ROOT, 'crates', crate, 'src/*.rt'))):
+            lines = open(path).read().splitlines()
+            head = next((k for k, line in enumerate(lines) if re.match(r'pub (enum|struct) %s\b' % kind, line)), None)
+            for name in re.findall(r'[\w-]+', names) if head is not None else []:
+                own = re.compile(r'\s+%s\b' % name if cases else '')
+                at = next((k for k in range(head, len(lines)) if own.match(lines[k])), head)
+                found[name] = '%s#L%d' % (place_of(os.path.relpath(path, ROOT)), at + 1)
+    return found
+
+
+def meanings():
+    """What the header of a file of specs/ says of each name that it lists."""
+    found = {}
+    for path in sorted(glob.glob(os.path.join(ROOT, 'crates/*/specs/*.antt'))):
+        header = re.match(r'(--.*\n)*', open(path).read()).group(0)
+        rows = re.findall(r'^--   (\S.*?)\s{2,}(\S.*\n(?:-- {10,}\S.*\n)*)', header, re.M)
+        for left, right in rows:
+            for name in re.findall(r'(?:^|, )([\w′·-]+)', left):
+                found.setdefault(name, '%s: %s' % (left, ' '.join(re.sub(r'^--', '', right, flags=re.M).split())))
+    return found
+
+
 def leads(word, line, start):
     """Whether a word of a line is a name there: not a field, and in a comment only what no plain word looks like."""
     if line[max(0, start - 1):start] in ('.', '·', '-', '_', '/'):
@@ -35,8 +63,8 @@ def leads(word, line, start):
     return not comment or bool(re.search(r'[a-z][A-Z]|-\d', word))
 
 
-def linked(text, index, here):
-    """The text for a page: each name that is defined somewhere leads there."""
+def linked(text, index, here, meant):
+    """The text for a page: each name that is defined somewhere leads there, and tells what it means."""
     folder = os.path.dirname(here) or '.'
     rows = []
     for line in text.splitlines():
@@ -44,8 +72,9 @@ def linked(text, index, here):
         for m in WORD.finditer(line):
             place = index.get(m.group(0))
             if place and leads(m.group(0), line, m.start()):
+                title = ' title="%s"' % html.escape(meant[m.group(0)]) if m.group(0) in meant else ''
                 out += [html.escape(line[last:m.start()], quote=False),
-                        '<a href="%s">%s</a>' % (os.path.relpath(place, folder), m.group(0))]
+                        '<a href="%s"%s>%s</a>' % (os.path.relpath(place, folder), title, m.group(0))]
                 last = m.end()
         rows.append(''.join(out) + html.escape(line[last:], quote=False))
     return '\n'.join(rows)
