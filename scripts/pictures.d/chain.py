@@ -39,8 +39,8 @@ CHAIN = [
      'a time'),
     ('*the monitor*, in C', AMBER, None, None),
 ]
-SECOND = ('*the second program*, `second/`\na plain model, written from the papers, the decided points and the '
-          'header: nothing of crates/ was read for it')
+SECOND = ('*the second program*, `second/`\na plain model, written from the papers, the decided points, the '
+          'header and the layout: nothing of crates/ was read for it')
 RANDOM = ('*random calls*, on the machine at hand\ntwo million in each gate, half of them from a fresh seed; '
           'after each call the answer and every word are compared')
 RECORDED = ('*recorded cases*, T1 to T11 first, and fresh ones: made on each archive that the machine can '
