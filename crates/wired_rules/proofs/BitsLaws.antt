@@ -1,93 +1,28 @@
--- The bits of all sources at once: a word that is 0 says a rule of every source. No contract cites this file.
--- Assumes nothing.
+-- The bits of all sources at once are the rules of each. No contract cites this file. Assumes nothing.
 use Prim.Native.Nat.{ℕ, _+_, _^_, _≤_, _<_}
 use mathlib.Core.Path.{_≡_, refl, sym, ap, transport, _∙_}
 use mathlib.Core.Bool.{Bool, true, false, not, _&&_, _||_}
 use mathlib.Core.List.{List}
-use native.Mathlib.Nat.{lt-of-le-of-lt}
 use native.Mathlib.Omega.{arith}
-use lib.Dec.{eqb}
 use lib.ListN.{getD}
-use borrow.Author.Tests.{ne-eqb}
-use Rattle.words.specs.Bits.{hasBit, union, without}
+use Rattle.words.specs.Bits.{hasBit}
 use Rattle.words.specs.Parts.{joined}
 use Rattle.words.specs.Sets.{member}
 use Rattle.words.specs.Every.{every}
-use Rattle.words.proofs.BitsLaws.{hasBit-union, hasBit-without, union-lt, without-le}
 use Rattle.words.proofs.SetsLaws.{member-word}
-use Rattle.words.proofs.EveryLaws.{and-assoc, every-of, every-both, every-same, every-first}
-use Rattle.words_masks.specs.Masks.{common, gathered}
-use Rattle.words_masks.proofs.MasksLaws.{hasBit-common, common-lt, hasBit-gathered, none-every, hasBit-set}
+use Rattle.words.proofs.EveryLaws.{and-assoc, every-both, every-same, every-first}
+use Rattle.words_masks.proofs.MasksLaws.{hasBit-set}
 use Rattle.source_rules.specs.SourceRules.{levelRule}
 use Rattle.source_rules.specs.SourceParts.{occupied, straightWord, invertedWord}
 use Rattle.source_laws.proofs.PartsEffects.{level-words, bits-are}
 use Rattle.domain.specs.Domain.{Domain, isEnabled, byMessages, sends}
 use Rattle.domain.specs.Slot.{sourceAt}
 use Rattle.domain.proofs.SlotLaws.{pending-word, enable-word}
-use Rattle.wired_rules.specs.declared.Gathered.{Gathered}
+use Rattle.domain_slots.specs.declared.Gathered.{Gathered}
+use Rattle.domain_slots.specs.Slots.{SoFar}
+use Rattle.domain_slots.proofs.SlotsLaws.{bit-of, bit-zero}
 use Rattle.wired_rules.specs.Rules.{sourceZeroRule}
-use Rattle.wired_rules.specs.Slots.{has, bitsAt, SoFar}
-
--- ---- a word that is 0
-
--- a word is 0 exactly if p holds of every number below 64, where p says that the word has not its bit
-word-test : (w : ℕ) (p : ℕ → Bool) → w < 2 ^ 64 → ((j : ℕ) → not (hasBit w j) ≡ p j)
-    → eqb w 0 ≡ every p 0 64
-word-test w p h f = none-every 64 w h ∙ every-same (λ j. not (hasBit w j)) p 0 64 (λ j l m. f j)
-
-used : (a p e : Bool) → not ((p || e) && not a) ≡ (a || (not p && not e))
-used true true e = refl
-used true false true = refl
-used true false false = refl
-used false true e = refl
-used false false true = refl
-used false false false = refl
-
-module _ (p e : ℕ) (hp : p < 2 ^ 64) where
-  pub word-unused : (a : ℕ) → e < 2 ^ 64
-      → eqb (without (union p e) a) 0
-      ≡ every (λ j. hasBit a j || (not (hasBit p j) && not (hasBit e j))) 0 64
-  word-unused a he =
-      word-test (without (union p e) a) (λ j. hasBit a j || (not (hasBit p j) && not (hasBit e j)))
-      (lt-of-le-of-lt (without-le (union p e) a) (union-lt 64 p e hp he))
-      (λ j. ap not (hasBit-without (union p e) a j
-      ∙ ap (λ (b : Bool). b && not (hasBit a j)) (hasBit-union p e j))
-      ∙ used (hasBit a j) (hasBit p j) (hasBit e j))
-
-  pub word-unsent : (s : Bool)
-      → (not s || eqb (common p e) 0) ≡ every (λ j. not (s && hasBit p j && hasBit e j)) 0 64
-  word-unsent true =
-      word-test (common p e) (λ j. not (hasBit p j && hasBit e j)) (common-lt 64 p e hp)
-      (λ j. ap not (hasBit-common p e j))
-  word-unsent false = sym (every-of (λ j. not (false && hasBit p j && hasBit e j)) 0 64 (λ j l h. refl))
-
-module _ (s v w p : ℕ) where
-  pub word-low : p < 2 ^ 64
-      → eqb (common p (union (without s w) (common v w))) 0
-      ≡ every (λ j. not (hasBit p j && ((hasBit s j && not (hasBit w j)) || (hasBit v j && hasBit w j)))) 0 64
-  word-low hp =
-      word-test (common p (union (without s w) (common v w)))
-      (λ j. not (hasBit p j && ((hasBit s j && not (hasBit w j)) || (hasBit v j && hasBit w j))))
-      (common-lt 64 p (union (without s w) (common v w)) hp)
-      (λ j. ap not (hasBit-common p (union (without s w) (common v w)) j
-      ∙ ap (λ (b : Bool). hasBit p j && b) (hasBit-union (without s w) (common v w) j
-      ∙ (λ k. hasBit-without s w j k || hasBit-common v w j k))))
-
-  pub word-missing : (m : Bool) → s < 2 ^ 64 → v < 2 ^ 64
-      → (m || eqb (without (union (common s w) (without v w)) p) 0)
-      ≡ every (λ j. m
-      || not (((hasBit s j && hasBit w j) || (hasBit v j && not (hasBit w j))) && not (hasBit p j))) 0 64
-  word-missing true hs hv = sym (every-of _ 0 64 (λ j l h. refl))
-  word-missing false hs hv =
-      word-test (without (union (common s w) (without v w)) p)
-      (λ j. not (((hasBit s j && hasBit w j) || (hasBit v j && not (hasBit w j))) && not (hasBit p j)))
-      (lt-of-le-of-lt (without-le (union (common s w) (without v w)) p)
-      (union-lt 64 (common s w) (without v w) (common-lt 64 s w hs) (lt-of-le-of-lt (without-le v w) hv)))
-      (λ j. ap not (hasBit-without (union (common s w) (without v w)) p j
-      ∙ ap (λ (b : Bool). b && not (hasBit p j)) (hasBit-union (common s w) (without v w) j
-      ∙ (λ k. hasBit-common s w j k || hasBit-without v w j k))))
-
--- ---- all sources
+use Rattle.wired_rules.specs.Bits.{bitsAt}
 
 at-zero : (p e s m w : Bool)
     → ((false || (not p && not e)) && not (s && p && e)
@@ -103,17 +38,6 @@ at-zero false false true true w = refl
 at-zero false false true false w = refl
 at-zero false false false true w = refl
 at-zero false false false false w = refl
-
--- what is gathered, at a source and at 0
-module _ (q : ℕ → Bool) (d : Domain) (x : ℕ) (g : x ≡ gathered (has q d) 64) where
-  pub bit-of : (j : ℕ) → 1 ≤ j → j < 64 → hasBit x j ≡ q (sourceAt d j .mode)
-  unfolding has
-  bit-of j l h = ap (λ (w : ℕ). hasBit w j) g ∙ hasBit-gathered (has q d) 64 j h
-      ∙ ap (λ (b : Bool). not b && q (sourceAt d j .mode)) (ne-eqb j 0 (λ e. omega arith))
-
-  pub bit-zero : hasBit x 0 ≡ false
-  unfolding has
-  bit-zero = ap (λ (w : ℕ). hasBit w 0) g ∙ hasBit-gathered (has q d) 64 0 (omega arith)
 
 module _ (c : Bool) (ws : List ℕ) (d : Domain) (g : Gathered) (so : SoFar c d 64 g) (p e w : ℕ) where
   abbrev M : Bool

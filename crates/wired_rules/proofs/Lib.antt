@@ -1,4 +1,3 @@
 -- The laws of the state rules. Assumes nothing.
 pub mod BitsLaws
 pub mod RulesLaws
-pub mod SlotsLaws

@@ -28,8 +28,9 @@ use Rattle.wired_state.proofs.WiresLaws.{delegated-mode}
 use Rattle.wired_rules.specs.Rules.{configRange, generatedRange, structureRange, sourceZeroRule}
 use Rattle.wired_rules.specs.Rules.{generatedRule}
 use Rattle.wired_rules.specs.Rules.{sourceRule, domainSound, delegatedRule, wiredSound}
-use Rattle.wired_rules.specs.Slots.{slotAt, bitsAt, has}
-use Rattle.wired_rules.proofs.BitsLaws.{bit-of, bit-zero}
+use Rattle.domain_slots.specs.Slots.{slotAt, has}
+use Rattle.domain_slots.proofs.SlotsLaws.{bit-of, bit-zero, slot-at}
+use Rattle.wired_rules.specs.Bits.{bitsAt}
 
 pub generated-rules-read : (d : Domain) {g h : ℕ} {m : Bool}
     → g ≡ generatedAt d → h ≡ keptGenerated g → m ≡ byMessages d
@@ -43,11 +44,12 @@ generated-rules-read d {g = g} {m = t} a b m =
 
 pub source-rules-read : (c : Bool) (ws : List ℕ) (d : Domain)
     → (every (slotAt c d) 1 63 && every (bitsAt c ws d) 1 63) ≡ every (sourceRule c ws d) 1 63
-unfolding slotAt bitsAt sourceRule
+unfolding bitsAt sourceRule
 source-rules-read c ws d =
     every-both (slotAt c d) (bitsAt c ws d) 1 63
     ∙ every-same (λ j. slotAt c d j && bitsAt c ws d j) (sourceRule c ws d) 1 63
-    (λ j l h. source-parts c (byMessages d) (sends d) (member ws j) (sourceAt d j))
+    (λ j l h. ap (λ (b : Bool). b && bitsAt c ws d j) (slot-at c d j)
+    ∙ source-parts c (byMessages d) (sends d) (member ws j) (sourceAt d j))
 
 -- the rules of a domain as the code groups them
 grouped : (a b g z e s w r : Bool)

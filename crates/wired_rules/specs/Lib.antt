@@ -1,3 +1,3 @@
 -- The state rules of the wired controller. Assumes nothing.
+pub mod Bits
 pub mod Rules
-pub mod Slots

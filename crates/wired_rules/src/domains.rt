@@ -10,20 +10,21 @@ ghost use Rattle.words.specs.Every.{every};
 ghost use Rattle.wired_rules.specs.Rules.{configRange, generatedRange, generatedRule, sourceZeroRule};
 ghost use Rattle.wired_rules.specs.Rules.{domainSound, wiredSound};
 ghost use Rattle.source_rules.specs.SourceParts.{heldBack, occupied};
-ghost use Rattle.wired_rules.specs.Slots.{has, bitsAt, SoFar};
-use super::Gathered;
+ghost use Rattle.domain_slots.specs.Slots.{has, SoFar};
+ghost use Rattle.wired_rules.specs.Bits.{bitsAt};
 use super::Tested;
-use super::bits::none_low;
-use super::bits::none_missing;
-use super::bits::none_unsent;
-use super::bits::none_unused;
-use super::bits::one_word;
-use super::slots::gather;
 use super::structures::structure_pass;
+use domain_slots::Gathered;
+use domain_slots::gather;
 use sizes::CHILD_PLACE;
 use sizes::ROOT_PLACE;
 use sizes::SOURCE_SET_SIZE;
 use sizes::WIRED_SIZE;
+use source_bits::none_low;
+use source_bits::none_missing;
+use source_bits::none_unsent;
+use source_bits::none_unused;
+use source_bits::one_word;
 
 fn config_rule(part: &[u32]) -> bool
     requires { ⌜ length (now part) ≡ domainSize ⌝ }

@@ -13,7 +13,7 @@ use Rattle.wired_state.specs.Wires.{wiredOf}
 use Rattle.wired_state.proofs.WiresLaws.{root-part, child-part}
 use Rattle.wired_rules.specs.Rules.{domainSound}
 use Rattle.source_rules.specs.SourceParts.{heldBack, occupied}
-use Rattle.wired_rules.specs.Slots.{has}
+use Rattle.domain_slots.specs.Slots.{has}
 use Rattle.wired_rules.proofs.RulesLaws.{wired-sound-read}
 use borrow.Author.Needs.{needs}
 use Rattle.wired_rules.proofs.domains.sound.Statement.{statement}

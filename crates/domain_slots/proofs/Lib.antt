@@ -1,0 +1,2 @@
+-- The laws of the pass over a domain's sources. Assumes nothing.
+pub mod SlotsLaws

@@ -1,0 +1,2 @@
+-- The laws of a word that is 0. Assumes nothing.
+pub mod ZeroLaws
