@@ -31,7 +31,7 @@ unfolding Claim-44
 claim-44 d h m some =
     let source : topSource d h ≢ 0 = λ z. some (topi-zero d h m .1 z) in
     let top = topi-least d h source in
-    (topi-is d h m source, top .0, top .3)
+    (topi-is d h m source, top .1, top .2, top .0, top .3)
 
 pub claim-45 : Claim-45
 unfolding Claim-45

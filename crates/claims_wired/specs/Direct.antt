@@ -29,14 +29,14 @@ Claim-43 =
     (d : Domain) (h : ℕ) → byMessages d ≡ false
     → (topiOf d h ≡ 0) ↔ ((i : ℕ) → 1 ≤ i → i ≤ 63 → eligible d h i ≡ false)
 
--- in direct mode topi that is not 0 is source × 65536 + priority of a source that qualifies, with the least
--- priority number, and the lowest source among equals
+-- in direct mode topi that is not 0 is source × 65536 + priority of a source, 1 to 63, that qualifies, with
+-- the least priority number, and the lowest source among equals
 -- [01 S7 S8 S10 M6]
 unfoldable pub Claim-44 : Type 0
 Claim-44 =
     (d : Domain) (h : ℕ) → byMessages d ≡ false → topiOf d h ≢ 0
     → (topiOf d h ≡ topSource d h * 65536 + priority d (topSource d h))
-    × (eligible d h (topSource d h) ≡ true)
+    × (1 ≤ topSource d h) × (topSource d h ≤ 63) × (eligible d h (topSource d h) ≡ true)
     × ((i : ℕ) → 1 ≤ i → i ≤ 63 → eligible d h i ≡ true
     → (priority d (topSource d h) ≤ priority d i)
     × (priority d i ≡ priority d (topSource d h) → topSource d h ≤ i))
