@@ -134,3 +134,13 @@ module _ (c : Call) (l g : List ℕ) where
 
   pub refused-numbers : blockRefusal (testsRules c) l g ≡ 0 → refusalOf c l g ≡ nameRefusal c (boardOf l)
   refused-numbers z = refusal-append ∙ simp (eq-eqb (blockRefusal (testsRules c) l g) 0 z)
+
+  -- an accepted call passed every test
+  pub refused-none : refusalOf c l g ≡ 0
+      → (blockRefusal (testsRules c) l g ≡ 0) × (nameRefusal c (boardOf l) ≡ 0)
+  refused-none e = at (ℕ-discrete (blockRefusal (testsRules c) l g) 0)
+    where
+      at : Dec (blockRefusal (testsRules c) l g ≡ 0)
+          → (blockRefusal (testsRules c) l g ≡ 0) × (nameRefusal c (boardOf l) ≡ 0)
+      at (yes z) = (z, sym (refused-numbers z) ∙ e)
+      at (no n) = absurd (n (sym (refused-blocks _ refl n) ∙ e))

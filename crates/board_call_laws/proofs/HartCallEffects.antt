@@ -124,7 +124,7 @@ pub tests-signals : (h : ℕ) → Tests (Signals h) (λ b. ltb h 4) true true
 unfolding testsRules present addressed selected
 tests-signals h = record { rules = refl; names = λ b. refl; addresses = refl; selects = refl }
 
-step-signals : (b : Board) → boardSound b ≡ true → (h : ℕ) (u : List ℕ)
+pub step-signals : (b : Board) → boardSound b ≡ true → (h : ℕ) (u : List ℕ)
     → step (Signals h) b u ≡ quiet b (signalsTo b h 5) u
 unfolding step change
 step-signals b sound h u = step-answering b sound _ u

@@ -12,9 +12,9 @@ use Rattle.words.specs.Every.{every}
 use Rattle.words.proofs.EveryLaws.{every-each}
 use Rattle.words.specs.Sets.{member}
 use Rattle.words.proofs.TestsLaws.{tested, and-first, beq-true}
-use Rattle.file_select.specs.Select.{selectLegal}
 use Rattle.file.specs.declared.File.{File}
-use Rattle.file.specs.Register.{accessed, accessedAt}
+use Rattle.file.specs.Register.{accessed}
+use Rattle.file_laws.proofs.RegisterEffects.{accessed-read}
 use Rattle.file_laws.proofs.Stored.{Long}
 use Rattle.file_message.specs.Message.{hartIn, fileIn, identityIn}
 use Rattle.files.specs.Files.{fileNumber, isGuest, theFile, withFile, namedBy}
@@ -199,8 +199,8 @@ module _ (b : Board) (s : List ℕ) (k : ℕ) where
 
   -- a read of a register
   read-same : (g : Bool) (x : File) (r v : ℕ) → accessed 255 g x (kindOf 0) r v .file ≡ x
-  unfolding accessed accessedAt kindOf
-  read-same g x r v = tested (selectLegal r) (λ t. simp t) (λ u. simp u)
+  unfolding kindOf
+  read-same g x r v = accessed-read 255 g x r v
 
   left-register : (h f kind x v : ℕ) → (not (eqb kind 0) && eqb k (5 * h + f)) ≡ false
       → Left (Register h f kind x v)

@@ -27,7 +27,7 @@ use Rattle.board_call.specs.Outcome.{thenSent, step, outcome}
 use Rattle.board_call.proofs.RefusalLaws.{refused-state, refused-log, refused-rules, blocks-sound}
 use Rattle.board_call.proofs.RefusalLaws.{blocks-untested}
 use Rattle.board_call.proofs.RefusalLaws.{refused-name, refused-address, refused-select, numbers-name}
-use Rattle.board_call.proofs.RefusalLaws.{refused-blocks, refused-numbers, passed-state}
+use Rattle.board_call.proofs.RefusalLaws.{refused-blocks, refused-numbers, refused-none, passed-state}
 use Rattle.board_call_laws.proofs.GivesEffects.{gives-one}
 use Rattle.board_call_laws.proofs.FitEffects.{fit-block}
 use Rattle.board_call_laws.proofs.HartCallEffects.{signal-bit}
@@ -97,23 +97,13 @@ claim-85 c l g s h = simp (ne-eqb (refusalOf c l g) 0 h)
 
 -- ---- what an accepted call leaves
 
--- an accepted call passed every test
-accepted : (c : Call) (l g : List ℕ) → refusalOf c l g ≡ 0
-    → (blockRefusal (testsRules c) l g ≡ 0) × (nameRefusal c (boardOf l) ≡ 0)
-accepted c l g e = at (ℕ-discrete (blockRefusal (testsRules c) l g) 0)
-  where
-    at : Dec (blockRefusal (testsRules c) l g ≡ 0)
-        → (blockRefusal (testsRules c) l g ≡ 0) × (nameRefusal c (boardOf l) ≡ 0)
-    at (yes z) = (z, sym (refused-numbers c l g z) ∙ e)
-    at (no n) = absurd (n (sym (refused-blocks c l g _ refl n) ∙ e))
-
 names : (c : Call) (b : Board) → nameRefusal c b ≡ 0 → present c b ≡ true
 names c b e = tested (present c b) (λ y. y) (λ n. absurd (omega (arith, refused-name c b n, e)))
 
 pub claim-86 : Claim-86
 unfolding Claim-86
 claim-86 l g s fit savedFit c small sound e =
-    let passed = accepted c l g e in
+    let passed = refused-none c l g e in
     let long = passed-state (testsRules c) l g (passed .0) in
     let kept = kept-step (boardOf l) (fit-block l long fit sound) s savedFit c
     (names c (boardOf l) (passed .1))

@@ -44,6 +44,7 @@ use Rattle.domain_registers.specs.Write.{registerWritten}
 use Rattle.domain_registers.proofs.ReadLaws.{claimed-by, claimed-none}
 use Rattle.wired_state.specs.Wires.{Wired, domainIn, withDomain}
 use Rattle.wired_registers.specs.Wired.{readIn, partWritten, writtenAs, writtenIn}
+use Rattle.wired_laws.proofs.ReadEffects.{claimedIn-none}
 use Rattle.claims_wired.specs.Rules.{Long, Sound}
 use Rattle.claims_wired.specs.Registers.{Bit, Claim-132}
 use Rattle.claims_wired.specs.Settings.{Claim-135, Claim-136}
@@ -67,11 +68,6 @@ module _ (w : Wired) where
   wires-with true d = refl
   wires-with false d = refl
 
-  with-own : (c : Bool) → withDomain w c (domainIn w c) ≡ w
-  unfolding domainIn withDomain
-  with-own true = refl
-  with-own false = refl
-
 -- ---- what a read leaves
 
 no-claim : (r : Word) → ((h : ℕ) → r ≢ Claimi h) → (h : ℕ) → roleOf r ≢ Claims h
@@ -81,7 +77,7 @@ pub claim-140 : Claim-140
 unfolding Claim-140
 claim-140 = (
   λ d r n. claimed-none d r (no-claim r n),
-  λ w c r n. ap (withDomain w c) (claimed-none (domainIn w c) r (no-claim r n)) ∙ with-own w c,
+  λ w c r n. claimedIn-none w c r (no-claim r n),
   λ w h. unfold withDomain domainIn in (
     rw (claimed-by (w .root) (Claimi h) h refl),
     rw (claimed-by (w .child) (Claimi h) h refl),

@@ -16,11 +16,14 @@ use Rattle.words.specs.Parts.{low, high, joined}
 use Rattle.words.specs.Sets.{member}
 use Rattle.words.proofs.BitsLaws.{hasBit-withoutBit-same, hasBit-withoutBit-other}
 use Rattle.words.proofs.PartsLaws.{joined-back, hasBit-low, hasBit-high}
+use Rattle.words.proofs.TestsLaws.{tested}
 use Rattle.file_select.specs.declared.Register.the-variants.{Delivery, Threshold, Pending, Enable}
+use Rattle.file_select.specs.Select.{selectLegal}
 use Rattle.file_select.specs.Halves.{doubleword, putHalves, putDoubleword}
 use Rattle.file_select.specs.Deliveries.{deliveryLegal}
 use Rattle.file.specs.declared.File.{File}
-use Rattle.file.specs.Register.{held, written}
+use Rattle.file.specs.declared.register.Access.the-variants.{Read}
+use Rattle.file.specs.Register.{held, written, accessedAt, accessed}
 use Rattle.file.proofs.RegisterLaws.{written-legal, written-illegal}
 
 -- ---- two words of a set
@@ -125,3 +128,9 @@ module _ (n : ℕ) (g : Bool) (f : File) (v : ℕ) where
       → held (written n g f (Enable j) v) (Enable j) ≡ cond (eqb j 0) (withoutBit v 0) v
   unfolding held written
   enable-back j fits = doubleword-put (f .enable) j v fits
+
+-- ---- what a read leaves
+
+pub accessed-read : (n : ℕ) (g : Bool) (f : File) (s v : ℕ) → accessed n g f Read s v .file ≡ f
+unfolding accessed accessedAt
+accessed-read n g f s v = tested (selectLegal s) (λ t. simp t) (λ u. simp u)

@@ -2,3 +2,4 @@
 pub mod OutEffects
 pub mod WireEffects
 pub mod TargetEffects
+pub mod ReadEffects
