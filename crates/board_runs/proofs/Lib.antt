@@ -1,2 +1,3 @@
 -- What holds of calls made one after the other. Assumes nothing.
 pub mod RunsEffects
+pub mod ReadingEffects

@@ -1,3 +1,4 @@
 -- Calls made one after the other. Assumes nothing.
 pub mod Runs
 pub mod Ready
+pub mod Reading

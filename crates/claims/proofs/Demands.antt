@@ -47,7 +47,7 @@ use Rattle.claims_calls.proofs.Answers.{claim-177}
 use Rattle.claims_move.proofs.MoveCall.{claim-100, claim-101, claim-102, claim-103}
 use Rattle.claims_move.proofs.Station.{claim-104, claim-105, claim-106, claim-107, claim-108, claim-109}
 use Rattle.claims_move.proofs.Premises.{claim-175, claim-178}
-use Rattle.claims_move.proofs.Station.{claim-110, claim-111, claim-112, claim-180}
+use Rattle.claims_move.proofs.Station.{claim-110, claim-111, claim-112, claim-180, claim-181}
 use Rattle.claims_cases.proofs.Runs.{claim-163}
 use Rattle.claims_cases.proofs.Table.{claim-170}
 use Rattle.claims.specs.Demands.{Demand-1, Demand-2, Demand-3}
@@ -220,6 +220,7 @@ demand-3 = (
   claim-109,
   claim-110,
   claim-180,
+  claim-181,
   claim-175,
   claim-111,
   claim-112,

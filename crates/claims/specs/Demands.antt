@@ -47,7 +47,7 @@ use Rattle.claims_calls.specs.Answers.{Claim-177}
 use Rattle.claims_move.specs.MoveCall.{Claim-100, Claim-101, Claim-102, Claim-103}
 use Rattle.claims_move.specs.Station.{Claim-104, Claim-105, Claim-106, Claim-107, Claim-108, Claim-109}
 use Rattle.claims_move.specs.Premises.{Claim-175, Claim-178}
-use Rattle.claims_move.specs.Station.{Claim-110, Claim-111, Claim-112, Claim-180}
+use Rattle.claims_move.specs.Station.{Claim-110, Claim-111, Claim-112, Claim-180, Claim-181}
 use Rattle.claims_cases.specs.Runs.{Claim-163}
 use Rattle.claims_cases.specs.Table.{Claim-170}
 
@@ -128,5 +128,7 @@ Demand-3 =
     × Claim-107 × Claim-108 × Claim-109 × Claim-110
     -- what is left of the old file
     × Claim-180
+    -- what only reads may be called at any moment
+    × Claim-181
     -- the premises are the paper's, can be met, and each is needed
     × Claim-175 × Claim-111 × Claim-112

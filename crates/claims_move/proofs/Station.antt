@@ -1,4 +1,4 @@
--- Claims 104 to 112 and 180, by the laws of runs and of the move. Assumes nothing.
+-- Claims 104 to 112, 180 and 181, by the laws of runs and of the move. Assumes nothing.
 use Prim.Native.Nat.{ℕ}
 use mathlib.Core.Path.{_≡_, refl, sym, ap, _∙_}
 use mathlib.Core.Bool.{Bool, true, false, not, _&&_}
@@ -11,9 +11,12 @@ use Rattle.words.specs.Sets.{member}
 use Rattle.file.specs.declared.File.{File}
 use Rattle.file.specs.Top.{topIdentity, claimed}
 use Rattle.file_laws.proofs.TopEffects.{top-is, top-within, claimed-pending}
+use Rattle.board_call.specs.declared.Call.the-variants.{DomainRead, PageRead, Register, Top, Signals}
 use Rattle.board_runs.specs.Runs.{Lent, ran}
 use Rattle.board_runs.specs.Ready.{boardIn}
+use Rattle.board_runs.specs.Reading.{onlyReads}
 use Rattle.board_runs.proofs.RunsEffects.{ready-refusal, after-refused, after-board, after-saved, ready-after}
+use Rattle.board_runs.proofs.ReadingEffects.{reads-word, after-read, ran-storing}
 use Rattle.transfer_laws.specs.Shift.{Stations, Event, withMove, withoutMove}
 use Rattle.transfer_laws.specs.Premises.{Started, TwoGuests, ByMessages, NoneNamesNew, AllAccesses, PagesKept}
 use Rattle.transfer_laws.specs.Premises.{Premises}
@@ -29,7 +32,7 @@ use Rattle.transfer_cases.proofs.NeededShifts.{pages-are, needs-all, needs-page
 use Rattle.transfer_cases.proofs.NeededShifts.{needs-fresh, needs-messages, needs-guest-old, needs-guest-new}
 use Rattle.transfer_cases.proofs.NeededShifts.{needs-started}
 use Rattle.claims_move.specs.Station.{Claim-104, Claim-105, Claim-106, Claim-107, Claim-108, Claim-109}
-use Rattle.claims_move.specs.Station.{Claim-110, Claim-111, Claim-112, Claim-180}
+use Rattle.claims_move.specs.Station.{Claim-110, Claim-111, Claim-112, Claim-180, Claim-181}
 
 pub claim-104 : Claim-104
 unfolding Claim-104
@@ -144,6 +147,20 @@ claim-180 m x es s g b f a p =
     let q = premises m x es s g b f a p in
     let left = move-leaves m x es q in
     (left .silent, left .signal, left .unnamed, wire-leaves m g _ (move-beside m x es q .ready) left)
+
+pub claim-181 : Claim-181
+unfolding Claim-181 onlyReads
+claim-181 = (
+  λ x h f a s v d. (
+    after-read (PageRead h f a) x refl,
+    after-read (Top h f) x refl,
+    after-read (Signals h) x refl,
+    after-read (Register h f 0 s v) x refl,
+    λ n. after-read (DomainRead d a) x (reads-word d a n),
+  ),
+  after-read,
+  ran-storing,
+)
 
 pub claim-111 : Claim-111
 unfolding Claim-111

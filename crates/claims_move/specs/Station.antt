@@ -1,4 +1,4 @@
--- Claims 104 to 112 and 180, the auditor's question: when the monitor moves a station in the middle of a
+-- Claims 104 to 112, 180 and 181, the auditor's question: when the monitor moves a station in the middle of a
 -- shift, can a scan be dropped, doubled or handed to the wrong station? 01, "The move, with its premises".
 --   MovedWhere P     P holds of what is lent after every shift with a move and after the same shift without
 --                    it, where the premises of 01 are met: each is a definition of Rattle.transfer_laws,
@@ -7,7 +7,7 @@
 -- 32 bits, 63 words of log and a record of numbers of 64 bits, and `Small c`, a value of 64 bits; of claims
 -- 105 to 110 and 180 the six of 01, `Started`, `TwoGuests`, `ByMessages`, `NoneNamesNew`, `AllAccesses` and
 -- `PagesKept`, which Claim-111 shows can be met, and Claim-112 that each is needed; of Claim-110 besides
--- `SmallCalls cs`, register values of 64 bits in the calls afterwards. Claims 111 and 112 have none.
+-- `SmallCalls cs`, register values of 64 bits in the calls afterwards. Claims 111, 112 and 181 have none.
 -- No axioms.
 use Prim.Native.Nat.{ℕ, _+_, _*_, _≤_, _<_}
 use mathlib.Core.Path.{_≡_}
@@ -18,17 +18,21 @@ use Rattle.words.specs.Bits.{hasBit}
 use Rattle.words.specs.Sets.{member}
 use Rattle.file.specs.Top.{topIdentity}
 use Rattle.files.specs.Files.{fileNumber, theFile}
+use Rattle.domain_region.specs.declared.Word.the-variants.{Claimi}
+use Rattle.domain_region.specs.Region.{wordAt}
 use Rattle.domain.specs.Slot.{sourceAt}
 use Rattle.wired_state.specs.Wires.{domainIn}
 use Rattle.board_move_steps.specs.Names.{namesFile}
 use Rattle.board_call.specs.declared.Call.{Call}
-use Rattle.board_call.specs.declared.Call.the-variants.{Wire, Claim}
+use Rattle.board_call.specs.declared.Call.the-variants.{Wire, DomainRead, PageRead, Register, Top, Claim}
+use Rattle.board_call.specs.declared.Call.the-variants.{Signals}
 use Rattle.board_call.specs.Change.{signalsTo}
 use Rattle.board_call.specs.Outcome.{step}
 use Rattle.board_call.specs.Refusal.{nameRefusal, refusalOf}
 use Rattle.board_call_laws.specs.Small.{Small}
 use Rattle.board_runs.specs.Runs.{Lent, outcomeOn, after, ran}
 use Rattle.board_runs.specs.Ready.{boardIn, Ready}
+use Rattle.board_runs.specs.Reading.{onlyReads, storing}
 use Rattle.transfer_laws.specs.Shift.{Stations, Event, withMove, withoutMove}
 use Rattle.transfer_laws.specs.Premises.{Started, TwoGuests, ByMessages, NoneNamesNew, AllAccesses, PagesKept}
 use Rattle.transfer_laws.specs.Moved.{oldNumber, newNumber, oldIn, newIn, AccessesDone}
@@ -133,6 +137,18 @@ Claim-180 =
     × ((i : ℕ) → 1 ≤ i → i ≤ 63
     → namesFile (sourceAt (b .wired .child) i .target) (m .oldHart) (m .oldFile) ≡ false)
     × ((i level : ℕ) → oldIn m (boardIn (after (Wire i level) x)) ≡ oldIn m b))
+
+-- what only reads may be called at any moment of a shift, in the middle of a move too: a page read, a top,
+-- the signals, a read of a file's register or of a word of a domain that is no claimi leave the block, the
+-- log and the record as they were, accepted or refused, and so a run leaves what it leaves without them
+unfoldable pub Claim-181 : Type 0
+Claim-181 =
+    ((x : Lent) (h f a s v d : ℕ)
+    → (after (PageRead h f a) x ≡ x) × (after (Top h f) x ≡ x) × (after (Signals h) x ≡ x)
+    × (after (Register h f 0 s v) x ≡ x)
+    × (((i : ℕ) → wordAt a ≢ Claimi i) → after (DomainRead d a) x ≡ x))
+    × ((c : Call) (x : Lent) → onlyReads c ≡ true → after c x ≡ x)
+    × ((cs : List Call) (x : Lent) → ran cs x ≡ ran (storing cs) x)
 
 -- ---- the premises
 
