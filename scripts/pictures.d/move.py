@@ -43,7 +43,7 @@ ENDS = [
 NOT_SAID = ('*Not compared:* the targets of the supervisor’s domain, which step 3 rewrites, and its genmsi; what is pending in '
             'old; the logs, whose words name the files; time. What new held before is lost.')
 ANYWHERE = 'anywhere: before, after, and between any two accesses, also of one step'
-NO_CALL = 'none from the first event to the last, for any station on any hart: no claim, no register'
+NO_CALL = 'none that stores, for any station on any hart: no claim, no write; what only reads may: Claim #181'
 CHANGED_OVER = 'each device changes over in here, once, from old’s page to new’s'
 COMPARED = 'the same wires and page writes, those to new going to old, and no access: `withoutMove`'
 
