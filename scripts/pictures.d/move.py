@@ -20,7 +20,7 @@ STEPS = [
 DESCRIBED = (
     'The 89 accesses of a move in six steps on a time line. Wires change and devices write to pages '
     'anywhere between them; each device changes over from the page of the old file to that of the new '
-    'one once, after access 8 and before access 72; no other call is made. Below it the same shift with '
+    'one once, after access 8 and before access 72; no other call that stores is made. Below it the same shift with '
     'no move. At the end the new file is the one that the station would have had: no scan is dropped, '
     'doubled or handed to another station.')
 CONDITIONS = (
