@@ -17,9 +17,10 @@
  *   - both pointers are not null, are aligned for uint32_t, and have as many words behind them as their
  *     lengths say; vsk_move's record is not null, aligned for uint64_t, and has VSK_SAVED_NUMBERS numbers;
  *   - the two blocks do not overlap, nor does the record overlap either;
- *   - one call at a time is made on one state or one log, and nothing else touches them meanwhile. Nothing
- *     is proved of calls that overlap, even if they store nothing; a call that an interrupt handler makes in
- *     the middle of another overlaps it.
+ *   - one call at a time is made on one state or one log, and nothing else touches them meanwhile; over
+ *     several harts that takes a lock, by which each call sees what the last one stored. Nothing is proved of
+ *     calls that overlap, even if they store nothing; a call that an interrupt handler makes in the middle of
+ *     another overlaps it.
  * Where a compiler can see a breach it is told to: gcc warns of a null pointer, of an answer that is dropped,
  * of a block that is shorter than its length, of one block lent twice to a call that stores, and of a state
  * that was never set.
