@@ -30,7 +30,7 @@ compare: toolchain
 archives: toolchain
 	@scripts/archives --proved
 
-# the examples and the recorded cases on the archives, for RISC-V in an emulator
+# the examples and the recorded cases on the archives, those of other machines in an emulator
 boards: toolchain
 	@scripts/boards --proved
 
@@ -104,7 +104,7 @@ help:
 	@echo "make bench    time every call, and count its instructions, beside plain C with the same promises"
 	@echo "make ctest    hold the C header to the compiled library: prototypes, tests, programs to be refused"
 	@echo "make example  build the examples in C for this machine, run them, print and compare what they print"
-	@echo "make tools    install what boards needs for RISC-V (Debian, as root): a C compiler and an emulator"
+	@echo "make tools    install what boards needs (Debian, as root): C compilers for RISC-V and the other desk, an emulator"
 	@echo "make fmt      bring every source file under crates/ into the layout"
 	@echo "make style    what the checker does not see: sizes, layers, width, headers, holes, contracts, names, paths"
 	@echo "make numbers  the numbers that README.md states"

@@ -452,8 +452,8 @@ vsk_answer vsk_claim(uint32_t *VSK_RESTRICT state, size_t state_len,
 /* The signals of a hart: bit f of the value is set if file f signals (VSK_SIGNAL). A file with delivery 1
  * does exactly if its top is not 0; file 0 or 1 with VSK_DELIVERY_WIRED exactly if its domain signals the
  * hart directly: DM clear, IE set, idelivery 1, and iforce or topi not 0. Any call that stores may change
- * them: on a file or in a move those of the harts that it names, a wire or a write to a domain those of any
- * hart, also where nothing is logged.
+ * them: on a file, by a claimi or in a move those of the harts that it names, a reset, a wire or a write to a
+ * domain those of any hart, also where nothing is logged.
  * Refuses 4: no such hart.
  * Claims 89, 91 and 161. */
 VSK_CALL(read_only, none)

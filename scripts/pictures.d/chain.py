@@ -44,9 +44,9 @@ SECOND = ('*the second program*, `second/`\na plain model, written from the pape
 RANDOM = ('*random calls*, on the machine at hand\ntwo million in each gate, half of them from a fresh seed; '
           'after each call the answer and every word are compared')
 RECORDED = ('*recorded cases*, T1 to T11 first, and fresh ones: made on each archive that the machine can '
-            'run, RISC-V in an emulator; the same, byte for byte, as the second program has them')
+            'run, another machine\'s in an emulator; the same, byte for byte, as the second program has them')
 EXAMPLES = ('*two monitors in C*, `examples/station.c` and `examples/move.c`, are built for the machine at hand '
-            'and for RISC-V and run, there in an emulator, qemu; what they print is compared')
+            'and for the others and run, those in an emulator, qemu; what they print is compared')
 LEGEND = [
     ('proved', 'the checker of Rattle has read a proof of it; the checker itself is trusted'),
     ('run', 'the gate runs it and compares what comes out'),
