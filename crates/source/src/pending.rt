@@ -1,8 +1,7 @@
 // What happens to a source. `messages` is the domain's delivery mode: false is direct, true by messages.
 ghost use mathlib.Core.Path.{_≡_};
-ghost use Rattle.source.specs.Pending.{settled, wireChanged, pended, cleared, switched};
-ghost use Rattle.source.specs.Pending.{changed, moded, redelivered, retargeted, candidate};
-use super::Change;
+ghost use Rattle.source.specs.Pending.{settled, wireChanged, pended, cleared};
+ghost use Rattle.source.specs.Pending.{moded, redelivered, retargeted, candidate};
 use super::Source;
 use source_mode::active;
 use source_mode::level;
@@ -61,16 +60,6 @@ impl Source {
         self
     }
 
-    // A write of the setie or clrie family.
-    pub fn switched(mut self, on: bool) -> Source
-        ensures { λ r. ⌜ r ≡ switched self on ⌝ }
-    {
-        if active(self.mode) {
-            self.enabled = on;
-        }
-        self
-    }
-
     // A new sourcecfg word.
     pub fn moded(mut self, messages: bool, mode: u32, wire: bool) -> Source
         ensures { λ r. ⌜ r ≡ moded self messages mode wire ⌝ }
@@ -124,17 +113,5 @@ impl Source {
         ensures { λ r. ⌜ r ≡ candidate self ⌝ }
     {
         active(self.mode) & self.pending & self.enabled
-    }
-
-    // A write that names the source to one of the four families.
-    pub fn changed(self, change: Change, messages: bool, wire: bool) -> Source
-        ensures { λ r. ⌜ r ≡ changed self change messages wire ⌝ }
-    {
-        match change {
-            Change::Pend => self.pended(messages, wire),
-            Change::Clear => self.cleared(messages),
-            Change::Enable => self.switched(true),
-            Change::Disable => self.switched(false),
-        }
     }
 }
