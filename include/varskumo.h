@@ -21,9 +21,9 @@
  *     several harts that takes a lock, by which each call sees what the last one stored. Nothing is proved of
  *     calls that overlap, even if they store nothing; a call that an interrupt handler makes in the middle of
  *     another overlaps it.
- * Where a compiler can see a breach it is told to: gcc warns of a null pointer, of an answer that is dropped,
- * of a block that is shorter than its length, of one block lent twice to a call that stores, and of a state
- * that was never set.
+ * Where a compiler can see a breach it is told to: gcc from 12 on, with -Wall, warns of a null pointer, of an
+ * answer that is dropped, of a block that is shorter than its length, of one block lent twice to a call that
+ * stores, and of a state that was never set.
  *
  * What is stored, if a call is not refused; what is not named here stays as it was (Claims 91, 150 to 156):
  *   vsk_reset         state: every word
@@ -31,7 +31,7 @@
  *   vsk_domain_read   state: by a claimi in direct mode; nothing by any other register (Claim-140)
  *   vsk_domain_write  state: the domain (by a machine sourcecfg both), the files that its messages reach;
  *                     log: the messages
- *   vsk_page_write    state: one pending bit of the file
+ *   vsk_page_write    state: at most one pending bit of the file
  *   vsk_register      state: the register of the file, unless the kind is VSK_READ
  *   vsk_claim         state: one pending bit of the file, if the top is not 0
  *   vsk_move          state: the old or the new file, or one target; record: accesses 1, 2 and 72 to 79
@@ -41,7 +41,10 @@
  * Link with target/archives/TARGET/libmonitor.a, which `make archives` writes: TARGET is x86_64, aarch64,
  * riscv64-lp64d or riscv64-lp64. Whoever links it has to have memset, which vsk_reset calls, and on RISC-V
  * memcpy, both as C defines them; nothing else is undefined. The library keeps no data, allocates nothing,
- * and a call takes less than 1024 bytes of stack beside what these two take (docs/PERFORMANCE.md).
+ * and a call takes less than 1024 bytes of stack beside what these two take (docs/PERFORMANCE.md). The
+ * archives for RISC-V use general registers alone. Those for x86-64 and aarch64 also use vector registers, as
+ * their calling conventions allow, and access the state up to 16 bytes at a time: a handler that calls them
+ * has to save those registers, and where alignment is checked the blocks have to be aligned to 16.
  *
  * Valid as C99 and as C++11. "The standard" is the RISC-V Advanced Interrupt Architecture 1.0 of June 2023,
  * and numbers such as 3.8.1 are its sections. */
@@ -94,9 +97,9 @@ extern "C" {
 /* ---- answers and refusals ---- */
 
 /* What a call answers. If it sent messages, count is their number and they are the first words of the log, in
- * the order sent: the machine domain's before the supervisor domain's, each by ascending source; the other
- * words of the log stay as they were. Only vsk_wire and vsk_domain_write send, at most VSK_LOG_WORDS in one
- * call (Claim-86, Claim-171). A message is in its file when the call returns. */
+ * the order sent, by ascending source; the other words of the log stay as they were. Only vsk_wire and
+ * vsk_domain_write send, at most VSK_LOG_WORDS in one call (Claim-86, Claim-171). A message is in its file
+ * when the call returns. */
 typedef struct vsk_answer {
     uint64_t value;   /* 0 unless the function's comment says more */
     uint32_t count;   /* messages sent */
@@ -134,8 +137,9 @@ static inline const char *vsk_refusal_name(uint32_t refusal)
 
 /* What a refusal means for the software whose access the monitor was making: the exception that a hart raises
  * for it, with the standard's sections. A virtual instruction exception is the hypervisor's to take and never
- * reaches the guest: a monitor that is the hypervisor keeps the guest's priorities for 0x30 to 0x3F (6.3.1),
- * and otherwise gives the guest what S has there, an illegal instruction exception.
+ * reaches the guest: a monitor that is the hypervisor keeps the guest's priorities for the even selects of
+ * 0x30 to 0x3F (6.3.1), keeps a message file of its own for a guest that has none here and is told that it
+ * has one (6.2), and for all else gives the guest an illegal instruction exception.
  *
  *   1, 2, 3  Never a guest's doing. The lengths are the monitor's, and what an accepted call leaves keeps the
  *            rules (Claim-86): with a 3 the state was never reset, or something else wrote to it. The
@@ -167,9 +171,9 @@ static inline const char *vsk_refusal_name(uint32_t refusal)
  * priorities of major interrupts, which the monitor keeps itself (all 0 and read-only will do), and the odd
  * ones an illegal instruction (5.2.1, 5.4.1). miselect, siselect and vsiselect, which the monitor keeps too.
  * VU gets a virtual instruction exception for sireg, and VS and VU for vsireg, whatever the select is (2.3);
- * so do VU for stopei, and VS and VU for vstopei (2.4). Odd selects are refused as for XLEN 64: a guest has
- * to run with VSXLEN 64. Before all of this go 2.5, where Smstateen is implemented, and 5.3: while bit 9 of
- * mvien is 1, stopei, and sireg from 0x70 to 0xFF, are an illegal instruction from S and HS. */
+ * so do VU for stopei, and VS and VU for vstopei (2.4). Odd selects are refused as for XLEN 64: S and VS have
+ * to run with it. Before all of this go 2.5, where Smstateen is implemented, and 5.3: while bit 9 of mvien is
+ * 1, stopei, and sireg from 0x70 to 0xFF, are an illegal instruction from S and HS. */
 
 /* ---- the log ---- */
 
@@ -192,9 +196,9 @@ static inline const char *vsk_refusal_name(uint32_t refusal)
  * registers: VSK_SOURCECFG(0) is domaincfg, and VSK_TARGET(0) is genmsi. Too large a number gives the address
  * of another register, or of none: it is not looked at here.
  * Words that are not named here read 0 and ignore writes: those of harts that are not there, and the four
- * registers of message addresses, 0x1BC0 to 0x1BCC. (The standard has the first two in the machine domain;
- * fixed addresses may read 0 there, but for the lock, 0x80000000 at 0x1BC4, 4.5.3: if machine software looks,
- * the monitor answers that read itself.) */
+ * registers of message addresses, 0x1BC0 to 0x1BCC. (The standard has these in the machine domain; fixed
+ * addresses may read 0 there, but for the lock, 0x80000000 at 0x1BC4, 4.5.3 and 4.5.4: if machine software
+ * looks, the monitor answers that read itself.) */
 #define VSK_REGION_BYTES UINT64_C(0x5000)
 #define VSK_DOMAINCFG UINT64_C(0x0000)
 #define VSK_SOURCECFG(i) (UINT64_C(4) * (uint64_t)(i))
@@ -221,30 +225,38 @@ static inline const char *vsk_refusal_name(uint32_t refusal)
 #define VSK_SOURCE_WORD(i) ((uint32_t)(i) >> 5 & 1u)
 #define VSK_SOURCE_BIT(i) (UINT32_C(1) << ((uint32_t)(i) & 31u))
 
-/* setip and setie read their bits; clrie and the registers that take a number read 0. A number that is not
- * that of an active source does nothing. setipnum_be takes its value with the four bytes reversed: 0x05000000
- * is source 5.
+/* While a domain has DM and IE, each source of it that is active, pending and enabled is sent, and its
+ * pending bit is then clear; a level source is not sent again by itself while its wire stays. So write its
+ * target before a source is enabled: what goes out before that has identity 0 and is lost.
+ *
+ * setip and setie read their bits; clrie and the registers that take a number read 0. A number that is not
+ * that of an active source does nothing. A write sets or clears pending bits as far as 4.7 allows: of a level
+ * source in direct mode neither, and with DM it sets one only while the wire is asserted. setipnum_be takes
+ * its value with the four bytes reversed: 0x05000000 is source 5.
+ *
  * in_clrip reads the levels of the wires of active sources, detached ones too, as wired: the standard has the
  * rectified values there (4.5.7), and a later version will (request M-101). In this one an active-low source
  * at rest reads 1, so a handler must not wait for a 0 there (the first way of 4.9.2) with Level0, or it
  * leaves while the wire is asserted; let it write setipnum before it leaves (the second way). Or the monitor
  * turns round the bits of Edge0 and Level0 sources in what it hands to a guest, and clears those of detached
- * ones. A write to in_clrip clears pending bits. */
+ * ones. */
 
 /* domaincfg. It reads 0x80 in its top byte, whatever is written: 0x80000104 with IE and DM.
  * A write that changes DM sets genmsi to 0, and the target of each active source to its start value: hart 0
  * with priority 1 for direct delivery, hart 0 with identity 0 for messages. Pending and enable bits stay, but
- * that a level source in direct mode is pending exactly while its level stands. If IE is set after such a
- * write, what is pending and enabled goes out in the same call to these start values: directly to hart 0, or
- * as messages with identity 0, which nobody gets, and whose pending bits are gone. So: write DM without IE,
- * write the targets, then set IE. */
+ * that a level source in direct mode is pending exactly while its level stands. If a write that changes DM
+ * leaves IE set, what is pending and enabled goes out in the same call to these start values: directly to
+ * hart 0, or as messages with identity 0, which nobody gets, and whose pending bits are gone. So: write DM
+ * without IE, write the targets, then set IE. */
 #define VSK_DOMAINCFG_FIXED 0x80000000u /* read, whatever was written */
 #define VSK_DOMAINCFG_IE 0x100u         /* the domain delivers */
 #define VSK_DOMAINCFG_DM 0x004u         /* by messages; without it directly */
 
 /* sourcecfg. The supervisor domain has a source only while it is delegated, and its sourcecfg is 0 when it
  * gets or loses one; to delegate again what is delegated changes nothing. 2 and 3 are stored as 0, and so is
- * a write with VSK_SOURCE_DELEGATED in the supervisor domain; what else is written is not kept.
+ * a write with VSK_SOURCE_DELEGATED in the supervisor domain; what else is written is not kept. A source that
+ * is not active in a domain has no pending bit, no enable bit and no target there, and has to be enabled and
+ * targeted anew; between active modes both stay.
  * Pending bits follow 4.7. Where 4.5.2 leaves it open: a write that takes the rectified value from low to
  * high sets the pending bit, in edge modes too (inactive and detached sources count as low), and what is then
  * to be sent is sent. All wires are low after a reset: set that of an active-low source to 1 before its mode
@@ -263,7 +275,8 @@ static inline const char *vsk_refusal_name(uint32_t refusal)
  * target for hart 5 is hart 1's, one for guest 4 is the supervisor file's, identity 256 is identity 0. A
  * priority that is 0 is stored as 1. A target can be written only while its source is active, and has its
  * start value whenever it becomes so. genmsi can be written only while its domain has DM, and sends at once,
- * with IE or without; it reads what was kept of the last write, and is never busy. */
+ * with IE or without, to the machine file or, in the supervisor domain, to the supervisor file; it reads what
+ * was kept of the last write, and is never busy. */
 #define VSK_TARGET_DIRECT(hart, priority) \
     (((uint32_t)(hart) & 3u) << 18 | ((uint32_t)(priority) & 255u))
 #define VSK_TARGET_MESSAGE(hart, guest, identity) \
@@ -296,13 +309,14 @@ static inline const char *vsk_refusal_name(uint32_t refusal)
 
 /* The words of a file's page by their offsets, 0 to 0xFFC. A page, too, takes aligned accesses of 4 bytes
  * and no others (3.5). A number that is no identity, in all its 32 bits, does nothing. At offset 4 the four
- * bytes of the value are reversed: 0x05000000 is identity 5. */
+ * bytes of the value are reversed: 0x05000000 is identity 5. Every other word ignores writes. */
 #define VSK_PAGE_BYTES UINT64_C(0x1000)
 #define VSK_SETEIPNUM_LE UINT64_C(0x000)
 #define VSK_SETEIPNUM_BE UINT64_C(0x004)
 
-/* The registers of a file by their select numbers: j is 0 to 3, for identities 64 j to 64 j + 63. Too large a
- * j gives a register that reads 0, or another one, or an illegal number. */
+/* The registers of a file by their select numbers: j is 0 to 3, for identities 64 j to 64 j + 63; there is no
+ * identity 0, and its bit is always 0. Too large a j gives a register that reads 0, or another one, or an
+ * illegal number. 0x71 and 0x73 to 0x7F read 0 and ignore writes. */
 #define VSK_EIDELIVERY UINT64_C(0x70)
 #define VSK_EITHRESHOLD UINT64_C(0x72)
 #define VSK_EIP(j) (UINT64_C(0x80) + UINT64_C(2) * (uint64_t)(j))
@@ -332,8 +346,8 @@ static inline const char *vsk_refusal_name(uint32_t refusal)
 #define VSK_TOP_PRIORITY(value) ((uint32_t)(value) & 255u)
 
 /* The bit of file f, 0 to 4, in the signals of a hart; of f only the low 3 bits count. Of mip, file 0 is MEIP
- * and file 1 SEIP, beside what software writes there (5.3). The file of guest g is bit g of hgeip (3.10):
- * VSK_HGEIP makes hgeip out of the signals. */
+ * and file 1 SEIP, with bit 9 of mvip beside it while bit 9 of mvien is 0 (5.3). The file of guest g is bit g
+ * of hgeip (3.10): VSK_HGEIP makes hgeip out of the signals. */
 #define VSK_SIGNAL(f) (UINT64_C(1) << ((uint32_t)(f) & 7u))
 #define VSK_HGEIP(signals) ((uint64_t)(signals) >> 1 & UINT64_C(14))
 
@@ -341,7 +355,7 @@ static inline const char *vsk_refusal_name(uint32_t refusal)
 
 /* VSK_CALL(state, log) says that an answer must be looked at (warn_unused_result), that no pointer is null
  * (nonnull), and how a call uses the blocks (access): read_only, write_only, read_write, or none for a log of
- * which only the length is looked at, spelled so that macros of these names do no harm. gcc compares the
+ * which only the length is looked at, spelled so that macros of these four names do no harm. gcc compares the
  * lengths with the objects that it can see, and knows which blocks must have been set before. */
 #if defined(__STDC_VERSION__) && __STDC_VERSION__ >= 199901L
 #define VSK_RESTRICT restrict
@@ -411,8 +425,8 @@ vsk_answer vsk_page_read(const uint32_t *VSK_RESTRICT state, size_t state_len,
                          const uint32_t *VSK_RESTRICT log, size_t log_len,
                          uint64_t hart, uint64_t file, uint64_t address);
 
-/* Writes a word of a file's page, as a device does that sends a message: an identity of 1 to 255 becomes
- * pending, whatever the file's delivery is. It is not logged.
+/* Writes a word of a file's page, as a device does that sends a message: at offset 0 or 4 an identity of 1 to
+ * 255 becomes pending, whatever the file's delivery is. It is not logged.
  * Refuses 4: no such hart, no such file. 5: the address, which counts from the start of the page.
  * Claims 25, 26, 91 and 126. */
 VSK_CALL(read_write, none)
@@ -421,7 +435,8 @@ vsk_answer vsk_page_write(uint32_t *VSK_RESTRICT state, size_t state_len,
                           uint64_t hart, uint64_t file, uint64_t address, uint32_t value);
 
 /* Accesses a register of a file. The kind is VSK_READ (the value given is ignored), VSK_WRITE, VSK_SET
- * (writes old-or-value) or VSK_CLEAR (writes old without value). A write answers 0, the others the old value:
+ * (writes old-or-value) or VSK_CLEAR (writes old without value); what is written goes by the rules of the
+ * register. A write answers 0, the others the old value:
  * so a CSRRW whose rd is not x0 is a VSK_READ and then a VSK_WRITE, with no other call on the board between
  * them, and one to x0 a VSK_WRITE, while CSRRS and CSRRC are one call, and with x0 or immediate 0 a VSK_READ.
  * Refuses 4: no such hart, file or kind. 6: the select number.
@@ -449,11 +464,11 @@ VSK_CALL(read_write, none)
 vsk_answer vsk_claim(uint32_t *VSK_RESTRICT state, size_t state_len,
                      const uint32_t *VSK_RESTRICT log, size_t log_len, uint64_t hart, uint64_t file);
 
-/* The signals of a hart: bit f of the value is set if file f signals (VSK_SIGNAL). A file with delivery 1
- * does exactly if its top is not 0; file 0 or 1 with VSK_DELIVERY_WIRED exactly if its domain signals the
- * hart directly: DM clear, IE set, idelivery 1, and iforce or topi not 0. Any call that stores may change
- * them: on a file, by a claimi or in a move those of the harts that it names, a reset, a wire or a write to a
- * domain those of any hart, also where nothing is logged.
+/* The signals of a hart: bit f of the value is set if file f signals (VSK_SIGNAL). A file with delivery 0
+ * never does, one with delivery 1 exactly if its top is not 0; file 0 or 1 with VSK_DELIVERY_WIRED exactly if
+ * its domain signals the hart directly: DM clear, IE set, idelivery 1, and iforce or topi not 0. Any call
+ * that stores may change them: on a file, by a claimi or in a move those of the harts that it names, a reset,
+ * a wire or a write to a domain those of any hart, also where nothing is logged.
  * Refuses 4: no such hart.
  * Claims 89, 91 and 161. */
 VSK_CALL(read_only, none)
@@ -484,14 +499,17 @@ vsk_answer vsk_signals(const uint32_t *VSK_RESTRICT state, size_t state_len,
  * record, and with no call between the first and the last that stores but vsk_wire and vsk_page_write, they
  * leave new as the file that the station would have had with no move. That is the theorem, Claim-105;
  * docs/AUDIT.md opens with it. So the monitor holds back, on every hart and for every guest, what would
- * claim, write a register or write to a domain; calls that only read, as vsk_signals, may be made at any time
- * (Claim-181). What it asks for besides: at the start no active source's target names new, and new is
- * nobody's, for what it holds is lost; nobody writes to new's page until access 8 is made, nor to old's once
- * access 72 is. A device's write counts when vsk_page_write is called: one on its way to old has to have
- * arrived by then (6.1.2, step 3), or it is lost. Old is left silent (Claim-180) and keeps its pending and
+ * claim, write a register or write to a domain; calls that only read, as vsk_signals, may be made at any
+ * time (Claim-181), but a read of claimi in direct mode is none.
+ * What it asks for besides: at the start no active source's target names new, and new is nobody's, for what
+ * it holds is lost; nobody writes to new's page until access 8 is made, nor to old's once access 72 is. A
+ * device's write counts when vsk_page_write is called: one on its way to old has to have arrived by then
+ * (6.1.2, step 3), or it is lost. Old is left silent (Claim-180) and keeps its threshold and its pending and
  * enable bits: clear them before it is used again, or those interrupts come twice.
- * Before access 1 look whether the supervisor domain has DM. A move that is given up after access 1 and
- * before access 9 is undone by a write of saved[0] to old's eidelivery; what new held is lost.
+ * Before access 1 look whether the supervisor domain has DM. A move that is given up after access 1, before
+ * access 9 and before a device has changed over is undone by a write of saved[0] to old's eidelivery; new is
+ * left with what accesses 4 to 8 did not clear. Later than that finish it. Do not begin anew without that
+ * write: access 1 would save a delivery of 0.
  * It takes ten arguments, of which the last are passed on the stack: four on x86-64, two on RISC-V and on
  * aarch64.
  * Refuses 4: no such access; old and new are not two different guest files; the supervisor domain delivers
