@@ -13,6 +13,7 @@ use Rattle.files.specs.Files.{filesOf, filesSound}
 use Rattle.wired_state.specs.Wires.{wiredOf}
 use Rattle.wired_rules.specs.Rules.{wiredSound}
 use Rattle.board_block.specs.Block.{Board, boardOf, boardSound}
+use Rattle.sizes.specs.Sizes.{blockSize, filesSize, wiredSize}
 
 -- two boards are equal if their parts are
 pub board-path : {b c : Board} → b .files ≡ c .files → b .wired ≡ c .wired → b ≡ c
@@ -20,61 +21,61 @@ board-path f w = λ k. record { files = f k; wired = w k }
 
 -- ---- the parts that are lent
 
-module _ (l : List ℕ) (long : length l ≡ 650) where
-  pub files-long : length (take 360 l) ≡ 360
+module _ (l : List ℕ) (long : length l ≡ blockSize) where
+  pub files-long : length (take filesSize l) ≡ filesSize
   files-long = simp length-take (omega arith)
 
-  pub wired-long : length (take 290 (drop 360 l)) ≡ 290
+  pub wired-long : length (take wiredSize (drop filesSize l)) ≡ wiredSize
   wired-long = simp (length-take, length-drop) (omega arith)
 
-  pub files-part : filesOf (take 360 l) ≡ boardOf l .files
+  pub files-part : filesOf (take filesSize l) ≡ boardOf l .files
   unfolding boardOf
   files-part = refl
 
-  pub wired-part : wiredOf (take 290 (drop 360 l)) ≡ boardOf l .wired
+  pub wired-part : wiredOf (take wiredSize (drop filesSize l)) ≡ boardOf l .wired
   unfolding boardOf
   wired-part = refl
 
 -- ---- a part put back
 
 abbrev pub filesPut : List ℕ → List ℕ → List ℕ
-filesPut l ys = ys ++ drop 360 l
+filesPut l ys = ys ++ drop filesSize l
 
 abbrev pub wiredPut : List ℕ → List ℕ → List ℕ
-wiredPut l zs = take 360 l ++ (zs ++ drop 290 (drop 360 l))
+wiredPut l zs = take filesSize l ++ (zs ++ drop wiredSize (drop filesSize l))
 
-module _ (l ys : List ℕ) (long : length l ≡ 650) (part : length ys ≡ 360) where
+module _ (l ys : List ℕ) (long : length l ≡ blockSize) (part : length ys ≡ filesSize) where
   pub put-files : boardOf (filesPut l ys) ≡ record { files = filesOf ys; wired = boardOf l .wired }
   unfolding boardOf
   put-files =
-      board-path (ap filesOf (take-at ys (drop 360 l) 360 part))
-      (ap (λ (x : List ℕ). wiredOf (take 290 x)) (drop-at ys (drop 360 l) 360 part))
+      board-path (ap filesOf (take-at ys (drop filesSize l) filesSize part))
+      (ap (λ (x : List ℕ). wiredOf (take wiredSize x)) (drop-at ys (drop filesSize l) filesSize part))
 
-  pub put-files-long : length (filesPut l ys) ≡ 650
+  pub put-files-long : length (filesPut l ys) ≡ blockSize
   put-files-long = simp (length-append, length-drop) (omega arith)
 
   -- the wired part, lent after the files came back
-  pub wired-behind : wiredOf (take 290 (drop 360 (filesPut l ys))) ≡ boardOf l .wired
+  pub wired-behind : wiredOf (take wiredSize (drop filesSize (filesPut l ys))) ≡ boardOf l .wired
   wired-behind = wired-part (filesPut l ys) put-files-long ∙ ap (λ (b : Board). b .wired) put-files
 
-module _ (l zs : List ℕ) (long : length l ≡ 650) (part : length zs ≡ 290) where
+module _ (l zs : List ℕ) (long : length l ≡ blockSize) (part : length zs ≡ wiredSize) where
   pub put-wired : boardOf (wiredPut l zs) ≡ record { files = boardOf l .files; wired = wiredOf zs }
   unfolding boardOf
   put-wired =
-      let rest = zs ++ drop 290 (drop 360 l) in
-      board-path (ap filesOf (take-at (take 360 l) rest 360 (files-long l long)))
-      (ap wiredOf (ap (take 290) (drop-at (take 360 l) rest 360 (files-long l long))
-      ∙ take-at zs (drop 290 (drop 360 l)) 290 part))
+      let rest = zs ++ drop wiredSize (drop filesSize l) in
+      board-path (ap filesOf (take-at (take filesSize l) rest filesSize (files-long l long)))
+      (ap wiredOf (ap (take wiredSize) (drop-at (take filesSize l) rest filesSize (files-long l long))
+      ∙ take-at zs (drop wiredSize (drop filesSize l)) wiredSize part))
 
-  pub put-wired-long : length (wiredPut l zs) ≡ 650
+  pub put-wired-long : length (wiredPut l zs) ≡ blockSize
   put-wired-long = simp (length-append, length-take, length-drop) (omega arith)
 
   -- the files, lent after the wired part came back
-  pub files-behind : filesOf (take 360 (wiredPut l zs)) ≡ boardOf l .files
+  pub files-behind : filesOf (take filesSize (wiredPut l zs)) ≡ boardOf l .files
   files-behind = files-part (wiredPut l zs) put-wired-long ∙ ap (λ (b : Board). b .files) put-wired
 
 -- both parts
-module _ (l ys zs : List ℕ) (long : length l ≡ 650) (files : length ys ≡ 360) (wired : length zs ≡ 290) where
+module _ (l ys zs : List ℕ) (long : length l ≡ blockSize) (files : length ys ≡ filesSize) (wired : length zs ≡ wiredSize) where
   pub put-wired-files : boardOf (filesPut (wiredPut l zs) ys)
       ≡ record { files = filesOf ys; wired = wiredOf zs }
   put-wired-files =

@@ -19,6 +19,7 @@ use Rattle.domain_laws.proofs.ZeroEffects.{domainOf-zeros}
 use Rattle.wired_state.specs.Wires.{wiredOf}
 use Rattle.wired_state.proofs.WiresLaws.{wired-path, wires-read, root-part, child-part}
 use Rattle.board_block.specs.Start.{startFile, startFilesFrom, startDomain, startBoard}
+use Rattle.sizes.specs.Sizes.{blockSize, filesSize, wiredSize}
 
 -- ---- the files
 
@@ -65,7 +66,7 @@ pub record Started (k : ℕ) (fs : List File) : Type 0 where
   pub below : (j : ℕ) → j < k → theFile fs j ≡ startFile j
   pub above : (j : ℕ) → k ≤ j → j < 20 → theFile fs j ≡ zerosBut 0
 
-pub started-zeros : (l : List ℕ) → l ≡ replicate 360 0 → Started 0 (filesOf l)
+pub started-zeros : (l : List ℕ) → l ≡ replicate filesSize 0 → Started 0 (filesOf l)
 started-zeros l e =
     record {
       below = λ j h. absurd (omega arith);
@@ -112,10 +113,10 @@ all-filled l i n h e =
     ap (λ (x : List ℕ). replicate i 0 ++ x) (ap (λ (k : ℕ). drop k l) (sym h) ∙ drop-length l)
     ∙ append-nil (replicate i 0) ∙ ap (λ (k : ℕ). replicate k 0) e
 
-pub start-wired : (l : List ℕ) → l ≡ replicate 650 0 → wiredOf (take 290 (drop 360 l)) ≡ startBoard .wired
+pub start-wired : (l : List ℕ) → l ≡ replicate blockSize 0 → wiredOf (take wiredSize (drop filesSize l)) ≡ startBoard .wired
 unfolding startBoard startDomain
 start-wired l e =
-    let ws : List ℕ = replicate 290 0 in
-    ap (λ (m : List ℕ). wiredOf (take 290 (drop 360 m))) e
+    let ws : List ℕ = replicate wiredSize 0 in
+    ap (λ (m : List ℕ). wiredOf (take wiredSize (drop filesSize m))) e
     ∙ wired-path (sym (wires-read ws refl)) (sym (root-part ws refl) ∙ domainOf-zeros)
     (sym (child-part ws refl) ∙ domainOf-zeros)

@@ -22,35 +22,36 @@ use Rattle.board_block.proofs.BlockLaws.{board-path, files-long, wired-long}
 use Rattle.board_block_laws.specs.Shape.{BoardShaped}
 use Rattle.board_block_laws.proofs.DomainBack.{stretch-at, wired-words-back, length-wiredWords}
 use Rattle.board_block_laws.proofs.DomainBack.{wired-back}
+use Rattle.sizes.specs.Sizes.{blockSize, childPlace, domainSize, filesSize, wiredSize}
 
 -- ---- from the block to the board and back
 
-module _ (l : List ℕ) (long : length l ≡ 650) where
+module _ (l : List ℕ) (long : length l ≡ blockSize) where
   pub block-back : blockOf (boardOf l) ≡ l
   unfolding blockOf boardOf
   block-back =
       rw (
-        words-back (take 360 l) (files-long l long),
-        wired-words-back (take 290 (drop 360 l)) (wired-long l long),
-        ← take-add 360 290 l,
+        words-back (take filesSize l) (files-long l long),
+        wired-words-back (take wiredSize (drop filesSize l)) (wired-long l long),
+        ← take-add filesSize wiredSize l,
       )
-      (take-all 650 l (omega arith))
+      (take-all blockSize l (omega arith))
 
   pub boardOf-shaped : BoardShaped (boardOf l)
   unfolding boardOf wiredOf
   boardOf-shaped =
-      let part = take 290 (drop 360 l) in
+      let part = take wiredSize (drop filesSize l) in
       let half = wired-long l long in
       record {
-        many = length-filesOf (take 360 l);
-        long = λ k h. filesOf-long (take 360 l) (files-long l long) k h;
+        many = length-filesOf (take filesSize l);
+        long = λ k h. filesOf-long (take filesSize l) (files-long l long) k h;
         wires = simp (length-take, length-drop) (omega arith);
-        root = domainOf-shaped (take 144 (drop 2 part)) (root-long part half);
-        child = domainOf-shaped (take 144 (drop 146 part)) (child-long part half);
+        root = domainOf-shaped (take domainSize (drop 2 part)) (root-long part half);
+        child = domainOf-shaped (take domainSize (drop childPlace part)) (child-long part half);
       }
 
 -- two blocks with the same board are the same
-pub blocks-same : (l m : List ℕ) → length l ≡ 650 → length m ≡ 650 → boardOf l ≡ boardOf m → l ≡ m
+pub blocks-same : (l m : List ℕ) → length l ≡ blockSize → length m ≡ blockSize → boardOf l ≡ boardOf m → l ≡ m
 blocks-same l m hl hm e = sym (block-back l hl) ∙ ap blockOf e ∙ block-back m hm
 
 -- ---- from the board to the block and back
@@ -68,15 +69,15 @@ module _ (b : Board) (shaped : BoardShaped b) where
   abbrev filesWords : List ℕ
   filesWords = wordsOf (b .files)
 
-  length-files : length filesWords ≡ 360
+  length-files : length filesWords ≡ filesSize
   length-files =
       length-wordsOf (b .files) (λ k h. shaped .long k (omega (arith, shaped .many)))
       ∙ ap (λ (n : ℕ). 18 * n) (shaped .many)
 
-  length-wired : length (wiredWords (b .wired)) ≡ 290
+  length-wired : length (wiredWords (b .wired)) ≡ wiredSize
   length-wired = length-wiredWords (b .wired) (shaped .wires) (shaped .root) (shaped .child)
 
-  pub length-blockOf : length (blockOf b) ≡ 650
+  pub length-blockOf : length (blockOf b) ≡ blockSize
   unfolding blockOf
   length-blockOf = simp length-append (omega (arith, length-files, length-wired))
 
@@ -84,8 +85,8 @@ module _ (b : Board) (shaped : BoardShaped b) where
   unfolding boardOf blockOf
   board-back =
       let ws = wiredWords (b .wired) in
-      board-path (ap filesOf (stretch-at (blockOf b) [] filesWords ws 0 360 refl refl length-files)
+      board-path (ap filesOf (stretch-at (blockOf b) [] filesWords ws 0 filesSize refl refl length-files)
       ∙ files-back (b .files) (shaped .many) (shaped .long))
       (ap wiredOf
-      (stretch-at (blockOf b) filesWords ws [] 360 290 (simp append-nil) length-files length-wired)
+      (stretch-at (blockOf b) filesWords ws [] filesSize wiredSize (simp append-nil) length-files length-wired)
       ∙ wired-back (b .wired) (shaped .wires) (shaped .root) (shaped .child))

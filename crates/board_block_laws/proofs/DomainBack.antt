@@ -12,6 +12,7 @@ use Rattle.domain_laws.specs.Shape.{DomainShaped}
 use Rattle.wired_state.specs.Wires.{Wired, wiredOf}
 use Rattle.wired_state.proofs.WiresLaws.{wired-path, root-long, child-long}
 use Rattle.board_block.specs.Block.{domainWords, wiredWords}
+use Rattle.sizes.specs.Sizes.{childPlace, domainSize, wiredSize}
 
 -- the stretch of k words behind n others
 pub stretch-at : (l xs ys zs : List ℕ) (n k : ℕ) → l ≡ xs ++ (ys ++ zs) → length xs ≡ n → length ys ≡ k
@@ -21,14 +22,14 @@ stretch-at l xs ys zs n k e h g =
 
 -- ---- a domain
 
-pub domain-words-back : (l : List ℕ) → length l ≡ 144 → domainWords (domainOf l) ≡ l
+pub domain-words-back : (l : List ℕ) → length l ≡ domainSize → domainWords (domainOf l) ≡ l
 unfolding domainWords domainOf
 domain-words-back l long =
     rw (← take-add 64 64 l, ← take-add 128 2 l, ← take-add 130 2 l, ← take-add 132 12 l)
-    (take-all 144 l (omega arith))
+    (take-all domainSize l (omega arith))
 
 module _ (d : Domain) (shaped : DomainShaped d) where
-  pub length-domainWords : length (domainWords d) ≡ 144
+  pub length-domainWords : length (domainWords d) ≡ domainSize
   unfolding domainWords
   length-domainWords = simp length-append (omega arith)
 
@@ -52,20 +53,20 @@ module _ (d : Domain) (shaped : DomainShaped d) where
 
 -- ---- the wired controller
 
-pub wired-words-back : (l : List ℕ) → length l ≡ 290 → wiredWords (wiredOf l) ≡ l
+pub wired-words-back : (l : List ℕ) → length l ≡ wiredSize → wiredWords (wiredOf l) ≡ l
 unfolding wiredWords wiredOf
 wired-words-back l long =
     rw (
-      domain-words-back (take 144 (drop 2 l)) (root-long l long),
-      domain-words-back (take 144 (drop 146 l)) (child-long l long),
-      ← take-add 2 144 l,
-      ← take-add 146 144 l,
+      domain-words-back (take domainSize (drop 2 l)) (root-long l long),
+      domain-words-back (take domainSize (drop childPlace l)) (child-long l long),
+      ← take-add 2 domainSize l,
+      ← take-add childPlace domainSize l,
     )
-    (take-all 290 l (omega arith))
+    (take-all wiredSize l (omega arith))
 
 module _ (w : Wired) (wires : length (w .wires) ≡ 2) (root : DomainShaped (w .root))
     (child : DomainShaped (w .child)) where
-  pub length-wiredWords : length (wiredWords w) ≡ 290
+  pub length-wiredWords : length (wiredWords w) ≡ wiredSize
   unfolding wiredWords
   length-wiredWords =
       simp length-append
@@ -79,8 +80,8 @@ module _ (w : Wired) (wires : length (w .wires) ≡ 2) (root : DomainShaped (w .
       let c = domainWords (w .child) in
       let two = length-domainWords (w .root) root in
       wired-path (stretch-at (wiredWords w) [] ws (r ++ c) 0 2 (append-assoc ws r c) refl wires)
-      (ap domainOf (stretch-at (wiredWords w) ws r c 2 144 (append-assoc ws r c) wires two)
+      (ap domainOf (stretch-at (wiredWords w) ws r c 2 domainSize (append-assoc ws r c) wires two)
       ∙ domain-back (w .root) root)
-      (ap domainOf (stretch-at (wiredWords w) (ws ++ r) c [] 146 144 (simp append-nil)
+      (ap domainOf (stretch-at (wiredWords w) (ws ++ r) c [] childPlace domainSize (simp append-nil)
       (simp length-append (omega arith)) (length-domainWords (w .child) child))
       ∙ domain-back (w .child) child)

@@ -19,6 +19,7 @@ use Rattle.board_call.specs.Refusal.{testsRules, present, addressed, sel
 use Rattle.board_call.specs.Refusal.{blockTests}
 use Rattle.board_call.specs.Refusal.{nameTests, blockRefusal, nameRefusal, refusalOf}
 use Rattle.board_call.proofs.AnswerLaws.{NotDone, refused-case}
+use Rattle.sizes.specs.Sizes.{blockSize}
 
 -- ---- of lists of tests
 
@@ -40,29 +41,29 @@ first-append (t ∷ ts) us n =
 -- ---- of the blocks
 
 module _ (t : Bool) (l g : List ℕ) where
-  pub refused-state : length l ≢ 650 → blockRefusal t l g ≡ 1
+  pub refused-state : length l ≢ blockSize → blockRefusal t l g ≡ 1
   unfolding blockRefusal blockTests firstFailed
-  refused-state h = simp (ne-eqb (length l) 650 h)
+  refused-state h = simp (ne-eqb (length l) blockSize h)
 
-  module _ (long : length l ≡ 650) where
+  module _ (long : length l ≡ blockSize) where
     pub refused-log : length g ≢ 63 → blockRefusal t l g ≡ 2
     unfolding blockRefusal blockTests firstFailed
-    refused-log h = simp (eq-eqb (length l) 650 long, ne-eqb (length g) 63 h)
+    refused-log h = simp (eq-eqb (length l) blockSize long, ne-eqb (length g) 63 h)
 
     module _ (full : length g ≡ 63) where
       pub refused-rules : t ≡ true → boardSound (boardOf l) ≡ false → blockRefusal t l g ≡ 3
       unfolding blockRefusal blockTests firstFailed
-      refused-rules e f = simp (eq-eqb (length l) 650 long, eq-eqb (length g) 63 full, e, f)
+      refused-rules e f = simp (eq-eqb (length l) blockSize long, eq-eqb (length g) 63 full, e, f)
 
       pub blocks-sound : boardSound (boardOf l) ≡ true → blockRefusal t l g ≡ 0
       unfolding blockRefusal blockTests firstFailed
       blocks-sound f =
           let tests = or-right (not t) (boardSound (boardOf l)) f in
-          simp (eq-eqb (length l) 650 long, eq-eqb (length g) 63 full, tests)
+          simp (eq-eqb (length l) blockSize long, eq-eqb (length g) 63 full, tests)
 
       pub blocks-untested : t ≡ false → blockRefusal t l g ≡ 0
       unfolding blockRefusal blockTests firstFailed
-      blocks-untested e = simp (eq-eqb (length l) 650 long, eq-eqb (length g) 63 full, e)
+      blocks-untested e = simp (eq-eqb (length l) blockSize long, eq-eqb (length g) 63 full, e)
 
 -- a refusal by the lengths is one where the rules are tested too
 pub refused-lengths : (t : Bool) (l g : List ℕ) (r : Answer) → Refuses r (blockRefusal false l g) → NotDone r
@@ -72,17 +73,17 @@ refused-lengths t l g r e d = record { number = e .number ∙ same; value = e .v
   where
     same : blockRefusal false l g ≡ blockRefusal t l g
     same =
-        tested (eqb (length l) 650)
+        tested (eqb (length l) blockSize)
         (λ a. tested (eqb (length g) 63) (λ b. absurd (refused-case r d (e .number ∙ simp (a, b))))
         (λ b. simp (a, b)))
         (λ a. simp a)
 
 -- where no test fails
 module _ (t : Bool) (l g : List ℕ) (z : blockRefusal t l g ≡ 0) where
-  pub passed-state : length l ≡ 650
-  passed-state = at (ℕ-discrete (length l) 650)
+  pub passed-state : length l ≡ blockSize
+  passed-state = at (ℕ-discrete (length l) blockSize)
     where
-      at : Dec (length l ≡ 650) → length l ≡ 650
+      at : Dec (length l ≡ blockSize) → length l ≡ blockSize
       at (yes e) = e
       at (no n) = absurd (omega (arith, refused-state t l g n, z))
 

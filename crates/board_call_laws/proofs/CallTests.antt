@@ -24,6 +24,7 @@ use Rattle.board_call_laws.proofs.OutcomeEffects.{gives-blocks, gives-n
 use Rattle.board_call_laws.proofs.OutcomeEffects.{gives-select}
 use Rattle.board_call_laws.proofs.OutcomeEffects.{gives-done}
 use Rattle.board_call_laws.proofs.StepEffects.{wiredStep}
+use Rattle.sizes.specs.Sizes.{blockSize}
 
 pub record Tests (c : Call) (n : Board → Bool) (a s : Bool) : Type 0 where
   pub rules : testsRules c ≡ true
@@ -36,7 +37,7 @@ quiet b v s = record { board = b; value = v; messages = []; saved = s }
 
 -- where no test of the blocks fails
 module _ (l g : List ℕ) (z : blockRefusal true l g ≡ 0) where
-  pub checked-long : length l ≡ 650
+  pub checked-long : length l ≡ blockSize
   checked-long = passed-state true l g z
 
   pub checked-sound : boardSound (boardOf l) ≡ true
@@ -72,7 +73,7 @@ module _ {c : Call} {n : Board → Bool} {a s : Bool} (t : Tests c n a s) (l g :
       -- the call does what x says of the record u, and its code answered v and m and left the blocks l′ and
       -- g′ and the record u′
       pub tests-left : a ≡ true → s ≡ true → (u : List ℕ) (o : Stepped) → step c (boardOf l) u ≡ o
-          → (v m : ℕ) (l′ g′ u′ : List ℕ) → length l′ ≡ 650 → v ≡ o .value → boardOf l′ ≡ o .board
+          → (v m : ℕ) (l′ g′ u′ : List ℕ) → length l′ ≡ blockSize → v ≡ o .value → boardOf l′ ≡ o .board
           → g′ ≡ logged g (o .messages) → m ≡ length (o .messages) → u′ ≡ o .saved
           → Gives (outcome c l g u) (Done v m) l′ g′ u′
       tests-left y w u o q v m l′ g′ u′ long value board log count kept =
@@ -81,7 +82,7 @@ module _ {c : Call} {n : Board → Bool} {a s : Bool} (t : Tests c n a s) (l g :
       -- the call does o to the wired controller
       pub tests-sent : a ≡ true → s ≡ true → (o : Out)
           → ((u : List ℕ) → step c (boardOf l) u ≡ wiredStep (boardOf l) o 0 u) → (m : ℕ)
-          → (l′ g′ : List ℕ) → length l′ ≡ 650
+          → (l′ g′ : List ℕ) → length l′ ≡ blockSize
           → boardOf l′ ≡ wiredStep (boardOf l) o 0 [] .board → g′ ≡ logged g (o .messages)
           → m ≡ length (o .messages) → Does c l g (Done 0 m) l′ g′
       tests-sent y w o q m l′ g′ long board log count u =
@@ -90,7 +91,7 @@ module _ {c : Call} {n : Board → Bool} {a s : Bool} (t : Tests c n a s) (l g :
       -- the call does what quiet says, and its code answered v and left the block l′
       pub tests-done : a ≡ true → s ≡ true → (b : Board) (v′ : ℕ)
           → ((u : List ℕ) → step c (boardOf l) u ≡ quiet b v′ u)
-          → (v : ℕ) → v ≡ v′ → (l′ : List ℕ) → length l′ ≡ 650 → boardOf l′ ≡ b
+          → (v : ℕ) → v ≡ v′ → (l′ : List ℕ) → length l′ ≡ blockSize → boardOf l′ ≡ b
           → Does c l g (Done v 0) l′ g
       tests-done y w b v′ q v p l′ long board u =
           tests-left y w u _ (q u) v 0 l′ g u long p board (sym (logged-none g)) refl refl

@@ -11,7 +11,7 @@ use lib.Dec.{ltb, leb}
 use lib.ListN.{length, take}
 use borrow.Author.Tests.{ltb-true}
 use Rattle.words.proofs.TestsLaws.{and-first, and-second}
-use Rattle.sizes.specs.Sizes.{identities}
+use Rattle.sizes.specs.Sizes.{identities, blockSize, filesSize}
 use Rattle.file_select.specs.Select.{selectLegal}
 use Rattle.file.specs.declared.File.{File}
 use Rattle.file.specs.declared.register.Access.{Access}
@@ -67,14 +67,14 @@ module _ (h f : ℕ) where
 abbrev pub onlyFile : Board → ℕ → File → Board
 onlyFile b k f = record { files = withFile (b .files) k f; wired = b .wired }
 
-module _ (l : List ℕ) (long : length l ≡ 650) (h f : ℕ) (x : File) where
-  pub file-loaded : x ≡ theFile (filesOf (take 360 l)) (5 * h + f)
+module _ (l : List ℕ) (long : length l ≡ blockSize) (h f : ℕ) (x : File) where
+  pub file-loaded : x ≡ theFile (filesOf (take filesSize l)) (5 * h + f)
       → x ≡ theFile (boardOf l .files) (fileNumber h f)
   file-loaded e = e ∙ ap₂ theFile (files-part l long) (number-read h f)
 
   -- ys are the words of the files after it was stored
-  pub file-stored : (ys : List ℕ) → length ys ≡ length (take 360 l)
-      → filesOf ys ≡ withFile (filesOf (take 360 l)) (5 * h + f) x
+  pub file-stored : (ys : List ℕ) → length ys ≡ length (take filesSize l)
+      → filesOf ys ≡ withFile (filesOf (take filesSize l)) (5 * h + f) x
       → boardOf (filesPut l ys) ≡ onlyFile (boardOf l) (fileNumber h f) x
   file-stored ys kept e =
       put-files l ys long (kept ∙ files-long l long)
@@ -154,7 +154,7 @@ module _ (l g : List ℕ) (z : blockRefusal true l g ≡ 0) (h f : ℕ) (x : Fil
   -- the code stored y as that file, in a block of the same length
   module _ (y : File) (l′ : List ℕ) (kept : length l′ ≡ length l)
       (stored : boardOf l′ ≡ onlyFile (boardOf l) (fileNumber h f) y) where
-    long : length l′ ≡ 650
+    long : length l′ ≡ blockSize
     long = kept ∙ checked-long l g z
 
     only : {y′ : File} → y ≡ y′ → boardOf l′ ≡ onlyFile (boardOf l) (fileNumber h f) y′

@@ -10,7 +10,7 @@ use mathlib.Core.List.{List, []}
 use lib.ListN.{length, getD, replicate, take, getD-replicate, List·getD-eq-default}
 use Rattle.words.specs.Sets.{WordsFit}
 use Rattle.words.proofs.TestsLaws.{tested, and-both}
-use Rattle.sizes.specs.Sizes.{identities}
+use Rattle.sizes.specs.Sizes.{identities, blockSize, filesSize}
 use Rattle.file.specs.declared.File.{File}
 use Rattle.file.specs.Shape.{Shaped}
 use Rattle.file_laws.proofs.Keeps.{Rules, rules-of, sound-of}
@@ -40,12 +40,12 @@ use Rattle.board_call_laws.specs.Fit.{Fit}
 use Rattle.board_call_laws.proofs.StepEffects.{sound-files, sound-wired}
 
 -- the board of a block of words of 32 bits that keeps the rules
-pub fit-block : (l : List ℕ) → length l ≡ 650 → WordsFit l → boardSound (boardOf l) ≡ true → Fit (boardOf l)
+pub fit-block : (l : List ℕ) → length l ≡ blockSize → WordsFit l → boardSound (boardOf l) ≡ true → Fit (boardOf l)
 fit-block l long fit sound =
     record {
       shaped = boardOf-shaped l long;
       files = λ k h. subst (λ (fs : List File). Shaped (theFile fs k)) (files-part l long)
-          (filesOf-shaped (take 360 l) (files-long l long) k h (part-fit l 0 360 fit));
+          (filesOf-shaped (take filesSize l) (files-long l long) k h (part-fit l 0 filesSize fit));
       sound = sound;
     }
 

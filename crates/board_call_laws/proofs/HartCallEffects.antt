@@ -14,7 +14,7 @@ use borrow.Author.Tests.{lt-ltb, le-ltb, eq-eqb, ne-eqb}
 use Rattle.words.specs.Bits.{hasBit, putBit}
 use Rattle.words.proofs.BitsLaws.{hasBit-putBit-same, hasBit-putBit-other}
 use Rattle.words.proofs.TestsLaws.{tested}
-use Rattle.sizes.specs.Sizes.{identities}
+use Rattle.sizes.specs.Sizes.{identities, blockSize, filesSize, wiredSize}
 use Rattle.file.specs.declared.File.{File}
 use Rattle.file.specs.Top.{signals}
 use Rattle.files.specs.Files.{fileNumber, theFile}
@@ -50,7 +50,7 @@ module _ (l g : List ℕ) where
   reset-blocks = gives-blocks Reset l g
 
   module _ (z : blockRefusal false l g ≡ 0) where
-    pub reset-long : length l ≡ 650
+    pub reset-long : length l ≡ blockSize
     reset-long = passed-state false l g z
 
     pub reset-done : (l′ : List ℕ) → length l′ ≡ length l → boardOf l′ ≡ startBoard
@@ -83,8 +83,8 @@ module _ (b : Board) (h f : ℕ) (x : File) (here : x ≡ theFile (b .files) (fi
       signal-domain d = simp (sym here, own, lt-ltb f 2 low, eq-eqb (x .delivery) 0x40000000 d)
 
 -- the signal of the domain, read where the wired controller's part of the block l is lent
-pub signal-lent : (l : List ℕ) → length l ≡ 650 → (h f : ℕ) (r : Bool)
-    → r ≡ signalOf (domainIn (wiredOf (take 290 (drop 360 l))) (eqb f 1)) h
+pub signal-lent : (l : List ℕ) → length l ≡ blockSize → (h f : ℕ) (r : Bool)
+    → r ≡ signalOf (domainIn (wiredOf (take wiredSize (drop filesSize l))) (eqb f 1)) h
     → r ≡ signalOf (domainIn (boardOf l .wired) (eqb f 1)) h
 signal-lent l long h f r e = e ∙ ap (λ (w : Wired). signalOf (domainIn w (eqb f 1)) h) (wired-part l long)
 

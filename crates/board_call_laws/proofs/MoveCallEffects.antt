@@ -9,7 +9,7 @@ use lib.Dec.{leb, ltb}
 use lib.ListN.{length, getD, set}
 use borrow.Author.Tests.{ltb-true, leb-true, lt-ltb, le-leb}
 use Rattle.words.proofs.TestsLaws.{and-first, and-second, and-both}
-use Rattle.sizes.specs.Sizes.{identities}
+use Rattle.sizes.specs.Sizes.{identities, blockSize}
 use Rattle.file.specs.declared.File.{File}
 use Rattle.file.specs.declared.register.Access.{Access}
 use Rattle.file.specs.declared.register.Access.the-variants.{Read, Write}
@@ -139,11 +139,11 @@ module _ (a : Act) (oh of nh nf : ℕ) (b : Board) (s : List ℕ) where
 -- ---- the call
 
 -- what the wired part of a block that keeps the rules has for domaincfg
-pub block-steady : (l : List ℕ) → length l ≡ 650 → boardSound (boardOf l) ≡ true
+pub block-steady : (l : List ℕ) → length l ≡ blockSize → boardSound (boardOf l) ≡ true
     → WiredSteady (boardOf l .wired)
 block-steady l long sound = shaped-steady (boardOf l) (boardOf-shaped l long) sound
 
-pub child-config : (l : List ℕ) → length l ≡ 650 → boardSound (boardOf l) ≡ true
+pub child-config : (l : List ℕ) → length l ≡ blockSize → boardSound (boardOf l) ≡ true
     → configOf (domainIn (boardOf l .wired) true) < 0x80000000
 child-config l long sound = config-low (steady-domainIn (boardOf l .wired) (block-steady l long sound) true)
 

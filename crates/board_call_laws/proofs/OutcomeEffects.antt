@@ -21,6 +21,7 @@ use Rattle.board_call.specs.Outcome.{Stepped, step, Outcome, refusedAs, doneAs,
 use Rattle.board_call.proofs.AnswerLaws.{NotDone, refused-case}
 use Rattle.board_call.proofs.RefusalLaws.{refused-blocks, refused-numbers, refused-name, refused-address}
 use Rattle.board_call.proofs.RefusalLaws.{refused-select}
+use Rattle.sizes.specs.Sizes.{blockSize}
 
 module _ (c : Call) (l g : List ℕ) where
   pub outcome-refused : (s : List ℕ) (k : ℕ) → refusalOf c l g ≡ k → k ≢ 0
@@ -74,7 +75,7 @@ module _ (c : Call) (l g : List ℕ) where
 
     -- an accepted call, from what its code left
     pub gives-done : nameRefusal c b ≡ 0 → (s : List ℕ) (x : Stepped) → step c b s ≡ x
-        → (v n : ℕ) → v ≡ x .value → n ≡ length (x .messages) → (l′ g′ s′ : List ℕ) → length l′ ≡ 650
+        → (v n : ℕ) → v ≡ x .value → n ≡ length (x .messages) → (l′ g′ s′ : List ℕ) → length l′ ≡ blockSize
         → boardOf l′ ≡ x .board → g′ ≡ logged g (x .messages) → s′ ≡ x .saved
         → Gives (outcome c l g s) (Done v n) l′ g′ s′
     gives-done a s x q v n ev en l′ g′ s′ long board log kept =

@@ -22,6 +22,7 @@ use Rattle.board_call.specs.Outcome.{Stepped, Does}
 use Rattle.board_call_laws.specs.Left.{Left}
 use Rattle.board_call_laws.proofs.CallTests.{Tests, tests-done, tests-sent}
 use Rattle.board_call_laws.proofs.StepEffects.{wiredStep, step-wire, step-domainRead, step-domainWrite}
+use Rattle.sizes.specs.Sizes.{blockSize}
 
 -- the number of a wire that is there
 module _ (i level : ℕ) (there : isWire i level ≡ true) where
@@ -61,7 +62,7 @@ tests-domainWrite d a v = record { rules = refl; names = λ b. refl; addresses =
 -- ---- what an accepted call gives
 
 module _ (l g : List ℕ) (z : blockRefusal true l g ≡ 0) where
-  pub wire-done : (i level : ℕ) → isWire i level ≡ true → (l′ g′ : List ℕ) (n : ℕ) → length l′ ≡ 650
+  pub wire-done : (i level : ℕ) → isWire i level ≡ true → (l′ g′ : List ℕ) (n : ℕ) → length l′ ≡ blockSize
       → Left (wireCall (boardOf l .wired) i (eqb level 1)) l l′ g g′ n
       → Does (Wire i level) l g (Done 0 n) l′ g′
   wire-done i level n l′ g′ m long (b, h, c) =
@@ -69,7 +70,7 @@ module _ (l g : List ℕ) (z : blockRefusal true l g ≡ 0) where
       b h c
 
   module _ (d a : ℕ) (n : d < 2) (b : addressLegal a ≡ true) where
-    pub domainRead-done : (l′ : List ℕ) (v : ℕ) → length l′ ≡ 650
+    pub domainRead-done : (l′ : List ℕ) (v : ℕ) → length l′ ≡ blockSize
         → readCall (boardOf l .wired) (eqb d 1) (wordAt a) .messages ≡ []
         → v ≡ readIn (boardOf l .wired) (eqb d 1) (wordAt a)
         → boardOf l′
@@ -85,7 +86,7 @@ module _ (l g : List ℕ) (z : blockRefusal true l g ≡ 0) where
         ∙ ap (λ (ms : List ℕ). wiredSent (boardOf l) (readCall (boardOf l .wired) (eqb d 1) (wordAt a) .wired)
         (readIn (boardOf l .wired) (eqb d 1) (wordAt a)) ms s) none) v value l′ long board
 
-    pub domainWrite-done : (v : ℕ) (l′ g′ : List ℕ) (m : ℕ) → length l′ ≡ 650
+    pub domainWrite-done : (v : ℕ) (l′ g′ : List ℕ) (m : ℕ) → length l′ ≡ blockSize
         → Left (writeCall (boardOf l .wired) (eqb d 1) (wordAt a) v) l l′ g g′ m
         → Does (DomainWrite d a v) l g (Done 0 m) l′ g′
     domainWrite-done v l′ g′ m long (x, h, c) =

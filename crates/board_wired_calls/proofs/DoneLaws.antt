@@ -22,16 +22,17 @@ use Rattle.board_block.proofs.BlockLaws.{board-path, wired-part, wired-long, wi
 use Rattle.board_block.proofs.BlockLaws.{put-wired-files, files-behind}
 use Rattle.board_call_laws.proofs.StepEffects.{sound-wired}
 use Rattle.board_call_laws.specs.Left.{Left}
+use Rattle.sizes.specs.Sizes.{blockSize, filesSize, wiredSize}
 
 -- the wired part of a sound board keeps its rules
-pub part-sound : (l : List ℕ) → length l ≡ 650 → boardSound (boardOf l) ≡ true
-    → wiredSound (wiredOf (take 290 (drop 360 l))) ≡ true
+pub part-sound : (l : List ℕ) → length l ≡ blockSize → boardSound (boardOf l) ≡ true
+    → wiredSound (wiredOf (take wiredSize (drop filesSize l))) ≡ true
 part-sound l long sound = ap wiredSound (wired-part l long) ∙ sound-wired (boardOf l) sound
 
 -- and so 63 words suffice for what it sends
-module _ (l : List ℕ) (long : length l ≡ 650) (sound : boardSound (boardOf l) ≡ true) (n : ℕ) where
+module _ (l : List ℕ) (long : length l ≡ blockSize) (sound : boardSound (boardOf l) ≡ true) (n : ℕ) where
   abbrev part : List ℕ
-  part = take 290 (drop 360 l)
+  part = take wiredSize (drop filesSize l)
 
   pub wire-within : (i : ℕ) → 1 ≤ i → i < 64 → (level : Bool)
       → n ≡ length (wireCall (wiredOf part) i level .messages) → n ≤ 63
@@ -56,10 +57,10 @@ module _ (l : List ℕ) (long : length l ≡ 650) (sound : boardSound (boardOf l
       )
 
 -- a read sends nothing
-pub read-none : (l : List ℕ) → length l ≡ 650 → boardSound (boardOf l) ≡ true → (c : Bool) (r : Word)
+pub read-none : (l : List ℕ) → length l ≡ blockSize → boardSound (boardOf l) ≡ true → (c : Bool) (r : Word)
     → readCall (boardOf l .wired) c r .messages ≡ []
 read-none l long sound c r =
-    let part = take 290 (drop 360 l) in
+    let part = take wiredSize (drop filesSize l) in
     let kept = part-sound l long sound in
     ap (λ (w : Wired). readCall w c r .messages) (sym (wired-part l long))
     ∙ ap (λ (o : Out). o .messages)
@@ -74,10 +75,10 @@ left-named o w g g′ n (a, b, k) exist =
     (named-of (logged g (o .messages)) n
     (λ j h. logged-every Exists (o .messages) g exist j (omega arith)))
 
-module _ (l zs ys g g′ : List ℕ) (n : ℕ) (long : length l ≡ 650) (wired : length zs ≡ 290)
-    (files : length ys ≡ 360) where
+module _ (l zs ys g g′ : List ℕ) (n : ℕ) (long : length l ≡ blockSize) (wired : length zs ≡ wiredSize)
+    (files : length ys ≡ filesSize) where
   pub done-left : (o : Out) → Leaves o (wiredOf zs) g g′ n
-      → filesOf ys ≡ allReached (filesOf (take 360 (wiredPut l zs))) (take n g′)
+      → filesOf ys ≡ allReached (filesOf (take filesSize (wiredPut l zs))) (take n g′)
       → Left o l (filesPut (wiredPut l zs) ys) g g′ n
   done-left o (a, b, k) e =
       let sent : take n g′ ≡ o .messages = ap (take n) b ∙ logged-back (o .messages) g n k in (

@@ -20,9 +20,10 @@ use Rattle.domain.proofs.SegmentLaws.{segment-long}
 use Rattle.domain.proofs.SlotLaws.{source-path}
 use Rattle.domain_laws.specs.Shape.{DomainShaped}
 use Rattle.domain_laws.proofs.SetsBack.{put-back}
+use Rattle.sizes.specs.Sizes.{domainSize}
 
 -- a domain of 144 words has the lengths
-pub domainOf-shaped : (l : List ℕ) → length l ≡ 144 → DomainShaped (domainOf l)
+pub domainOf-shaped : (l : List ℕ) → length l ≡ domainSize → DomainShaped (domainOf l)
 unfolding domainOf
 domainOf-shaped l h =
     record {

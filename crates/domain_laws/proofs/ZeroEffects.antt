@@ -2,8 +2,9 @@
 use mathlib.Core.Path.{_≡_, refl}
 use lib.ListN.{replicate}
 use Rattle.domain.specs.Domain.{domainOf}
+use Rattle.sizes.specs.Sizes.{domainSize}
 
-pub domainOf-zeros : domainOf (replicate 144 0)
+pub domainOf-zeros : domainOf (replicate domainSize 0)
     ≡ record {
       source = replicate 64 0;
       target = replicate 64 0;

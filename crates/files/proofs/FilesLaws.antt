@@ -11,7 +11,7 @@ use native.Mathlib.Omega.{arith}
 use lib.Dec.{leb}
 use lib.ListN.{length, getD, set, take, length-set}
 use lib.Seq.{getD-set-same, getD-set-other, set-getD, ext-getD, take-suc}
-use Rattle.sizes.specs.Sizes.{identities}
+use Rattle.sizes.specs.Sizes.{identities, filesSize}
 use borrow.Author.Tests.{le-leb, lt-leb}
 use Rattle.words.specs.Every.{every}
 use Rattle.words.proofs.EveryLaws.{every-one, every-more}
@@ -85,7 +85,7 @@ apart i k n = at (decLt i k)
     at (yes h) = inl (omega arith)
     at (no h) = inr (omega arith)
 
-module _ (l : List ℕ) (long : length l ≡ 360) (k : ℕ) (h : k < 20) (f : File) (s : Long f) where
+module _ (l : List ℕ) (long : length l ≡ filesSize) (k : ℕ) (h : k < 20) (f : File) (s : Long f) where
   abbrev put : List ℕ
   put = putFile l (18 * k) f
 

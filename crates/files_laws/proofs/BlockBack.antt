@@ -13,6 +13,7 @@ use Rattle.file_laws.proofs.Stored.{file-path, words-long, words-loaded}
 use Rattle.file_words.specs.Stored.{fileWords, fileAt}
 use Rattle.files.specs.Files.{filesFrom, filesOf, wordsOf, theFile}
 use Rattle.files.proofs.FilesLaws.{length-filesOf, theFile-filesOf, files-same}
+use Rattle.sizes.specs.Sizes.{filesSize}
 
 -- ---- from the words to the files and back
 
@@ -28,12 +29,12 @@ wordsOf-filesFrom (suc n) k l h =
     ∙ ap (take (18 * n)) (ap (λ (i : ℕ). drop i l) next ∙ sym (drop-drop 18 (18 * k) l)))
     ∙ sym (take-add 18 (18 * n) (drop (18 * k) l)) ∙ ap (λ (i : ℕ). take i (drop (18 * k) l)) more
 
-pub words-back : (l : List ℕ) → length l ≡ 360 → wordsOf (filesOf l) ≡ l
+pub words-back : (l : List ℕ) → length l ≡ filesSize → wordsOf (filesOf l) ≡ l
 unfolding filesOf
-words-back l long = wordsOf-filesFrom 20 0 l (omega arith) ∙ take-all 360 l (omega arith)
+words-back l long = wordsOf-filesFrom 20 0 l (omega arith) ∙ take-all filesSize l (omega arith)
 
 -- two blocks with the same files are the same
-pub blocks-same : (l m : List ℕ) → length l ≡ 360 → length m ≡ 360 → filesOf l ≡ filesOf m → l ≡ m
+pub blocks-same : (l m : List ℕ) → length l ≡ filesSize → length m ≡ filesSize → filesOf l ≡ filesOf m → l ≡ m
 blocks-same l m hl hm e = sym (words-back l hl) ∙ ap wordsOf e ∙ words-back m hm
 
 -- ---- from the files to the words and back

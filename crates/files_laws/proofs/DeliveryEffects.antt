@@ -13,6 +13,7 @@ use Rattle.file_words.specs.Stored.{fileWords, fileAt, putFile}
 use Rattle.files.specs.Files.{zeroFile, filesFrom, filesOf, theFile, withFile}
 use Rattle.files.proofs.FilesLaws.{theFile-filesOf, filesOf-put}
 use Rattle.files_laws.proofs.Keeps.{filesOf-long}
+use Rattle.sizes.specs.Sizes.{filesSize}
 
 -- ---- one word stored
 
@@ -47,7 +48,7 @@ module _ (l : List ℕ) (at d : ℕ) (h : at + 18 ≤ length l) where
       ∙ ap (λ (x : List ℕ). sets x (suc at) (f .threshold ∷ f .pending ++ f .enable)) (set-set l at d d)
 
 -- the word stored in file number k
-pub delivery-set : (l : List ℕ) (k d : ℕ) → length l ≡ 360 → k < 20
+pub delivery-set : (l : List ℕ) (k d : ℕ) → length l ≡ filesSize → k < 20
     → filesOf (set l (18 * k) d) ≡ withFile (filesOf l) k (withDelivery (theFile (filesOf l) k) d)
 delivery-set l k d long h =
     let f = theFile (filesOf l) k in
@@ -59,12 +60,12 @@ delivery-set l k d long h =
 
 -- ---- every word 0
 
-filesOf-zeros : filesOf (replicate 360 0) ≡ replicate 20 zeroFile
+filesOf-zeros : filesOf (replicate filesSize 0) ≡ replicate 20 zeroFile
 unfolding filesOf filesFrom fileAt zeroFile
 filesOf-zeros = refl
 
 pub theFile-zeros : (k : ℕ) → k < 20
-    → theFile (filesOf (replicate 360 0)) k
+    → theFile (filesOf (replicate filesSize 0)) k
     ≡ record { delivery = 0; threshold = 0; pending = replicate 8 0; enable = replicate 8 0 }
 unfolding theFile zeroFile
 theFile-zeros k h =

@@ -9,7 +9,7 @@ use native.Mathlib.Omega.{arith}
 use lib.ListN.{length}
 use Rattle.words.specs.Sets.{WordsFit}
 use Rattle.words.proofs.EveryLaws.{every-each, every-of}
-use Rattle.sizes.specs.Sizes.{identities}
+use Rattle.sizes.specs.Sizes.{identities, filesSize}
 use Rattle.file.specs.declared.File.{File}
 use Rattle.file.specs.Shape.{Shaped, Long}
 use Rattle.file.specs.Page.{arrived}
@@ -36,7 +36,7 @@ withFile-keeps P fs k f j here there = at (ℕ-discrete j k) (decLt k (length fs
 -- ---- the shape of every file
 
 -- a file of a block has it
-module _ (l : List ℕ) (many : length l ≡ 360) (k : ℕ) (h : k < 20) where
+module _ (l : List ℕ) (many : length l ≡ filesSize) (k : ℕ) (h : k < 20) where
   pub filesOf-long : Long (theFile (filesOf l) k)
   filesOf-long = rw (theFile-filesOf l k h) (loaded-long l (18 * k) (omega arith))
 

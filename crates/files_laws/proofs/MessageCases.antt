@@ -10,9 +10,10 @@ use Rattle.file.specs.Page.{arrived}
 use Rattle.file_words.specs.Stored.{fileWords, fileAt}
 use Rattle.files.specs.Files.{fileNumber, filesFrom, filesOf, wordsOf, theFile, withFile, zeroFile}
 use Rattle.files.specs.Files.{namedBy, reached, allReached}
+use Rattle.sizes.specs.Sizes.{filesSize}
 
 -- identity 40 is bit 8 of the second pending word of hart 2's file 2, whose words begin at 216
-case-reached : getD (wordsOf (allReached (filesOf (replicate 360 0)) (4648 ∷ []))) 219 0 ≡ 256
+case-reached : getD (wordsOf (allReached (filesOf (replicate filesSize 0)) (4648 ∷ []))) 219 0 ≡ 256
 unfolding allReached reached namedBy fileNumber hartIn fileIn identityIn theFile withFile zeroFile filesOf
     filesFrom wordsOf fileWords fileAt arrived insert withBit bitOf
 case-reached = refl

@@ -24,14 +24,15 @@ use Rattle.wired_rules_laws.proofs.PassEffects.{sent-again}
 use Rattle.wired_rules_laws.proofs.WiredQuietEffects.{wireSet-one, quiet-claimedIn, quiet-writtenIn-genmsi}
 use Rattle.wired_rules_laws.proofs.WiredQuietEffects.{quiet-other}
 use Rattle.wired.specs.Controller.{flushed, readCall, OneSends}
+use Rattle.sizes.specs.Sizes.{childPlace, domainSize, wiredSize}
 
 -- 290 words that keep the rules
-module _ (l : List ℕ) (long : length l ≡ 290) (sound : wiredSound (wiredOf l) ≡ true) where
+module _ (l : List ℕ) (long : length l ≡ wiredSize) (sound : wiredSound (wiredOf l) ≡ true) where
   pub words-steady : WiredSteady (wiredOf l)
   words-steady =
       wired-sound-steady (wiredOf l) sound (ap length (sym (wires-read l long)))
-      (subst DomainShaped (root-part l long) (domainOf-shaped (take 144 (drop 2 l)) (root-long l long)))
-      (subst DomainShaped (child-part l long) (domainOf-shaped (take 144 (drop 146 l)) (child-long l long)))
+      (subst DomainShaped (root-part l long) (domainOf-shaped (take domainSize (drop 2 l)) (root-long l long)))
+      (subst DomainShaped (child-part l long) (domainOf-shaped (take domainSize (drop childPlace l)) (child-long l long)))
 
   pub words-quiet : WiredQuiet (wiredOf l)
   words-quiet = wired-sound-quiet (wiredOf l) sound

@@ -15,56 +15,57 @@ use Rattle.words.proofs.SetsLaws.{put-word}
 use Rattle.domain.specs.Domain.{Domain, domainOf}
 use Rattle.domain.specs.Slot.{sourceAt}
 use Rattle.wired_state.specs.Wires.{Wired, wiredOf, domainIn, withDomain, isDelegated, withWires}
+use Rattle.sizes.specs.Sizes.{childPlace, domainSize, wiredSize}
 
 -- two controllers are equal if their parts are
 pub wired-path : {w v : Wired} → w .wires ≡ v .wires → w .root ≡ v .root → w .child ≡ v .child → w ≡ v
 wired-path a b c = λ k. record { wires = a k; root = b k; child = c k }
 
-module _ (l ys : List ℕ) (long : length l ≡ 290) (part : length ys ≡ 144) where
-  pub put-root : wiredOf (take 2 l ++ (ys ++ drop 144 (drop 2 l)))
+module _ (l ys : List ℕ) (long : length l ≡ wiredSize) (part : length ys ≡ domainSize) where
+  pub put-root : wiredOf (take 2 l ++ (ys ++ drop domainSize (drop 2 l)))
       ≡ record { wires = wiredOf l .wires; root = domainOf ys; child = wiredOf l .child }
   unfolding wiredOf
   put-root =
       let two : length (take 2 l) ≡ 2 = simp length-take (omega arith) in
-      let behind = drop-at (take 2 l) (ys ++ drop 144 (drop 2 l)) 2 two in
-      wired-path (take-at (take 2 l) (ys ++ drop 144 (drop 2 l)) 2 two)
-      (ap domainOf (ap (take 144) behind ∙ take-at ys (drop 144 (drop 2 l)) 144 part))
-      (ap (λ (x : List ℕ). domainOf (take 144 x))
-      (sym (drop-drop 144 2 (take 2 l ++ (ys ++ drop 144 (drop 2 l)))) ∙ ap (drop 144) behind
-      ∙ drop-at ys (drop 144 (drop 2 l)) 144 part ∙ drop-drop 144 2 l))
+      let behind = drop-at (take 2 l) (ys ++ drop domainSize (drop 2 l)) 2 two in
+      wired-path (take-at (take 2 l) (ys ++ drop domainSize (drop 2 l)) 2 two)
+      (ap domainOf (ap (take domainSize) behind ∙ take-at ys (drop domainSize (drop 2 l)) domainSize part))
+      (ap (λ (x : List ℕ). domainOf (take domainSize x))
+      (sym (drop-drop domainSize 2 (take 2 l ++ (ys ++ drop domainSize (drop 2 l)))) ∙ ap (drop domainSize) behind
+      ∙ drop-at ys (drop domainSize (drop 2 l)) domainSize part ∙ drop-drop domainSize 2 l))
 
-  pub put-child : wiredOf (take 146 l ++ (ys ++ drop 144 (drop 146 l)))
+  pub put-child : wiredOf (take childPlace l ++ (ys ++ drop domainSize (drop childPlace l)))
       ≡ record { wires = wiredOf l .wires; root = wiredOf l .root; child = domainOf ys }
   unfolding wiredOf
   put-child =
-      let z = ys ++ drop 144 (drop 146 l) in
-      let middle = take 144 (drop 2 l) in
+      let z = ys ++ drop domainSize (drop childPlace l) in
+      let middle = take domainSize (drop 2 l) in
       let two : length (take 2 l) ≡ 2 = simp length-take (omega arith) in
-      let most : length (take 146 l) ≡ 146 = simp length-take (omega arith) in
-      let whole : length middle ≡ 144 = simp (length-take, length-drop) (omega arith) in
-      let apart : take 146 l ++ z ≡ take 2 l ++ (middle ++ z) =
-      ap (λ (x : List ℕ). x ++ z) (take-add 2 144 l) ∙ append-assoc (take 2 l) middle z in
+      let most : length (take childPlace l) ≡ childPlace = simp length-take (omega arith) in
+      let whole : length middle ≡ domainSize = simp (length-take, length-drop) (omega arith) in
+      let apart : take childPlace l ++ z ≡ take 2 l ++ (middle ++ z) =
+      ap (λ (x : List ℕ). x ++ z) (take-add 2 domainSize l) ∙ append-assoc (take 2 l) middle z in
       wired-path (ap (take 2) apart ∙ take-at (take 2 l) (middle ++ z) 2 two)
       (ap domainOf
-      (ap (λ (x : List ℕ). take 144 (drop 2 x)) apart
-      ∙ ap (take 144) (drop-at (take 2 l) (middle ++ z) 2 two)
-      ∙ take-at middle z 144 whole))
+      (ap (λ (x : List ℕ). take domainSize (drop 2 x)) apart
+      ∙ ap (take domainSize) (drop-at (take 2 l) (middle ++ z) 2 two)
+      ∙ take-at middle z domainSize whole))
       (ap domainOf
-      (ap (take 144) (drop-at (take 146 l) z 146 most) ∙ take-at ys (drop 144 (drop 146 l)) 144 part))
+      (ap (take domainSize) (drop-at (take childPlace l) z childPlace most) ∙ take-at ys (drop domainSize (drop childPlace l)) domainSize part))
 
 -- the parts that are lent
-module _ (l : List ℕ) (long : length l ≡ 290) where
-  pub root-long : length (take 144 (drop 2 l)) ≡ 144
+module _ (l : List ℕ) (long : length l ≡ wiredSize) where
+  pub root-long : length (take domainSize (drop 2 l)) ≡ domainSize
   root-long = simp (length-take, length-drop) (omega arith)
 
-  pub child-long : length (take 144 (drop 146 l)) ≡ 144
+  pub child-long : length (take domainSize (drop childPlace l)) ≡ domainSize
   child-long = simp (length-take, length-drop) (omega arith)
 
-  pub root-part : domainOf (take 144 (drop 2 l)) ≡ wiredOf l .root
+  pub root-part : domainOf (take domainSize (drop 2 l)) ≡ wiredOf l .root
   unfolding wiredOf
   root-part = refl
 
-  pub child-part : domainOf (take 144 (drop 146 l)) ≡ wiredOf l .child
+  pub child-part : domainOf (take domainSize (drop childPlace l)) ≡ wiredOf l .child
   unfolding wiredOf
   child-part = refl
 
@@ -76,22 +77,22 @@ module _ (l : List ℕ) (long : length l ≡ 290) where
 
 -- ---- both parts lent, one after the other
 
-module _ (l ys : List ℕ) (long : length l ≡ 290) (part : length ys ≡ 144) where
-  pub put-long : length (take 2 l ++ (ys ++ drop 144 (drop 2 l))) ≡ 290
+module _ (l ys : List ℕ) (long : length l ≡ wiredSize) (part : length ys ≡ domainSize) where
+  pub put-long : length (take 2 l ++ (ys ++ drop domainSize (drop 2 l))) ≡ wiredSize
   put-long = simp (length-append, length-take, length-drop) (omega arith)
 
   pub second-part : domainOf
-      (take 144 (drop 146 (take 2 l ++ (ys ++ drop 144 (drop 2 l))))) ≡ wiredOf l .child
+      (take domainSize (drop childPlace (take 2 l ++ (ys ++ drop domainSize (drop 2 l))))) ≡ wiredOf l .child
   second-part =
-      child-part (take 2 l ++ (ys ++ drop 144 (drop 2 l))) put-long
+      child-part (take 2 l ++ (ys ++ drop domainSize (drop 2 l))) put-long
       ∙ ap (λ (w : Wired). w .child) (put-root l ys long part)
 
-  pub both-put : (zs : List ℕ) → length zs ≡ 144
-      → wiredOf (take 146 (take 2 l ++ (ys ++ drop 144 (drop 2 l)))
-      ++ (zs ++ drop 144 (drop 146 (take 2 l ++ (ys ++ drop 144 (drop 2 l))))))
+  pub both-put : (zs : List ℕ) → length zs ≡ domainSize
+      → wiredOf (take childPlace (take 2 l ++ (ys ++ drop domainSize (drop 2 l)))
+      ++ (zs ++ drop domainSize (drop childPlace (take 2 l ++ (ys ++ drop domainSize (drop 2 l))))))
       ≡ record { wires = wiredOf l .wires; root = domainOf ys; child = domainOf zs }
   both-put zs rest =
-      put-child (take 2 l ++ (ys ++ drop 144 (drop 2 l))) zs put-long rest
+      put-child (take 2 l ++ (ys ++ drop domainSize (drop 2 l))) zs put-long rest
       ∙ ap (λ (w : Wired). record { wires = w .wires; root = w .root; child = domainOf zs })
       (put-root l ys long part)
 
@@ -106,8 +107,8 @@ wire-put l i v b h e =
     ∙ ap (set (take 2 l) (i / 32)) (e
     ∙ ap (λ (w : ℕ). putBit w (i % 32) b) (sym (getD-take 2 l (i / 32) 0 (omega arith))))
     ∙ put-word (take 2 l) i b)
-    (ap (λ (x : List ℕ). domainOf (take 144 x)) (drop-set-lt 2 l (i / 32) v (omega arith)))
-    (ap (λ (x : List ℕ). domainOf (take 144 x)) (drop-set-lt 146 l (i / 32) v (omega arith)))
+    (ap (λ (x : List ℕ). domainOf (take domainSize x)) (drop-set-lt 2 l (i / 32) v (omega arith)))
+    (ap (λ (x : List ℕ). domainOf (take domainSize x)) (drop-set-lt childPlace l (i / 32) v (omega arith)))
 
 -- ---- one of the two domains
 

@@ -10,13 +10,14 @@ use borrow.Author.Needs.{needs}
 use Rattle.board_block.proofs.StartLaws.{all-filled}
 use Rattle.board_block.proofs.clear.Statement.{statement}
 use Rattle.board_block.proofs.clear.Tie as tie
+use Rattle.sizes.specs.Sizes.{blockSize}
 
 abbrev Inv-loop : tie.InvT-loop
 Inv-loop state₀ i₀ state i =
-    (i ≤ 650) × (length state ≡ 650) × (state ≡ replicate i 0 ++ drop i state₀)
+    (i ≤ blockSize) × (length state ≡ blockSize) × (state ≡ replicate i 0 ++ drop i state₀)
 
 abbrev μ-loop : tie.MeasureT-loop
-μ-loop state₀ i₀ state i = 650 - i
+μ-loop state₀ i₀ state i = blockSize - i
 
 loop-holds : tie.Need-loop-holds Inv-loop μ-loop
 loop-holds c = (omega arith, search needs, refl)
@@ -50,7 +51,7 @@ returns : tie.Need-returns Inv-loop μ-loop
 returns c =
     let at-loop = c .before .loop in
     at-loop .inv .2
-    ∙ all-filled (c .before .before .args .state .now) (at-loop .i) 650 (omega arith) (omega arith)
+    ∙ all-filled (c .before .before .args .state .now) (at-loop .i) blockSize (omega arith) (omega arith)
 
 pub clear-spec : {M : Type 1} → statement M
 clear-spec =

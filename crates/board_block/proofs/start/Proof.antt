@@ -7,6 +7,7 @@ use Rattle.board_block.proofs.StartLaws.{start-wired}
 use borrow.Author.Needs.{needs}
 use Rattle.board_block.proofs.start.Statement.{statement}
 use Rattle.board_block.proofs.start.Tie as tie
+use Rattle.sizes.specs.Sizes.{filesSize}
 
 clear-requires : tie.Need-clear-requires
 clear-requires c κs = search needs
@@ -21,7 +22,7 @@ part-start-files-end : tie.Need-part-start-files-end
 part-start-files-end c = search needs
 
 start-files-requires : tie.Need-start-files-requires
-start-files-requires c κs = ap (take 360) (c .before .before .before .clear .ensures)
+start-files-requires c κs = ap (take filesSize) (c .before .before .before .clear .ensures)
 
 same-length : tie.Need-same-length
 same-length c = search needs

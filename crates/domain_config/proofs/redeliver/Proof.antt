@@ -10,9 +10,10 @@ use Rattle.domain_config.proofs.ConfigLaws.{redelivered-messages, redel
 use borrow.Author.Needs.{needs}
 use Rattle.domain_config.proofs.redeliver.Statement.{statement}
 use Rattle.domain_config.proofs.redeliver.Tie as tie
+use Rattle.sizes.specs.Sizes.{domainSize}
 
 abbrev Inv-loop : tie.InvT-loop
-Inv-loop part₀ wires messages i₀ part i = (length part ≡ 144) × (1 ≤ i) × (i ≤ 64)
+Inv-loop part₀ wires messages i₀ part i = (length part ≡ domainSize) × (1 ≤ i) × (i ≤ 64)
     × (messages ≡ byMessages (domainOf part))
     × (redeliveredFrom (domainOf part₀) wires 1 63 ≡ redeliveredFrom (domainOf part) wires i (64 - i))
 

@@ -14,6 +14,7 @@ use Rattle.wired_state.proofs.WiresLaws.{put-child, child-long, child-part}
 use borrow.Author.Needs.{needs}
 use Rattle.wired_sourcecfg.proofs.write_child.Statement.{statement}
 use Rattle.wired_sourcecfg.proofs.write_child.Tie as tie
+use Rattle.sizes.specs.Sizes.{childPlace, domainSize}
 
 wires-requires : tie.Need-wires-requires
 wires-requires c κs = search needs
@@ -59,7 +60,7 @@ returns c =
     ∙ child-long l (start .pre .0))
     ∙ ap (λ (d : Domain). record { wires = wiredOf l .wires; root = wiredOf l .root; child = d })
     (at-mode .mode-source .ensures
-    ∙ ap₂ (λ (m : ℕ) (b : Bool). sourceModed (domainOf (take 144 (drop 146 l))) i m b) word wire
+    ∙ ap₂ (λ (m : ℕ) (b : Bool). sourceModed (domainOf (take domainSize (drop childPlace l))) i m b) word wire
     ∙ ap
     (λ (d : Domain). sourceModed d i (sourceWord true (isDelegated (wiredOf l) i) (start .args .value))
     (member (wiredOf l .wires) i))

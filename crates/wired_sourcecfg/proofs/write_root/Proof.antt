@@ -19,6 +19,7 @@ use Rattle.wired_sourcecfg.proofs.DelegationLaws.{root-stays, root-move
 use borrow.Author.Needs.{needs}
 use Rattle.wired_sourcecfg.proofs.write_root.Statement.{statement}
 use Rattle.wired_sourcecfg.proofs.write_root.Tie as tie
+use Rattle.sizes.specs.Sizes.{domainSize}
 
 wires-requires : tie.Need-wires-requires
 wires-requires c κs = search needs
@@ -61,7 +62,7 @@ returns c =
     ∙ ap (λ (ws : List ℕ). member ws i) (at-wire .before .wires .ensures) in
     let word = at-word .source-word .ensures in
     let moded = at-mode .mode-source .ensures
-    ∙ ap₂ (λ (m : ℕ) (b : Bool). sourceModed (domainOf (take 144 (drop 2 l))) i m b) word wire
+    ∙ ap₂ (λ (m : ℕ) (b : Bool). sourceModed (domainOf (take domainSize (drop 2 l))) i m b) word wire
     ∙ ap
     (λ (d : Domain). sourceModed d i (sourceWord false false (start .args .value))
     (member (wiredOf l .wires) i)) (root-part l long) in
@@ -104,7 +105,7 @@ returns-2 c =
     ∙ ap (λ (ws : List ℕ). member ws i) (at-wire .before .wires .ensures) in
     let word = at-word .source-word .ensures in
     let moded = at-mode .mode-source .ensures
-    ∙ ap₂ (λ (m : ℕ) (b : Bool). sourceModed (domainOf (take 144 (drop 2 l))) i m b) word wire
+    ∙ ap₂ (λ (m : ℕ) (b : Bool). sourceModed (domainOf (take domainSize (drop 2 l))) i m b) word wire
     ∙ ap
     (λ (d : Domain). sourceModed d i (sourceWord false false (start .args .value))
     (member (wiredOf l .wires) i)) (root-part l long) in
@@ -114,7 +115,7 @@ returns-2 c =
     ∙ at-test .if1 .left in
     let ys = at-mode .mode-source .last .0 in
     let rest = at-clear .clear-source .kept .0
-    ∙ child-long (take 2 l ++ (ys ++ drop 144 (drop 2 l))) (put-long l ys long kept) in
+    ∙ child-long (take 2 l ++ (ys ++ drop domainSize (drop 2 l))) (put-long l ys long kept) in
     both-put l ys long kept (at-clear .clear-source .last .0) rest
     ∙ ap₂ (λ (d e : Domain). record { wires = wiredOf l .wires; root = d; child = e }) moded
     (at-clear .clear-source .ensures

@@ -9,6 +9,7 @@ use Rattle.board_block.proofs.BlockLaws.{wired-long, wired-part}
 use borrow.Author.Needs.{needs}
 use Rattle.board_move_calls.proofs.targets.by_messages.Statement.{statement}
 use Rattle.board_move_calls.proofs.targets.by_messages.Tie as tie
+use Rattle.sizes.specs.Sizes.{filesSize, wiredSize}
 
 sub-w : tie.Need-sub-w
 sub-w c = search needs
@@ -37,7 +38,7 @@ returns c =
     let l = start .args .state .now in
     let long = start .pre in
     c .by-messages .ensures
-    ∙ ap byMessages (child-part (take 290 (drop 360 l)) (wired-long l long)
+    ∙ ap byMessages (child-part (take wiredSize (drop filesSize l)) (wired-long l long)
     ∙ ap (λ (w : Wired). w .child) (wired-part l long))
 
 pub by-messages-spec : {M : Type 1} → statement M

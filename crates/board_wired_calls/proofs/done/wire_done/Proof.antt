@@ -9,6 +9,7 @@ use Rattle.board_wired_calls.proofs.DoneLaws.{part-sound, wire-within, 
 use borrow.Author.Needs.{needs}
 use Rattle.board_wired_calls.proofs.done.wire_done.Statement.{statement}
 use Rattle.board_wired_calls.proofs.done.wire_done.Tie as tie
+use Rattle.sizes.specs.Sizes.{filesSize, wiredSize}
 
 sub-set-wire : tie.Need-sub-set-wire
 sub-set-wire c = search needs
@@ -51,7 +52,7 @@ deliver-requires c κs =
       files-long (wiredPut l zs) (put-wired-long l zs long (at-call .set-wire .kept .0 ∙ wired-long l long)),
       at-call .set-wire .kept .1 .0 ∙ start .pre .1,
       wire-within l long (start .pre .4) _ (args .i) (start .pre .2) (start .pre .3) (args .level) (left .2),
-      left-named _ _ (args .log .now) _ _ left (wire-exists (wiredOf (take 290 (drop 360 l))) (args .i)
+      left-named _ _ (args .log .now) _ _ left (wire-exists (wiredOf (take wiredSize (drop filesSize l))) (args .i)
           (args .level)),
     )
 

@@ -9,6 +9,7 @@ use Rattle.board_wired_calls.proofs.DoneLaws.{part-sound, write-within,
 use borrow.Author.Needs.{needs}
 use Rattle.board_wired_calls.proofs.written.write_done.Statement.{statement}
 use Rattle.board_wired_calls.proofs.written.write_done.Tie as tie
+use Rattle.sizes.specs.Sizes.{filesSize, wiredSize}
 
 sub-write : tie.Need-sub-write
 sub-write c = search needs
@@ -47,7 +48,7 @@ deliver-requires c κs =
       at-call .write .kept .1 .0 ∙ start .pre .1,
       write-within l long (start .pre .3) _ (args .child) (args .word) (start .pre .2) (args .value)
           (left .2),
-      left-named _ _ (args .log .now) _ _ left (write-exists (wiredOf (take 290 (drop 360 l))) (args .child)
+      left-named _ _ (args .log .now) _ _ left (write-exists (wiredOf (take wiredSize (drop filesSize l))) (args .child)
           (args .word) (args .value)),
     )
 

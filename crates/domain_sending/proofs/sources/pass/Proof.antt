@@ -10,10 +10,11 @@ use Rattle.domain_sending.proofs.WaitingLaws.{left-none}
 use borrow.Author.Needs.{needs}
 use Rattle.domain_sending.proofs.sources.pass.Statement.{statement}
 use Rattle.domain_sending.proofs.sources.pass.Tie as tie
+use Rattle.sizes.specs.Sizes.{domainSize}
 
 abbrev Inv-loop : tie.InvT-loop
 Inv-loop part₀ child log₀ all rest₀ i₀ n₀ part log rest i n =
-    (length part ≡ 144) × SoFar child (domainOf part₀) log₀ (domainOf part) log i n
+    (length part ≡ domainSize) × SoFar child (domainOf part₀) log₀ (domainOf part) log i n
     × Left (domainOf part) all rest i
 
 abbrev μ-loop : tie.MeasureT-loop

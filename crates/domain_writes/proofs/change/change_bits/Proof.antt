@@ -10,9 +10,10 @@ use Rattle.domain_writes.specs.Writes.{changedFrom}
 use Rattle.domain_writes.proofs.WritesLaws.{changed-next, changed-end, changed-rest}
 use Rattle.domain_writes.proofs.change.change_bits.Statement.{statement}
 use Rattle.domain_writes.proofs.change.change_bits.Tie as tie
+use Rattle.sizes.specs.Sizes.{domainSize}
 
 abbrev Inv-loop : tie.InvT-loop
-Inv-loop part₀ wires change value from end i₀ part i = (length part ≡ 144) × (i ≤ end)
+Inv-loop part₀ wires change value from end i₀ part i = (length part ≡ domainSize) × (i ≤ end)
     × (from ≤ i)
     × (changedFrom (domainOf part₀) wires change value from (end - from) ≡ changedFrom
     (domainOf part) wires change value i (end - i))

@@ -10,10 +10,11 @@ use Rattle.files.specs.Files.{filesOf, reached, allReached}
 use Rattle.files.proofs.FilesLaws.{allReached-none, allReached-more, named-each}
 use Rattle.files.proofs.messages.deliver.Statement.{statement}
 use Rattle.files.proofs.messages.deliver.Tie as tie
+use Rattle.sizes.specs.Sizes.{filesSize}
 
 abbrev Inv-loop : tie.InvT-loop
 Inv-loop files₀ log count k₀ files k =
-    (k ≤ count) × (length files ≡ 360) × (filesOf files ≡ allReached (filesOf files₀) (take k log))
+    (k ≤ count) × (length files ≡ filesSize) × (filesOf files ≡ allReached (filesOf files₀) (take k log))
 
 abbrev μ-loop : tie.MeasureT-loop
 μ-loop files₀ log count k₀ files k = count - k

@@ -10,6 +10,7 @@ use Rattle.wired.proofs.ControllerLaws.{answers-of, answered-first, ans
 use borrow.Author.Needs.{needs}
 use Rattle.wired.proofs.pass.flush.Statement.{statement}
 use Rattle.wired.proofs.pass.flush.Tie as tie
+use Rattle.sizes.specs.Sizes.{domainSize}
 
 sub-send : tie.Need-sub-send
 sub-send c = search needs
@@ -69,7 +70,7 @@ returns-2 c =
     let long = start .pre .0 in
     let ys = at-send .send .last .0 in
     let whole = at-send .send .kept .0 ∙ root-long l long in
-    let first = take 2 l ++ (ys ++ drop 144 (drop 2 l)) in
+    let first = take 2 l ++ (ys ++ drop domainSize (drop 2 l)) in
     let put = both-put l ys long whole (at-second .send2 .last .0)
     (at-second .send2 .kept .0 ∙ child-long first (put-long l ys long whole)) in
     let answers = answered-second (wiredOf l) _ _ (start .args .log .now) _ _ _ _

@@ -13,6 +13,7 @@ use Rattle.wired_state.proofs.WiresLaws.{root-part}
 use borrow.Author.Needs.{needs}
 use Rattle.wired_state.proofs.wire.set_wire.Statement.{statement}
 use Rattle.wired_state.proofs.wire.set_wire.Tie as tie
+use Rattle.sizes.specs.Sizes.{domainSize}
 
 wires-requires : tie.Need-wires-requires
 wires-requires c κs = search needs
@@ -68,7 +69,7 @@ returns c =
     let ys = at-first .wire-source .last .0 in
     let kept = at-first .wire-source .kept .0 ∙ root-long l long in
     let rest = at-second .wire-source2 .kept .0
-    ∙ child-long (take 2 l ++ (ys ++ drop 144 (drop 2 l))) (put-long l ys long kept) in
+    ∙ child-long (take 2 l ++ (ys ++ drop domainSize (drop 2 l))) (put-long l ys long kept) in
     let root = at-first .wire-source .ensures
     ∙ ap₂ (λ (d : Domain) (b : Bool). sourceWired d i b level) (root-part l long
     ∙ ap (λ (v : Wired). v .root) put) was in
