@@ -190,10 +190,11 @@ class Picture:
 
 
 def runs(words):
-    """The words of a line as SVG, neighbours of one style together."""
+    """The words of a line as SVG, neighbours of one style together. A space is bold only between two bold words:
+    librsvg drops one that a bold part begins with."""
     merged = []
     for n, word in enumerate(words):
-        for piece in ([Piece(' ', word[0].bold)] if n else []) + word:
+        for piece in ([Piece(' ', word[0].bold and words[n - 1][-1].bold)] if n else []) + word:
             last = merged[-1] if merged else None
             if last and not (last.told or piece.told) and last.bold == piece.bold:
                 merged[-1] = Piece(last.text + piece.text, last.bold)
