@@ -2,7 +2,7 @@
 # make help.
 .DEFAULT_GOAL := all
 .PHONY: all test check compare ctest archives boards audit cases mutants bench example tools fmt style numbers
-.PHONY: layers pictures claims sentences clean help toolchain
+.PHONY: layers pages clean help toolchain
 
 # rt check runs each program once it is proved, and compares what it wrote
 all: check
@@ -34,9 +34,9 @@ archives: toolchain
 boards: toolchain
 	@scripts/boards --proved
 
-# what an auditor reads, checks and keeps
+# what an auditor and an engineer read, check and keep; LOG is the output of a gate, for its seconds
 audit: archives
-	@scripts/audit
+	@scripts/audit $(if $(LOG),--log $(LOG))
 
 # recorded calls and the second program's answers, which crates/cases is run on
 cases: toolchain
@@ -44,10 +44,10 @@ cases: toolchain
 	@second/build target/compare/libmonitor.a target/compare/second
 	@target/compare/second --record 4000 --seed 1 --cases crates/cases/stdin --answers crates/cases/stdout
 
-# wrong models that the comparison has to tell apart; to be kept: make mutants >docs/MUTANTS.md
+# wrong models that the comparison has to tell apart; to be kept: make mutants >second/mutants/seen.txt
 mutants: toolchain
-	@scripts/native target/compare
-	@second/try-mutants target/compare/libmonitor.a --markdown
+	@scripts/native target/compare >&2
+	@second/try-mutants target/compare/libmonitor.a --list
 
 bench: toolchain
 	@scripts/bench
@@ -75,17 +75,10 @@ numbers:
 layers:
 	@scripts/layers
 
-# docs/pictures, anew
-pictures:
+# every page of the repository that a script prints, anew
+pages:
+	@index=$$(scripts/claims) && printf '%s\n' "$$index" >docs/CLAIMS.md
 	@scripts/pictures
-
-# to be kept: make claims >docs/CLAIMS.md
-claims:
-	@scripts/claims
-
-# to be kept: make sentences >docs/SENTENCES.md
-sentences:
-	@scripts/sentences
 
 clean:
 	@rm -rf target
@@ -98,7 +91,8 @@ help:
 	@echo "make compare  compare the proved archive, compiled for this machine, with the second program"
 	@echo "make archives write target/archives: the proved archive for x86-64, aarch64 and RISC-V (lp64d, lp64)"
 	@echo "make boards   run the examples and the recorded cases on these archives, where they can be run"
-	@echo "make audit    write target/audit: the pages, claims and pictures for a browser, versions, sums, the verdict"
+	@echo "make audit    write target/audit: pages, claims, sources and pictures for a browser, versions, sums, the verdict;"
+	@echo "              LOG=FILE, the output of a gate, adds what each crate cost"
 	@echo "make cases    have the second program write anew what the program cases is run on"
 	@echo "make mutants  try wrong models: the comparison has to see each"
 	@echo "make bench    time every call, and count its instructions, beside plain C with the same promises"
@@ -107,14 +101,12 @@ help:
 	@echo "make tools    install what boards needs (Debian, as root): C compilers for RISC-V and the other desk, an emulator"
 	@echo "make fmt      bring every source file under crates/ into the layout"
 	@echo "make style    what the checker does not see: sizes, layers, width, headers, holes, contracts, names, paths"
-	@echo "make numbers  the numbers that README.md states"
+	@echo "make numbers  how much there is: crates, functions, lines, claims, edits"
 	@echo "make layers   the picture of the layers, from crates.txt"
-	@echo "make pictures draw the pictures of docs/pictures anew, from the tree"
-	@echo "make claims   the index of the claims, which docs/CLAIMS.md keeps"
-	@echo "make sentences  the sentences of paper 01 with what answers each, which docs/SENTENCES.md keeps"
+	@echo "make pages    print and draw anew what is generated and kept: docs/CLAIMS.md and docs/pictures"
 	@echo "make clean    remove target/, where all that is built lies"
-	@echo "All but tools, style, numbers, layers, pictures, claims, sentences, clean and help need rt, the command of the"
-	@echo "Rattle toolchain, on PATH."
+	@echo "All but tools, style, numbers, layers, pages, clean and help need rt, the command of the Rattle toolchain, on"
+	@echo "PATH."
 
 toolchain:
 	@command -v rt >/dev/null 2>&1 || { \

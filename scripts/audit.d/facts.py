@@ -72,13 +72,12 @@ def versions():
 
 
 def verdict():
-    """The block of docs/AUDIT.md, and beside it what this folder is of."""
-    page = open(os.path.join(ROOT, 'docs/AUDIT.md')).read()
-    block = re.search(r'^```\n(verdict .*?)^```', page, re.M | re.S)
-    gated = re.search(r'^commit +([0-9a-f]+)', block.group(1), re.M) if block else None
+    """The last gate's, docs/verdict.txt, and beside it what this folder is of."""
+    block = open(os.path.join(ROOT, 'docs/verdict.txt')).read()
+    gated = re.search(r'^commit +([0-9a-f]+)', block, re.M)
     if not gated:
-        return 'docs/AUDIT.md has no verdict of a gate\n'
-    this = block.group(1) + 'this       ' + commit() + '\n'
+        return 'docs/verdict.txt has no verdict of a gate\n'
+    this = block + 'this       ' + commit() + '\n'
     if git('rev-parse', '--verify', gated.group(1) + '^{commit}').returncode != 0:
         return this + 'what has changed since that gate is not known: its commit is not here\n'
     since = git('diff', '--name-only', gated.group(1)).stdout.split()

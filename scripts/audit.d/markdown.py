@@ -9,8 +9,8 @@ def anchor(text):
     return re.sub(r'[^\w\- ]', '', re.sub(r'[`*]', '', text).lower()).strip().replace(' ', '-')
 
 
-def inline(text, link):
-    """Code, links, pictures, bold and slanted text of one paragraph."""
+def inline(text, link, inside=False):
+    """Code, links, pictures, bold and slanted text of one paragraph; inside a link there is no other."""
     kept = []
 
     def keep(piece):
@@ -18,17 +18,23 @@ def inline(text, link):
         return '\0%d\0' % (len(kept) - 1)
 
     def linked(m):
-        target = link(m.group(3))
+        claim = re.fullmatch(r'Claim-\d+', m.group(2))
+        target = claim and link('claim:' + claim.group(0)) or link(m.group(3))
         if m.group(1):
             return keep('<img src="%s" alt="%s">' % (html.escape(target or ''), html.escape(m.group(2))))
-        words = inline(m.group(2), link)
+        words = inline(m.group(2), link, inside=True)
         return keep('<a href="%s">%s</a>' % (html.escape(target), words) if target else words)
 
     def numbered(name, kind):
-        target = link('%s:%s' % (kind, name))
+        target = None if inside else link('%s:%s' % (kind, name))
         return keep('<a href="%s">%s</a>' % (target, name)) if target else name
 
-    text = re.sub(r'`([^`]+)`', lambda m: keep('<code>%s</code>' % html.escape(m.group(1).replace('\\|', '|'))), text)
+    def quoted(m):
+        words = html.escape(m.group(1).replace('\\|', '|'))
+        built = link('built:' + m.group(1)) if re.fullmatch(r'\w+\.(html|txt)', m.group(1)) and not inside else None
+        return keep('<a href="%s">%s</a>' % (built, words) if built else '<code>%s</code>' % words)
+
+    text = re.sub(r'`([^`]+)`', quoted, text)
     text = re.sub(r'(!?)\[([^\]]*)\]\(([^)\s]+)\)', linked, text)
     text = re.sub(r'\bClaim-\d+\b', lambda m: numbered(m.group(0), 'claim'), text)
     # a decision's own paragraph begins with its number
@@ -44,7 +50,10 @@ def inline(text, link):
 
 def row(line, cell, link):
     cells = re.split(r'(?<!\\)\|', line.strip().strip('|'))
-    return '<tr>%s</tr>' % ''.join('<%s>%s</%s>' % (cell, inline(c.strip(), link), cell) for c in cells)
+    # a sentence's own row begins with its name
+    named = re.match(r'\s*([A-Z]\d+(?:\.\d+)?) ', cells[0])
+    mark = ' id="%s"' % named.group(1) if named else ''
+    return '<tr%s>%s</tr>' % (mark, ''.join('<%s>%s</%s>' % (cell, inline(c.strip(), link), cell) for c in cells))
 
 
 def block_of(lines, k, starts):
@@ -79,7 +88,7 @@ STARTS = r'(#+ |```|\||[-*] |\d+\. )'
 
 
 def to_html(text, link):
-    """link gives a link's place, and that of 'claim:NAME' or 'decision:NAME', or None if there is no such place."""
+    """link gives a link's place, and that of 'claim:NAME', 'decision:NAME' or 'built:NAME', or None if there is none."""
     lines, out, k = text.split('\n'), [], 0
     while k < len(lines):
         line = lines[k]

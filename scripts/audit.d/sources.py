@@ -17,16 +17,31 @@ def claim_files():
     return sorted(order, key=lambda f: f != 'crates/claims/specs/Demands.antt')
 
 
-def index(place_of):
-    """The place of each definition of specs/. A name of one or two letters is a variable more often than that."""
+TYPED = re.compile(r'pub (?:enum|struct) (\w+)|\s*(?:pub )?(?:extern "C" )?fn (\w+)')
+
+
+def defines(path, line):
+    """The name that a line of a source defines, by which a link finds it; or nothing."""
+    m = (TYPED if path.endswith('.rt') else DEFINED).match(line) if path.endswith(('.rt', '.antt')) else None
+    name = m and (m.group(2) or m.group(1))
+    return name if name and not re.match(r'(use|mod)$', name) else ''
+
+
+def names():
+    """The place of each definition of specs/, as PATH#NAME. One of one or two letters is a variable more often."""
     found = {}
     for path in sorted(glob.glob(os.path.join(ROOT, 'crates/*/specs/*.antt'))):
         name = os.path.relpath(path, ROOT)
-        for number, line in enumerate(open(path), 1):
-            m = DEFINED.match(line)
-            if m and len(m.group(2)) > 2 and not re.match(r'(use|mod)$', m.group(2)):
-                found.setdefault(m.group(2), '%s#L%d' % (place_of(name), number))
+        for line in open(path):
+            defined = defines(name, line)
+            if len(defined) > 2:
+                found.setdefault(defined, '%s#%s' % (name, defined))
     return found
+
+
+def index(place_of):
+    """The same places in the folder."""
+    return {name: '%s#%s' % (place_of(place.split('#')[0]), name) for name, place in names().items()}
 
 
 def declared(text, place_of):

@@ -22,7 +22,7 @@ HEADING = (
 # a box, its fill, and the link below it with what it is
 CHAIN = [
     ('*a sentence* of paper 01, or of the standard', PALE, 'trusted',
-     'read by a person: `docs/SENTENCES.md` has each sentence beside its definition'),
+     'read by a person: `docs/sentences.txt` has each sentence, and its mark stands at its definition'),
     ('*a definition*, `crates/*/specs`', BLUE, 'proved',
      'a claim says in plain numbers and bits what the sentence says; T1 to T11 are computed: '
      'Claims #163, #170'),

@@ -8,7 +8,7 @@ from functools import lru_cache
 from pathlib import Path
 
 HEAD = re.compile(r"(?:(?:unfoldable|abbrev) )?pub (?:record |data )?([A-Za-z][\w′'-]*)")
-ROW = re.compile(r'\| ((?:Claim|Demand)-\d+) \| (.*) \| \[([^\]]*)\]\([^)]*\) \|')
+STATED = re.compile(r'((?:^--.*\n)+)unfoldable pub ((?:Claim|Demand)-\d+) :', re.M)
 WORD = re.compile(r"[A-Za-z][\w′'-]*")
 
 
@@ -58,16 +58,21 @@ def meaning(name, path):
 
 @lru_cache(None)
 def claims():
-    """The sentence and the file of each claim and demand, from the index."""
-    rows = map(ROW.match, text_of('docs/CLAIMS.md').splitlines())
-    return {row[1]: f'{row[2]} ({row[3]})' for row in rows if row}
+    """The sentence and the file of each claim and demand."""
+    found = {}
+    for path in sorted(Path('crates').glob('claims*/specs/*.antt')):
+        for comment, name in STATED.findall(text_of(path)):
+            said = ' '.join(line[2:].strip() for line in comment.splitlines() if not line.startswith('-- [0'))
+            said = said[:1].upper() + said[1:] + ('' if said.endswith('.') else '.')
+            found[name] = f'{said} ({path.parts[1]}/{path.name})'
+    return found
 
 
 def claim(number):
     """What a reader is told of a claim: its name, sentence and file."""
     name = f'Claim-{number}'
     if name not in claims():
-        stop(f'{name} is in a picture and not in docs/CLAIMS.md')
+        stop(f'{name} is in a picture and no crate of claims states it')
     return f'{name}: {claims()[name]}'
 
 
