@@ -36,7 +36,7 @@ def inline(text, link, inside=False):
 
     text = re.sub(r'`([^`]+)`', quoted, text)
     text = re.sub(r'(!?)\[([^\]]*)\]\(([^)\s]+)\)', linked, text)
-    text = re.sub(r'\bClaim-\d+\b', lambda m: numbered(m.group(0), 'claim'), text)
+    text = re.sub(r'\b(?:Claim|Demand|Request)-\d+\b', lambda m: numbered(m.group(0), 'claim'), text)
     # a decision's own paragraph begins with its number
     text = re.sub(r'^\*\*(D\d+)\.', lambda m: keep('<a id="%s"></a>' % m.group(1)) + m.group(0), text)
     text = re.sub(r'(?<!\*\*)\bD\d+\b', lambda m: numbered(m.group(0), 'decision'), text)

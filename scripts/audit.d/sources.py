@@ -106,7 +106,7 @@ def blocks(path):
 
 
 def claims():
-    """The names of the demands and claims, in their order."""
+    """The names of the demands, the requests and the claims, in their order."""
     found = [n for path in claim_files() for names, _ in blocks(path) for n in names
-             if re.match(r'(Claim|Demand)-\d+$', n)]
+             if re.match(r'(Claim|Demand|Request)-\d+$', n)]
     return sorted(found, key=lambda n: (n.startswith('Claim'), int(n.split('-')[1])))
