@@ -7,27 +7,27 @@ use Rattle.claims_file.proofs.FileFacts.{claim-32, claim-33, claim-34}
 use Rattle.claims_file.proofs.FileRegisters.{claim-120, claim-121, claim-122, claim-123, claim-124}
 use Rattle.claims_file.proofs.FileRegisters.{claim-125}
 use Rattle.claims_file.proofs.FileState.{claim-126, claim-127, claim-128, claim-129}
-use Rattle.claims_wired.proofs.Causes.{claim-40, claim-41, claim-42}
-use Rattle.claims_wired.proofs.Direct.{claim-43, claim-44, claim-45, claim-46, claim-47, claim-48, claim-49}
-use Rattle.claims_wired.proofs.Sending.{claim-50, claim-51, claim-52, claim-53, claim-54}
-use Rattle.claims_wired.proofs.Candidates.{claim-147}
-use Rattle.claims_wired.proofs.Writes.{claim-55, claim-56, claim-57, claim-58}
+use Rattle.claims_domain.proofs.Causes.{claim-40, claim-41, claim-42}
+use Rattle.claims_domain.proofs.Direct.{claim-43, claim-44, claim-45, claim-46, claim-47, claim-48, claim-49}
+use Rattle.claims_domain.proofs.Sending.{claim-50, claim-51, claim-52, claim-53, claim-54}
+use Rattle.claims_domain.proofs.Candidates.{claim-147}
+use Rattle.claims_registers.proofs.Writes.{claim-55, claim-56, claim-57, claim-58}
 use Rattle.claims_wired.proofs.Operations.{claim-59}
 use Rattle.claims_wired.proofs.WiredCalls.{claim-60, claim-61, claim-62, claim-63, claim-64, claim-65}
 use Rattle.claims_wired.proofs.WiredCalls.{claim-66, claim-67, claim-68, claim-69, claim-70, claim-71}
-use Rattle.claims_wired.proofs.Rules.{claim-72, claim-73, claim-74, claim-75}
+use Rattle.claims_registers.proofs.Rules.{claim-72, claim-73, claim-74, claim-75}
 use Rattle.claims_wired.proofs.Controller.{claim-76, claim-77, claim-78, claim-79}
-use Rattle.claims_wired.proofs.Modes.{claim-94, claim-95}
-use Rattle.claims_wired.proofs.Region.{claim-130, claim-131}
-use Rattle.claims_wired.proofs.Registers.{claim-132, claim-133, claim-139, claim-145}
-use Rattle.claims_wired.proofs.Enables.{claim-134}
-use Rattle.claims_wired.proofs.Settings.{claim-135, claim-136, claim-142}
+use Rattle.claims_registers.proofs.Modes.{claim-94, claim-95}
+use Rattle.claims_domain.proofs.Region.{claim-130, claim-131}
+use Rattle.claims_registers.proofs.Registers.{claim-132, claim-133, claim-139, claim-145}
+use Rattle.claims_registers.proofs.Enables.{claim-134}
+use Rattle.claims_registers.proofs.Settings.{claim-135, claim-136, claim-142}
 use Rattle.claims_wired.proofs.Record.{claim-179}
-use Rattle.claims_wired.proofs.Sourcecfg.{claim-137}
-use Rattle.claims_wired.proofs.Accesses.{claim-138, claim-140}
-use Rattle.claims_wired.proofs.Wires.{claim-141}
+use Rattle.claims_registers.proofs.Sourcecfg.{claim-137}
+use Rattle.claims_registers.proofs.Accesses.{claim-138, claim-140}
+use Rattle.claims_registers.proofs.Wires.{claim-141}
 use Rattle.claims_wired.proofs.Effects.{claim-143, claim-144}
-use Rattle.claims_wired.proofs.Fields.{claim-146}
+use Rattle.claims_domain.proofs.Fields.{claim-146}
 use Rattle.claims_wired.proofs.KeptWired.{claim-155}
 use Rattle.claims_board.proofs.OneSource.{claim-96, claim-97, claim-98, claim-99}
 use Rattle.claims_board.proofs.Numbers.{claim-115, claim-116, claim-117}

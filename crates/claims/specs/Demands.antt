@@ -11,26 +11,26 @@ use Rattle.claims_file.specs.FileFacts.{Claim-32, Claim-33, Claim-34}
 use Rattle.claims_file.specs.FileRegisters.{Claim-120, Claim-121, Claim-122, Claim-123, Claim-124}
 use Rattle.claims_file.specs.FileRegisters.{Claim-125}
 use Rattle.claims_file.specs.FileState.{Claim-126, Claim-127, Claim-128, Claim-129}
-use Rattle.claims_wired.specs.Causes.{Claim-40, Claim-41, Claim-42}
-use Rattle.claims_wired.specs.Direct.{Claim-43, Claim-44, Claim-45, Claim-46, Claim-47, Claim-48, Claim-49}
-use Rattle.claims_wired.specs.Sending.{Claim-50, Claim-51, Claim-52, Claim-53, Claim-54, Claim-147}
-use Rattle.claims_wired.specs.Writes.{Claim-55, Claim-56, Claim-57, Claim-58}
+use Rattle.claims_domain.specs.Causes.{Claim-40, Claim-41, Claim-42}
+use Rattle.claims_domain.specs.Direct.{Claim-43, Claim-44, Claim-45, Claim-46, Claim-47, Claim-48, Claim-49}
+use Rattle.claims_domain.specs.Sending.{Claim-50, Claim-51, Claim-52, Claim-53, Claim-54, Claim-147}
+use Rattle.claims_registers.specs.Writes.{Claim-55, Claim-56, Claim-57, Claim-58}
 use Rattle.claims_wired.specs.Operations.{Claim-59}
 use Rattle.claims_wired.specs.WiredCalls.{Claim-60, Claim-61, Claim-62, Claim-63, Claim-64, Claim-65}
 use Rattle.claims_wired.specs.WiredCalls.{Claim-66, Claim-67, Claim-68, Claim-69, Claim-70, Claim-71}
-use Rattle.claims_wired.specs.Rules.{Claim-72, Claim-73, Claim-74, Claim-75}
+use Rattle.claims_registers.specs.Rules.{Claim-72, Claim-73, Claim-74, Claim-75}
 use Rattle.claims_wired.specs.Controller.{Claim-76, Claim-77, Claim-78, Claim-79}
-use Rattle.claims_wired.specs.Modes.{Claim-94, Claim-95}
-use Rattle.claims_wired.specs.Region.{Claim-130, Claim-131}
-use Rattle.claims_wired.specs.Registers.{Claim-132, Claim-133, Claim-139, Claim-145}
-use Rattle.claims_wired.specs.Enables.{Claim-134}
-use Rattle.claims_wired.specs.Settings.{Claim-135, Claim-136, Claim-142}
+use Rattle.claims_registers.specs.Modes.{Claim-94, Claim-95}
+use Rattle.claims_domain.specs.Region.{Claim-130, Claim-131}
+use Rattle.claims_registers.specs.Registers.{Claim-132, Claim-133, Claim-139, Claim-145}
+use Rattle.claims_registers.specs.Enables.{Claim-134}
+use Rattle.claims_registers.specs.Settings.{Claim-135, Claim-136, Claim-142}
 use Rattle.claims_wired.specs.Record.{Claim-179}
-use Rattle.claims_wired.specs.Sourcecfg.{Claim-137}
-use Rattle.claims_wired.specs.Accesses.{Claim-138, Claim-140}
-use Rattle.claims_wired.specs.Wires.{Claim-141}
+use Rattle.claims_registers.specs.Sourcecfg.{Claim-137}
+use Rattle.claims_registers.specs.Accesses.{Claim-138, Claim-140}
+use Rattle.claims_registers.specs.Wires.{Claim-141}
 use Rattle.claims_wired.specs.Effects.{Claim-143, Claim-144}
-use Rattle.claims_wired.specs.Fields.{Claim-146}
+use Rattle.claims_domain.specs.Fields.{Claim-146}
 use Rattle.claims_wired.specs.Kept.{Claim-155}
 use Rattle.claims_board.specs.OneSource.{Claim-96, Claim-97, Claim-98, Claim-99}
 use Rattle.claims_board.specs.Numbers.{Claim-115, Claim-116, Claim-117}

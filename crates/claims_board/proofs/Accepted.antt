@@ -36,8 +36,8 @@ use Rattle.board_runs.specs.Ready.{boardIn}
 use Rattle.board_runs.proofs.RunsEffects.{ready-refusal, accepted-named, after-board, ready-after}
 use Rattle.board_call_laws.specs.Fit.{Kept}
 use Rattle.board_call_laws.proofs.KeepsEffects.{kept-step}
-use Rattle.claims_wired.specs.Registers.{Claim-132}
-use Rattle.claims_wired.proofs.Registers.{claim-132}
+use Rattle.claims_registers.specs.Registers.{Claim-132}
+use Rattle.claims_registers.proofs.Registers.{claim-132}
 use Rattle.claims_board.specs.Accepted.{AccessedBy, WireRead}
 use Rattle.claims_board.specs.Accepted.{Claim-171, Claim-172, Claim-173, Claim-174}
 

@@ -17,8 +17,8 @@ use Rattle.files.specs.Files.{theFile, isGuest, filesSound}
 use Rattle.files_laws.proofs.Keeps.{filesSound-1, filesSound-2}
 use Rattle.wired_rules.specs.Rules.{wiredSound}
 use Rattle.board_block.specs.Block.{boardOf, boardSound}
-use Rattle.claims_wired.specs.Rules.{Claim-72, Claim-73}
-use Rattle.claims_wired.proofs.Rules.{claim-72, claim-73}
+use Rattle.claims_registers.specs.Rules.{Claim-72, Claim-73}
+use Rattle.claims_registers.proofs.Rules.{claim-72, claim-73}
 use Rattle.claims_board.specs.BoardRules.{FileKept, Claim-118}
 
 -- ---- one file

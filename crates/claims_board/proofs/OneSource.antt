@@ -25,7 +25,7 @@ use Rattle.board_block.specs.Block.{Board}
 use Rattle.board_call.specs.declared.Call.the-variants.{Wire}
 use Rattle.board_call.specs.Outcome.{Stepped, step}
 use Rattle.board_call_laws.proofs.StepEffects.{step-wire, wire-sends, wire-reaches-none, wire-reaches-one}
-use Rattle.claims_wired.specs.Rules.{Sound}
+use Rattle.claims_registers.specs.Rules.{Sound}
 use Rattle.claims_wired.proofs.Controller.{steady, quiet}
 use Rattle.claims_board.specs.OneSource.{SentNone, SentOne, Claim-96, Claim-97, Claim-98, Claim-99}
 

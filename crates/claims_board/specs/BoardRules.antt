@@ -14,7 +14,7 @@ use Rattle.words.specs.Sets.{member}
 use Rattle.file.specs.declared.File.{File}
 use Rattle.files.specs.Files.{theFile}
 use Rattle.board_block.specs.Block.{Board, boardOf, boardSound}
-use Rattle.claims_wired.specs.Rules.{Long, WiredRules}
+use Rattle.claims_registers.specs.Rules.{Long, WiredRules}
 
 pub record FileKept (f : ℕ) (x : File) : Type 0 where
   -- off, on, and in the machine and the supervisor file also from the wired controller

@@ -24,7 +24,7 @@ use Rattle.files.specs.Files.{reached}
 use Rattle.board_block.specs.Block.{Board}
 use Rattle.board_call.specs.declared.Call.the-variants.{Wire}
 use Rattle.board_call.specs.Outcome.{Stepped, step}
-use Rattle.claims_wired.specs.Rules.{Sound}
+use Rattle.claims_registers.specs.Rules.{Sound}
 
 -- a wire is set, and wire i stays at its level: source i stays as it was, and in a domain that sends it is
 -- not to be sent. So a level source that was sent is not sent again by itself while its wire stays high

@@ -25,7 +25,7 @@ use Rattle.transfer_laws.specs.Shift.{Stations, Event, accessOf, withMove, with
 use Rattle.transfer_laws.specs.Premises.{TwoGuests, ByMessages, NoneNamesNew, accessesIn}
 use Rattle.transfer_laws.specs.Premises.{AllAccesses, PagesKept}
 use Rattle.transfer_laws.specs.Moved.{AccessesDone}
-use Rattle.claims_wired.proofs.Registers.{active-iff}
+use Rattle.claims_registers.proofs.Registers.{active-iff}
 use Rattle.claims_move.specs.Premises.{Claim-175, Claim-178}
 use Rattle.claims_move.proofs.MoveCall.{guest-joined}
 

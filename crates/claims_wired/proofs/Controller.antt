@@ -19,7 +19,7 @@ use Rattle.wired.proofs.ControllerLaws.{generated-else}
 use Rattle.wired.proofs.CallLaws.{one-wireSet, one-writtenIn, read-silent, genmsi-silent}
 use Rattle.wired_laws.proofs.OutEffects.{wire-count, wire-exists, write-count, write-exists}
 use Rattle.wired_laws.proofs.OutEffects.{wire-sound, read-sound, write-sound}
-use Rattle.claims_wired.specs.Rules.{Sound}
+use Rattle.claims_registers.specs.Rules.{Sound}
 use Rattle.claims_wired.specs.Controller.{Sends, OneAtMost, Claim-76, Claim-77, Claim-78, Claim-79}
 
 pub claim-76 : Claim-76

@@ -11,8 +11,8 @@ use Rattle.source.specs.Pending.{settled, wireChanged, pended, cleared, changed
 use Rattle.domain_registers.specs.Write.{registerWritten}
 use Rattle.wired_state.specs.Wires.{domainIn, withDomain}
 use Rattle.wired_registers.proofs.WiredLaws.{written-part}
-use Rattle.claims_wired.specs.Causes.{Cause, happens}
-use Rattle.claims_wired.specs.Causes.Cause.{wire, setip, clrip, claim, sent}
+use Rattle.claims_domain.specs.Causes.{Cause, happens}
+use Rattle.claims_domain.specs.Causes.Cause.{wire, setip, clrip, claim, sent}
 use Rattle.claims_wired.specs.Effects.{Claim-143, Claim-144}
 
 -- ---- which change a write makes

@@ -44,7 +44,7 @@ use Rattle.domain_registers.specs.Read.{claimedAs, claimedBy}
 use Rattle.wired_state.specs.Wires.{Wired, domainIn, withDomain, isDelegated, sourceWired, wireSet}
 use Rattle.wired_sourcecfg.specs.Delegation.{sourceModed, childWritten, rootWritten, sourceWritten}
 use Rattle.wired_registers.specs.Wired.{claimedIn, partWritten, writtenAs, writtenIn}
-use Rattle.claims_wired.specs.Rules.{Long}
+use Rattle.claims_registers.specs.Rules.{Long}
 use Rattle.claims_wired.specs.Kept.{Touch, none, sources, harts, whileDirect, writes, claims, reads}
 use Rattle.claims_wired.specs.Kept.{writesIn, readsIn, Spares, Claim-155}
 use Rattle.claims_wired.proofs.Kept.{out, keep, pendingOf, enabledOf, targetOf, modeOf, kept-same}

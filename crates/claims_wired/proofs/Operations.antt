@@ -31,9 +31,9 @@ use Rattle.domain_sending_laws.proofs.SendingEffects.{sent-source, spent-hit}
 use Rattle.wired_state.specs.Wires.{wireSet, sourceWired}
 use Rattle.wired_sourcecfg.specs.Delegation.{sourceModed, childWritten, rootWritten}
 use Rattle.wired_sourcecfg.specs.Delegation.{sourceWritten}
-use Rattle.claims_wired.specs.Causes.{happens}
+use Rattle.claims_domain.specs.Causes.{happens}
 use Rattle.claims_wired.specs.Operations.{Claim-59}
-use Rattle.claims_wired.proofs.Writes.{word-written}
+use Rattle.claims_registers.proofs.Writes.{word-written}
 
 module _ (d : Domain) (wires : List ℕ) (family : Change) (shaped : DomainShaped d) (i : ℕ) (l : 1 ≤ i)
     (h : i < 64) where

@@ -24,7 +24,7 @@ use Rattle.wired.specs.Controller.{Out, wireCall, readCall, writeCall, Leaves}
 use Rattle.wired.proofs.set_wire.Reads as set-wire
 use Rattle.wired.proofs.read.Reads as read
 use Rattle.wired.proofs.write.Reads as write
-use Rattle.claims_wired.specs.Rules.{Sound}
+use Rattle.claims_registers.specs.Rules.{Sound}
 
 -- what each function of the wired controller answers, and leaves of its words and of the log
 unfoldable pub Claim-76 : Type 0

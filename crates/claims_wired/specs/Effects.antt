@@ -23,8 +23,8 @@ use Rattle.domain_config.specs.Config.{configWritten}
 use Rattle.domain_registers.specs.Write.{registerWritten}
 use Rattle.wired_state.specs.Wires.{Wired}
 use Rattle.wired_registers.specs.Wired.{writtenIn}
-use Rattle.claims_wired.specs.Causes.{Cause, happens}
-use Rattle.claims_wired.specs.Causes.Cause.{setip, clrip}
+use Rattle.claims_domain.specs.Causes.{Cause, happens}
+use Rattle.claims_domain.specs.Causes.Cause.{setip, clrip}
 
 abbrev pub swapped : ℕ → ℕ
 swapped v = v % 256 * 2 ^ 24 + v / 2 ^ 8 % 256 * 2 ^ 16 + v / 2 ^ 16 % 256 * 2 ^ 8 + v / 2 ^ 24 % 256

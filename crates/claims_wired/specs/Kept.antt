@@ -36,7 +36,7 @@ use Rattle.domain.specs.Structure.{structureAt}
 use Rattle.domain_direct.specs.Direct.{topSource}
 use Rattle.wired_state.specs.Wires.{Wired, domainIn, wireSet}
 use Rattle.wired_registers.specs.Wired.{claimedIn, writtenIn}
-use Rattle.claims_wired.specs.Rules.{Long}
+use Rattle.claims_registers.specs.Rules.{Long}
 
 pub record Touch : Type 0 where
   pub pending : ℕ → Bool

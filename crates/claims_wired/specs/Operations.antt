@@ -26,9 +26,9 @@ use Rattle.domain_sending.specs.Sending.{candidate}
 use Rattle.domain_sending.specs.Sending as sending
 use Rattle.wired_state.specs.Wires.{Wired, wireSet, isDelegated}
 use Rattle.wired_registers.specs.Wired.{writtenIn}
-use Rattle.claims_wired.specs.Causes.{Cause, happens}
-use Rattle.claims_wired.specs.Causes.Cause.{wire, setip, clrip, claim, sent}
-use Rattle.claims_wired.specs.Rules.{Long}
+use Rattle.claims_domain.specs.Causes.{Cause, happens}
+use Rattle.claims_domain.specs.Causes.Cause.{wire, setip, clrip, claim, sent}
+use Rattle.claims_registers.specs.Rules.{Long}
 
 abbrev pub Does : Domain → Domain → ℕ → Cause → Type 0
 Does d d′ i k = sourceAt d′ i ≡ happens (sourceAt d i) (byMessages d) k

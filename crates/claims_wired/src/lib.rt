@@ -1,1 +1,1 @@
-// No code: the claims on the wired controller, numbered, written out and proved from the crates below.
+// No code: the claims on the wired controller's calls and on what they leave, written out in full and proved.

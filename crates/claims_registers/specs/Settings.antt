@@ -25,7 +25,7 @@ use Rattle.domain_registers.specs.Read.{registerValue}
 use Rattle.domain_registers.specs.Write.{registerWritten}
 use Rattle.wired_state.specs.Wires.{Wired}
 use Rattle.wired_registers.specs.Wired.{readIn}
-use Rattle.claims_wired.specs.Rules.{Sound}
+use Rattle.claims_registers.specs.Rules.{Sound}
 
 pub record NumbersAre (d d′ : Domain) (wires : List ℕ) (h a b t : ℕ) : Type 0 where
   pub idelivery : (structureAt d′ h .idelivery ≡ a) × (registerValue d′ wires (Idelivery h) ≡ a)

@@ -24,7 +24,7 @@ use Rattle.source_rules.specs.SourceRules.{levelRule, sourceSteady, sentRule}
 use Rattle.source_laws.proofs.ModeEffects.{range-cases, range-delegated}
 use Rattle.source_laws.proofs.SteadyParts.{steady-mode, steady-target, steady-inactive, steady-level}
 use Rattle.source_laws.proofs.SteadyParts.{steady-active, steady-zeros}
-use Rattle.claims_wired.specs.Rules.{ModeStored, TargetStored, SourceRules}
+use Rattle.claims_registers.specs.Rules.{ModeStored, TargetStored, SourceRules}
 
 -- ---- the ranges
 

@@ -16,7 +16,7 @@ use Rattle.domain.specs.Slot.{sourceAt}
 use Rattle.domain_sending.specs.Sending.{candidate}
 use Rattle.files_laws.specs.Messages.{anyOf}
 use Rattle.domain_sending_laws.specs.Candidates.{numbersFrom, thoseWith, candidates}
-use Rattle.claims_wired.specs.Sending.{Claim-147}
+use Rattle.claims_domain.specs.Sending.{Claim-147}
 
 module _ (p : ℕ → Bool) where
   abbrev those : ℕ → ℕ → List ℕ

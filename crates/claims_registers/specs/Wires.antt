@@ -9,8 +9,8 @@ use mathlib.Core.Bool.{Bool}
 use mathlib.Core.Logic.{_≢_}
 use Rattle.words.specs.Sets.{member}
 use Rattle.wired_state.specs.Wires.{Wired, wireSet}
-use Rattle.claims_wired.specs.Rules.{Long}
-use Rattle.claims_wired.specs.Sourcecfg.{SourceAlone}
+use Rattle.claims_registers.specs.Rules.{Long}
+use Rattle.claims_registers.specs.Sourcecfg.{SourceAlone}
 
 -- a wire that is set has its level, and no other wire and no source but its own changes
 unfoldable pub Claim-141 : Type 0

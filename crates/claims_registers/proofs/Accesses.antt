@@ -45,15 +45,15 @@ use Rattle.domain_registers.proofs.ReadLaws.{claimed-by, claimed-none}
 use Rattle.wired_state.specs.Wires.{Wired, domainIn, withDomain}
 use Rattle.wired_registers.specs.Wired.{readIn, partWritten, writtenAs, writtenIn}
 use Rattle.wired_laws.proofs.ReadEffects.{claimedIn-none}
-use Rattle.claims_wired.specs.Rules.{Long, Sound}
-use Rattle.claims_wired.specs.Registers.{Bit, Claim-132}
-use Rattle.claims_wired.specs.Settings.{Claim-135, Claim-136}
-use Rattle.claims_wired.specs.Sourcecfg.{ModeOf, Claim-137}
-use Rattle.claims_wired.specs.Accesses.{readBack, setsPending, Claim-138}
-use Rattle.claims_wired.specs.Accesses.{Claim-140}
-use Rattle.claims_wired.proofs.Registers.{rules-in, claim-132}
-use Rattle.claims_wired.proofs.Settings.{claim-135, claim-136}
-use Rattle.claims_wired.proofs.Sourcecfg.{claim-137}
+use Rattle.claims_registers.specs.Rules.{Long, Sound}
+use Rattle.claims_registers.specs.Registers.{Bit, Claim-132}
+use Rattle.claims_registers.specs.Settings.{Claim-135, Claim-136}
+use Rattle.claims_registers.specs.Sourcecfg.{ModeOf, Claim-137}
+use Rattle.claims_registers.specs.Accesses.{readBack, setsPending, Claim-138}
+use Rattle.claims_registers.specs.Accesses.{Claim-140}
+use Rattle.claims_registers.proofs.Registers.{rules-in, claim-132}
+use Rattle.claims_registers.proofs.Settings.{claim-135, claim-136}
+use Rattle.claims_registers.proofs.Sourcecfg.{claim-137}
 
 -- ---- one of the two domains
 

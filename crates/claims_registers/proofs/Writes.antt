@@ -41,9 +41,9 @@ use Rattle.wired_registers.specs.Wired.{writtenIn}
 use Rattle.wired_registers.proofs.WiredLaws.{written-source}
 use Rattle.wired_rules_laws.proofs.SoundParts.{wired-sound-steady}
 use Rattle.wired_rules_laws.proofs.WiredSameEffects.{wireSet-same, delegated-again}
-use Rattle.claims_wired.specs.Rules.{TargetStored}
-use Rattle.claims_wired.specs.Writes.{Restarted, TargetKept, Claim-55, Claim-56, Claim-57, Claim-58}
-use Rattle.claims_wired.proofs.SourceRules.{config-is, target-iff}
+use Rattle.claims_registers.specs.Rules.{TargetStored}
+use Rattle.claims_registers.specs.Writes.{Restarted, TargetKept, Claim-55, Claim-56, Claim-57, Claim-58}
+use Rattle.claims_registers.proofs.SourceRules.{config-is, target-iff}
 
 pub claim-55 : Claim-55
 unfolding Claim-55 named

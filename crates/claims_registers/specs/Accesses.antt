@@ -26,9 +26,9 @@ use Rattle.domain_direct.specs.Direct.{hartClaimed}
 use Rattle.domain_registers.specs.Read.{claimedBy}
 use Rattle.wired_state.specs.Wires.{Wired, domainIn}
 use Rattle.wired_registers.specs.Wired.{readIn, claimedIn, writtenIn}
-use Rattle.claims_wired.specs.Rules.{Sound}
-use Rattle.claims_wired.specs.Registers.{Bit}
-use Rattle.claims_wired.specs.Sourcecfg.{ModeOf}
+use Rattle.claims_registers.specs.Rules.{Sound}
+use Rattle.claims_registers.specs.Registers.{Bit}
+use Rattle.claims_registers.specs.Sourcecfg.{ModeOf}
 
 -- ---- write, then read
 

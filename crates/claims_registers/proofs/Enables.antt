@@ -20,8 +20,8 @@ use Rattle.domain_writes.specs.Writes.{numberChanged}
 use Rattle.domain_writes_laws.specs.Named.{named}
 use Rattle.domain_writes_laws.proofs.WritesEffects.{touched-wordChanged, touched-numberChanged}
 use Rattle.domain_registers.specs.Write.{registerWritten}
-use Rattle.claims_wired.specs.Enables.{EnablesWritten, NamedIn, Claim-134}
-use Rattle.claims_wired.proofs.Registers.{bit-one}
+use Rattle.claims_registers.specs.Enables.{EnablesWritten, NamedIn, Claim-134}
+use Rattle.claims_registers.proofs.Registers.{bit-one}
 
 module _ (s : Source) (on : Bool) where
   switched-on : isActive (s .mode) ≡ true → switched s on .enabled ≡ on

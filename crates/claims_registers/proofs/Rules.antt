@@ -31,9 +31,10 @@ use Rattle.wired_rules_laws.proofs.WiredEffects.{steady-claimedIn}
 use Rattle.wired_rules_laws.proofs.WiredEffects.{steady-passed, sound-passed}
 use Rattle.wired_rules_laws.proofs.DelegationEffects.{steady-writtenIn}
 use Rattle.wired_rules_laws.proofs.WiredSameEffects.{delegated-word}
-use Rattle.claims_wired.specs.Rules.{Long, Sound, DomainRules}
-use Rattle.claims_wired.specs.Rules.{WiredRules, Claim-72, Claim-73, Claim-74, Claim-75}
-use Rattle.claims_wired.proofs.SourceRules.{config-is, generated-is, source-on, source-of, source-sent}
+use Rattle.claims_registers.specs.Rules.{Long, Sound, DomainRules}
+use Rattle.claims_registers.specs.Rules.{WiredRules, Claim-72, Claim-73, Claim-74, Claim-75}
+use Rattle.claims_registers.proofs.SourceRules.{config-is, generated-is, source-on, source-of}
+use Rattle.claims_registers.proofs.SourceRules.{source-sent}
 
 pub claim-72 : Claim-72
 unfolding Claim-72 wiredOf

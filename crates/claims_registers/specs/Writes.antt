@@ -31,7 +31,7 @@ use Rattle.domain_writes.specs.Writes.{wordChanged, numberChanged, targetWritte
 use Rattle.domain_config.specs.Config.{configWritten}
 use Rattle.wired_state.specs.Wires.{Wired, wireSet, isDelegated}
 use Rattle.wired_registers.specs.Wired.{writtenIn}
-use Rattle.claims_wired.specs.Rules.{Sound, TargetStored}
+use Rattle.claims_registers.specs.Rules.{Sound, TargetStored}
 
 -- a write of v to word k of a family changes the sources whose bits are set, and a number that source alone;
 -- `changed` leaves a source that is not active (Claim-144, and for enable bits Claim-134)

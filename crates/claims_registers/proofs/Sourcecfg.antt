@@ -26,13 +26,13 @@ use Rattle.wired_state.proofs.WiresLaws.{delegated-mode}
 use Rattle.wired_sourcecfg.specs.Delegation.{sourceModed, childWritten, rootWritten, sourceWritten}
 use Rattle.wired_sourcecfg.proofs.DelegationLaws.{root-stays, root-moves}
 use Rattle.wired_rules.specs.Rules.{wiredSound}
-use Rattle.claims_wired.specs.Rules.{Long}
-use Rattle.claims_wired.specs.Modes.{Claim-94}
-use Rattle.claims_wired.specs.Sourcecfg.{ModeOf, SourceAlone, WrittenInMachine, WrittenInChild}
-use Rattle.claims_wired.specs.Sourcecfg.{Claim-137}
-use Rattle.claims_wired.proofs.Modes.{claim-94}
-use Rattle.claims_wired.proofs.Registers.{bit-one, rules-in}
-use Rattle.claims_wired.proofs.Writes.{word-written}
+use Rattle.claims_registers.specs.Rules.{Long}
+use Rattle.claims_registers.specs.Modes.{Claim-94}
+use Rattle.claims_registers.specs.Sourcecfg.{ModeOf, SourceAlone, WrittenInMachine, WrittenInChild}
+use Rattle.claims_registers.specs.Sourcecfg.{Claim-137}
+use Rattle.claims_registers.proofs.Modes.{claim-94}
+use Rattle.claims_registers.proofs.Registers.{bit-one, rules-in}
+use Rattle.claims_registers.proofs.Writes.{word-written}
 
 -- ---- the number
 

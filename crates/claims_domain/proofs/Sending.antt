@@ -8,7 +8,7 @@ use Rattle.domain_genmsi.proofs.GenmsiLaws.{generated-on, generated-off}
 use Rattle.domain_sending_laws.proofs.SendingEffects.{sent-count, sent-rest, sent-quiet, sent-pending}
 use Rattle.domain_sending_laws.proofs.SendingEffects.{sent-messages}
 use Rattle.domain_sending_laws.proofs.MessageEffects.{sent-named}
-use Rattle.claims_wired.specs.Sending.{Claim-50, Claim-51, Claim-52, Claim-53, Claim-54}
+use Rattle.claims_domain.specs.Sending.{Claim-50, Claim-51, Claim-52, Claim-53, Claim-54}
 
 pub claim-50 : Claim-50
 unfolding Claim-50

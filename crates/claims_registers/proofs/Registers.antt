@@ -23,9 +23,9 @@ use Rattle.domain_inputs.specs.Inputs.{inputBit, inputsTo, inputWord}
 use Rattle.domain_registers.specs.Read.{registerValue}
 use Rattle.domain_direct_laws.proofs.TopEffects.{topi-zero-iff, topi-messages}
 use Rattle.wired_state.specs.Wires.{Wired, domainIn}
-use Rattle.claims_wired.specs.Rules.{Sound, DomainRules, Claim-73}
-use Rattle.claims_wired.specs.Registers.{Bit, Claim-132, Claim-133, Claim-139, Claim-145}
-use Rattle.claims_wired.proofs.Rules.{claim-73}
+use Rattle.claims_registers.specs.Rules.{Sound, DomainRules, Claim-73}
+use Rattle.claims_registers.specs.Registers.{Bit, Claim-132, Claim-133, Claim-139, Claim-145}
+use Rattle.claims_registers.proofs.Rules.{claim-73}
 
 -- ---- one bit
 

@@ -20,7 +20,7 @@ use Rattle.wired_state.specs.Wires.{Wired, isDelegated}
 use Rattle.wired_sourcecfg.proofs.DelegationLaws.{root-stays, root-moves}
 use Rattle.wired_registers.specs.Wired.{writtenIn, writtenAs}
 use Rattle.wired_sourcecfg.specs.Delegation.{sourceWritten}
-use Rattle.claims_wired.specs.Modes.{Claim-94, Claim-95}
+use Rattle.claims_registers.specs.Modes.{Claim-94, Claim-95}
 
 -- ---- the source
 

@@ -25,7 +25,7 @@ use Rattle.domain_region.proofs.RegionLaws.{target-at, word-within}
 use Rattle.domain_region.proofs.RegionLaws.{idelivery-at, iforce-at, ithreshold-at, topi-at, claimi-at}
 use Rattle.domain_registers.specs.Read.{registerValue}
 use Rattle.domain_registers.specs.Write.{registerWritten}
-use Rattle.claims_wired.specs.Region.{addressOf, Numbered, Unnamed, Claim-130, Claim-131}
+use Rattle.claims_domain.specs.Region.{addressOf, Numbered, Unnamed, Claim-130, Claim-131}
 
 -- ---- each register is at its address
 

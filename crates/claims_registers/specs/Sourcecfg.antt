@@ -18,7 +18,7 @@ use Rattle.domain.specs.Structure.{structureAt}
 use Rattle.wired_state.specs.Wires.{Wired}
 use Rattle.wired_registers.specs.Wired.{writtenIn}
 use Rattle.wired_rules.specs.Rules.{wiredSound}
-use Rattle.claims_wired.specs.Rules.{Long}
+use Rattle.claims_registers.specs.Rules.{Long}
 
 abbrev pub ModeOf : ℕ → ℕ → Type 0
 ModeOf v m = ((v % 8 ≡ 2) ⊎ (v % 8 ≡ 3) → m ≡ 0) × (v % 8 ≢ 2 → v % 8 ≢ 3 → m ≡ v % 8)

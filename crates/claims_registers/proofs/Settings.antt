@@ -32,9 +32,9 @@ use Rattle.domain_direct_laws.proofs.ClaimEffects.{claim-zero}
 use Rattle.domain_registers.specs.Read.{registerValue}
 use Rattle.domain_registers.specs.Write.{registerWritten}
 use Rattle.wired_state.specs.Wires.{domainIn}
-use Rattle.claims_wired.specs.Settings.{NumbersAre, Claim-135, Claim-136, Claim-142}
-use Rattle.claims_wired.proofs.SourceRules.{generated-is}
-use Rattle.claims_wired.proofs.Registers.{rules-in}
+use Rattle.claims_registers.specs.Settings.{NumbersAre, Claim-135, Claim-136, Claim-142}
+use Rattle.claims_registers.proofs.SourceRules.{generated-is}
+use Rattle.claims_registers.proofs.Registers.{rules-in}
 
 -- ---- the settable numbers
 

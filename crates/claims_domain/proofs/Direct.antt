@@ -19,8 +19,8 @@ use Rattle.domain_direct.specs.Direct.{standing, eligible, topSource, hartClaim
 use Rattle.domain_direct_laws.proofs.TopEffects.{topi-least, topi-is, topi-zero, topi-zero-iff, topi-messages}
 use Rattle.domain_direct_laws.proofs.ClaimEffects.{claim-zero, claim-other, claim-level, claim-other-mode}
 use Rattle.domain_direct_laws.proofs.ClaimEffects.{signal-iff}
-use Rattle.claims_wired.specs.Direct.{Claim-43, Claim-44, Claim-45, Claim-46, Claim-47, Claim-48}
-use Rattle.claims_wired.specs.Direct.{Claim-49}
+use Rattle.claims_domain.specs.Direct.{Claim-43, Claim-44, Claim-45, Claim-46, Claim-47, Claim-48}
+use Rattle.claims_domain.specs.Direct.{Claim-49}
 
 pub claim-43 : Claim-43
 unfolding Claim-43

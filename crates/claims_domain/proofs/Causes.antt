@@ -4,9 +4,9 @@ use mathlib.Core.Path.{refl}
 use Rattle.source_mode.specs.Mode.{isActive, isLevel, isRectified}
 use Rattle.words.proofs.TestsLaws.{tested}
 use Rattle.source.specs.Pending.{settled, wireChanged, pended, cleared}
-use Rattle.claims_wired.specs.Causes.{happens, bitAfter, table, every, sourceOf, rowHolds, Claim-40}
-use Rattle.claims_wired.specs.Causes.{sameCause, count, rowsOf, Claim-41, Claim-42}
-use Rattle.claims_wired.specs.Causes.Cause.{wire, setip, clrip, claim, sent}
+use Rattle.claims_domain.specs.Causes.{happens, bitAfter, table, every, sourceOf, rowHolds, Claim-40}
+use Rattle.claims_domain.specs.Causes.{sameCause, count, rowsOf, Claim-41, Claim-42}
+use Rattle.claims_domain.specs.Causes.Cause.{wire, setip, clrip, claim, sent}
 
 pub claim-40 : Claim-40
 unfolding Claim-40 every rowHolds table happens bitAfter sourceOf wireChanged pended cleared settled

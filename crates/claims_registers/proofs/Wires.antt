@@ -4,8 +4,8 @@ use native.Mathlib.Omega.{arith}
 use lib.ListN.{length}
 use Rattle.words.proofs.SetsLaws.{member-put-same, member-put-other}
 use Rattle.wired_state.specs.Wires.{wireSet, sourceWired}
-use Rattle.claims_wired.specs.Wires.{Claim-141}
-use Rattle.claims_wired.proofs.Sourcecfg.{alone-put}
+use Rattle.claims_registers.specs.Wires.{Claim-141}
+use Rattle.claims_registers.proofs.Sourcecfg.{alone-put}
 
 pub claim-141 : Claim-141
 unfolding Claim-141 wireSet sourceWired

@@ -7,7 +7,7 @@ use Rattle.file_message.specs.Message.{logWord}
 use Rattle.file_message.proofs.MessageLaws.{hartIn-logWord, fileIn-logWord, identityIn-logWord}
 use Rattle.files.specs.Files.{namedBy, fileNumber}
 use Rattle.source_target.specs.Target.{hartOf, guestOf, numberOf, startTarget, messageOf}
-use Rattle.claims_wired.specs.Fields.{Claim-146}
+use Rattle.claims_domain.specs.Fields.{Claim-146}
 
 -- a word that is put together names the file that it was made for
 module _ (h f i : ℕ) (a : h < 4) (b : f < 8) (c : i < 256) where

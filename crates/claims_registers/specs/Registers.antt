@@ -19,7 +19,7 @@ use Rattle.domain_direct.specs.Direct.{eligible, topiOf}
 use Rattle.domain_registers.specs.Read.{registerValue}
 use Rattle.wired_state.specs.Wires.{Wired, domainIn}
 use Rattle.wired_registers.specs.Wired.{readIn}
-use Rattle.claims_wired.specs.Rules.{Sound}
+use Rattle.claims_registers.specs.Rules.{Sound}
 
 abbrev pub Bit : ℕ → ℕ → Bool → Type 0
 Bit v n b = v / 2 ^ n % 2 ≡ cond b 1 0
