@@ -1,7 +1,7 @@
 # make proves and builds what there is and runs the tests and examples in C; make test is the whole gate; see
 # make help.
 .DEFAULT_GOAL := all
-.PHONY: all test check compare ctest archives boards audit cases mutants bench example tools fmt style numbers
+.PHONY: all test near check compare ctest archives boards audit cases mutants bench example tools fmt style numbers
 .PHONY: layers pages clean help toolchain
 
 # rt check runs each program once it is proved, and compares what it wrote
@@ -18,6 +18,10 @@ test: toolchain
 	@scripts/boards
 	@scripts/audit
 	@rt ci
+
+# for the work between two gates: make near BASE=COMMIT
+near: toolchain
+	@scripts/near $(BASE)
 
 check: toolchain
 	@rt check
@@ -87,6 +91,7 @@ help:
 	@echo "make          prove every crate, build and run the programs, the tests in C and the examples in C"
 	@echo "make test     the whole gate: style, layout, the second program, the tests in C, the archives of the"
 	@echo "              boards, then rt ci, from nothing; its last line is the verdict"
+	@echo "make near BASE=COMMIT  the gate but for the edits of crates that have not changed since the commit; no verdict"
 	@echo "make check    prove what changed since it was last proved, and run the programs"
 	@echo "make compare  compare the proved archive, compiled for this machine, with the second program"
 	@echo "make archives write target/archives: the proved archive for x86-64, aarch64 and RISC-V (lp64d, lp64)"
