@@ -10,67 +10,13 @@ struct VskAnswer {
     refusal: u32,
 }
 
-type Words = *mut u32;
-
-unsafe extern "C" {
-    fn vsk_reset(s: Words, sl: usize, l: Words, ll: usize) -> VskAnswer;
-    fn vsk_wire(s: Words, sl: usize, l: Words, ll: usize, wire: u64, level: u64) -> VskAnswer;
-    fn vsk_domain_read(s: Words, sl: usize, l: Words, ll: usize, domain: u64, address: u64) -> VskAnswer;
-    fn vsk_domain_write(
-        s: Words,
-        sl: usize,
-        l: Words,
-        ll: usize,
-        domain: u64,
-        address: u64,
-        v: u32,
-    ) -> VskAnswer;
-    fn vsk_page_read(
-        s: Words,
-        sl: usize,
-        l: Words,
-        ll: usize,
-        hart: u64,
-        file: u64,
-        address: u64,
-    ) -> VskAnswer;
-    fn vsk_page_write(
-        s: Words,
-        sl: usize,
-        l: Words,
-        ll: usize,
-        hart: u64,
-        file: u64,
-        address: u64,
-        v: u32,
-    ) -> VskAnswer;
-    fn vsk_register(
-        s: Words,
-        sl: usize,
-        l: Words,
-        ll: usize,
-        hart: u64,
-        file: u64,
-        kind: u64,
-        select: u64,
-        v: u64,
-    ) -> VskAnswer;
-    fn vsk_top(s: Words, sl: usize, l: Words, ll: usize, hart: u64, file: u64) -> VskAnswer;
-    fn vsk_claim(s: Words, sl: usize, l: Words, ll: usize, hart: u64, file: u64) -> VskAnswer;
-    fn vsk_signals(s: Words, sl: usize, l: Words, ll: usize, hart: u64) -> VskAnswer;
-    fn vsk_move(
-        s: Words,
-        sl: usize,
-        l: Words,
-        ll: usize,
-        old_hart: u64,
-        old_file: u64,
-        new_hart: u64,
-        new_file: u64,
-        access: u64,
-        saved: *mut u64,
-    ) -> VskAnswer;
+/// The header's prototypes, which second/build writes. One that is not called here is an error.
+#[deny(dead_code)]
+mod declared {
+    use super::VskAnswer;
+    include!(env!("DECLARED"));
 }
+use declared::*;
 
 /// Makes a call of the library. The lengths lent are never more than the buffers have, which do not overlap.
 pub fn call(call: &Call, lent: &mut Lent) -> Answer {

@@ -7,7 +7,7 @@ use crate::calls::{Call, Item};
 use crate::compare::Difference;
 use crate::domain::Domain;
 use crate::draw;
-use crate::movement::Place;
+use crate::movement::{Place, Saved};
 use crate::random::Random;
 use crate::sound;
 use crate::source::{Source, Target, Way};
@@ -160,7 +160,7 @@ fn compared_run(items: &[Item], journey: &Journey) -> Option<Board> {
             }
         }
         if !matches!(call, Call::Move { .. }) && board.refusal(&call).is_none() {
-            board.perform(&call, &mut [0; 10]);
+            board.perform(&call, &mut Saved::default());
         }
     }
     Some(board)

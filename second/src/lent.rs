@@ -4,11 +4,12 @@ use crate::block::{self, LOG_WORDS, STATE_WORDS};
 use crate::board::Board;
 use crate::calls::{Call, Item};
 use crate::face;
+use crate::movement::Saved;
 use crate::rules::Rule;
 
 /// The buffers are longer than the blocks, so that wrong lengths can be lent too.
-pub const STATE_BUFFER: usize = 660;
-pub const LOG_BUFFER: usize = 70;
+pub const STATE_BUFFER: usize = STATE_WORDS + 10;
+pub const LOG_BUFFER: usize = LOG_WORDS + 7;
 
 #[derive(Clone, Copy, PartialEq, Eq, Debug)]
 pub struct Answer {
@@ -21,7 +22,7 @@ pub struct Answer {
 pub struct Lent {
     pub state: Vec<u32>,
     pub log: Vec<u32>,
-    pub saved: [u64; 10],
+    pub saved: Saved,
     pub state_len: usize,
     pub log_len: usize,
 }
@@ -31,7 +32,7 @@ impl Lent {
         Lent {
             state: vec![0; STATE_BUFFER],
             log: vec![0; LOG_BUFFER],
-            saved: [0; 10],
+            saved: Saved::default(),
             state_len: STATE_WORDS,
             log_len: LOG_WORDS,
         }
@@ -129,7 +130,7 @@ impl Model {
     }
 
     /// The block of the board as the call left it, and the record that a move gives back.
-    fn store(&mut self, saved: &[u64; 10]) {
+    fn store(&mut self, saved: &Saved) {
         self.lent.saved = *saved;
         if let Some(Ok(board)) = &self.board {
             block::encode(board, &mut self.lent.state[..STATE_WORDS]);

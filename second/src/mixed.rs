@@ -1,6 +1,6 @@
 //! Sequences of random calls, with broken blocks, odd blocks and wrong lengths among them.
 
-use crate::block::{ENABLE, GENMSI, MACHINE, PENDING, STATE_WORDS, STRUCTURES, SUPERVISOR, WIRES};
+use crate::block::{ENABLE, GENMSI, LOG_WORDS, MACHINE, PENDING, STATE_WORDS, STRUCTURES, SUPERVISOR, WIRES};
 use crate::calls::{Call, Item};
 use crate::draw;
 use crate::lent::{Lent, LOG_BUFFER, STATE_BUFFER};
@@ -62,8 +62,8 @@ fn wrong_length(random: &mut Random, right: usize, most: usize) -> usize {
 
 /// Calls with blocks of other lengths, the right ones put back after them.
 pub fn lengths(random: &mut Random, taste: &Taste, lent: &Lent) -> Vec<Item> {
-    let state = wrong_length(random, 650, STATE_BUFFER);
-    let log = wrong_length(random, 63, LOG_BUFFER);
+    let state = wrong_length(random, STATE_WORDS, STATE_BUFFER);
+    let log = wrong_length(random, LOG_WORDS, LOG_BUFFER);
     let (pokes, back) = if random.percent(25) { broken(random, taste, lent) } else { (vec![], vec![]) };
     let mut items = pokes;
     items.push(Item::Lengths { state, log });
@@ -71,7 +71,7 @@ pub fn lengths(random: &mut Random, taste: &Taste, lent: &Lent) -> Vec<Item> {
     if random.percent(20) {
         items.push(Item::Call(Call::Reset));
     }
-    items.push(Item::Lengths { state: 650, log: 63 });
+    items.push(Item::Lengths { state: STATE_WORDS, log: LOG_WORDS });
     items.extend(back);
     items
 }

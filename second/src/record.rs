@@ -132,7 +132,7 @@ impl Recorder {
             }
         }
         // Reset tests no rule.
-        self.items([Item::Poke { index: 360, value: 1 }, Item::Call(Call::Reset)]);
+        self.items([Item::Poke { index: block::WIRES, value: 1 }, Item::Call(Call::Reset)]);
     }
 
     /// All 63 sources of a domain send in one call.

@@ -1,6 +1,7 @@
 //! Calls that go through every register, every edge of the select numbers, and every refusal with what goes
 //! before it.
 
+use crate::block::{LOG_WORDS, STATE_WORDS};
 use crate::calls::{Call, Item};
 
 /// The named words of a domain's region but sourcecfg and target, and words beside them that are not named.
@@ -151,7 +152,15 @@ fn wrong() -> Vec<Item> {
 /// Every refusal, and what is given when several apply: the wrong calls with right blocks, a broken state, a
 /// wrong log, a wrong state, and all of these.
 pub fn refusals() -> Vec<Item> {
-    let wrong_lengths = [(650, 62), (650, 64), (649, 63), (651, 63), (0, 0), (649, 62)];
+    let (right, right_log) = (STATE_WORDS, LOG_WORDS);
+    let wrong_lengths = [
+        (right, right_log - 1),
+        (right, right_log + 1),
+        (right - 1, right_log),
+        (right + 1, right_log),
+        (0, 0),
+        (right - 1, right_log - 1),
+    ];
     let mut items = wrong();
     // The child in direct mode bars a move that is right otherwise.
     items.extend([write(1, 0, 0), Item::Call(from_guest_1(1, 2, 3)), write(1, 0, 4)]);
@@ -162,6 +171,6 @@ pub fn refusals() -> Vec<Item> {
         items.push(Item::Lengths { state, log });
         items.extend(wrong().into_iter().step_by(3));
     }
-    items.extend([Item::Lengths { state: 650, log: 63 }, Item::Poke { index: 1, value: 6 }]);
+    items.extend([Item::Lengths { state: right, log: right_log }, Item::Poke { index: 1, value: 6 }]);
     items
 }
