@@ -8,7 +8,7 @@ from functools import lru_cache
 from pathlib import Path
 
 HEAD = re.compile(r"(?:(?:unfoldable|abbrev) )?pub (?:record |data )?([A-Za-z][\w′'-]*)")
-STATED = re.compile(r'((?:^--.*\n)+)unfoldable pub ((?:Claim|Demand)-\d+) :', re.M)
+STATED = re.compile(r'((?:^--.*\n)+)unfoldable pub ((?:Claim|Demand|Request)-\d+) :', re.M)
 WORD = re.compile(r"[A-Za-z][\w′'-]*")
 
 

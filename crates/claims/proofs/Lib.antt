@@ -1,2 +1,3 @@
--- The proofs of the three demands, by citing the claims. Assumes nothing.
+-- The proofs of the three demands and of the requests, by citing the claims. Assumes nothing.
 pub mod Demands
+pub mod Requests

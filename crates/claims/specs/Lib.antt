@@ -1,2 +1,3 @@
--- The three demands, each a conjunction of claims. No axioms.
+-- The three demands and the requests, each a conjunction of claims. No axioms.
 pub mod Demands
+pub mod Requests

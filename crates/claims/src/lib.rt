@@ -1,1 +1,1 @@
-// No code: the three demands, each a conjunction of the claims that answer it.
+// No code: the three demands and the requests, each a conjunction of the claims that answer it.

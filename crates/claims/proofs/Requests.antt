@@ -1,0 +1,1 @@
+-- The proofs of the requests: each cites its claims. Assumes nothing.
