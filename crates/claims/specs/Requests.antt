@@ -1,4 +1,4 @@
--- The requests of paper 02: `Request-100` for M-100, and so on, each a conjunction of the claims that answer
--- it, as a demand is in Demands.antt. A claim is in a demand, in a request, or in both; one whose mark names
--- a sentence of a request is in that request. A request is stated here when it is answered: none is yet.
+-- The requests of paper 02, each a conjunction of the claims that answer it, as a demand is in Demands.antt:
+-- Request-N for M-N. A claim is in a demand, in a request, or in both; one whose mark names a sentence of a
+-- request is in that request. A request is stated here when it is answered: none is yet.
 -- Premises: none here; each claim has its own, which the header of its file names. No axioms.

@@ -1,5 +1,5 @@
 -- Claims 72 to 75: what the contract of the test says is the claim itself, the test is its plain statements,
--- and the operations keep the rules by the laws of rules_laws. Assumes nothing.
+-- and the operations keep the rules by the laws of wired_rules_laws. Assumes nothing.
 use Prim.Native.Nat.{ℕ, _≤_, _<_}
 use mathlib.Core.Path.{_≡_, sym, ap, _∙_}
 use mathlib.Core.Bool.{Bool, true, false, _&&_}
