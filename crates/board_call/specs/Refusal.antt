@@ -7,9 +7,8 @@
 --   isPageAddress a      a is a multiple of 4 in a page of 4,096 bytes
 --   testsRules c         the call tests the state rules: every one but reset
 --   present c b          every hart, file, domain, wire, wire level and kind of access that c names is
---                        there; and an access of a move is not barred, as each is while the child domain of
---                        the
---                        board b is in direct mode
+--                        there; and if c is an access of a move, the child domain of the board b is not in
+--                        direct mode, which bars it
 --   addressed c          its address is a multiple of 4 in its region or page
 --   selected c           its select number is legal
 --   Test                 a test: the number of its refusal, and whether it is passed

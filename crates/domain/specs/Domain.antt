@@ -8,7 +8,7 @@
 --   byMessages d           DM: true by messages, false direct
 --   sends d                the domain sends: IE and DM
 --   generatedAt d          the stored genmsi
--- The region has domaincfg in the place of a sourcecfg[0] and genmsi in that of a target[0]; so has this.
+-- There is no source 0: place 0 of source has domaincfg, and place 0 of target genmsi, as in the region.
 use Prim.Native.Nat.{ℕ}
 use mathlib.Core.Bool.{Bool, _&&_}
 use mathlib.Core.List.{List}

@@ -1,4 +1,5 @@
-// What is special about a register. Asked once: a read, a write and what is sent at once go by the answer.
+// The registers that are not treated as all others: claimi when it is read, sourcecfg and genmsi when they
+// are written. The functions that read, write and send ask here, so that the list of registers stands once.
 ghost use mathlib.Core.Path.{_≡_};
 ghost use Rattle.domain_region.specs.Role.{roleOf};
 use super::Word;

@@ -1,4 +1,5 @@
-// What is read before a pass: whether the domain sends, and which sources may be to be sent.
+// What is read before a domain sends: whether it sends at all, and which of its sources are pending and
+// enabled.
 ghost use mathlib.Core.Path.{_≡_};
 ghost use Prim.Native.Nat.{ℕ, _<_};
 ghost use lib.ListN.{length};

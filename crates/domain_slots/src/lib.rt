@@ -42,7 +42,7 @@ fn occupy(mut g: Gathered, child: bool, messages: bool, mode: u32, target: u32, 
     g
 }
 
-// One source more. An inactive one is done with its target, which has to be 0.
+// One source more. Of an inactive one only the target is looked at: it has to be 0.
 fn slot(mut g: Gathered, child: bool, messages: bool, mode: u32, target: u32, i: u32) -> Gathered
     requires { ⌜ i < slotCount ⌝ }
     ensures { λ r. ⌜ Slotted child messages mode target i g r ⌝ }

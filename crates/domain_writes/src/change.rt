@@ -1,4 +1,4 @@
-// Writes that name sources: by the bits of a word, by number, or by the place of a target.
+// Writes to sources: to those whose bits are set in a word, to one by its number, and to one target.
 ghost use mathlib.Core.Path.{_≡_};
 ghost use Prim.Native.Nat.{_+_, _-_, _*_, _/_, _≤_, _<_};
 ghost use lib.ListN.{length};
@@ -40,7 +40,7 @@ fn switch_source(part: &mut [u32], i: usize, on: bool)
     }
 }
 
-// Of the source only the word is stored that the write can change.
+// Source `i` after one change. Only the word with the bit that the change can touch is stored.
 fn change_source(part: &mut [u32], wires: [u32; SOURCE_SET_SIZE], change: Change, i: usize)
     requires { ⌜ (length (now part) ≡ domainSize) × (i < slotCount) ⌝ }
     ensures { λ r. ⌜ domainOf (now (part .exit)) ≡ changedAt (domainOf (now (part .entry))) wires change i ⌝ }
@@ -61,7 +61,7 @@ fn change_source(part: &mut [u32], wires: [u32; SOURCE_SET_SIZE], change: Change
     }
 }
 
-// The same if the source's bit is set in `value`.
+// The same, if the bit of source `i` is set in `value`, the word that is written.
 fn change_bit(part: &mut [u32], wires: [u32; SOURCE_SET_SIZE], change: Change, value: u32, i: usize)
     requires { ⌜ (length (now part) ≡ domainSize) × (i < slotCount) ⌝ }
     ensures { λ r. ⌜ domainOf (now (part .exit))
@@ -72,7 +72,7 @@ fn change_bit(part: &mut [u32], wires: [u32; SOURCE_SET_SIZE], change: Change, v
     }
 }
 
-// The sources from `from` up to `end`, which one word has; no further than the last bit that is set.
+// The same for the sources `from` to `end` - 1, whose bits one word has. It stops after the last set bit.
 fn change_bits(
     part: &mut [u32],
     wires: [u32; SOURCE_SET_SIZE],

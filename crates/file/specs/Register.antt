@@ -1,5 +1,5 @@
 -- What a file's registers hold, and an access to one; the select numbers and the words behind them are in
--- select. 01, "One message file", "Calls and their refusals". Assumes nothing.
+-- the crate file_select. 01, "One message file", "Calls and their refusals". Assumes nothing.
 --   held f r                   what register r of f reads
 --   written n g f r v          f after v was written to r; g says that f is a guest's file
 --   accessedAt n g f k r v     an access of kind k to register r: the answer and the file after it

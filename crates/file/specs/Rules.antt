@@ -1,5 +1,5 @@
 -- A file's own state rules, one definition each. 01, "State rules", "One message file". Assumes nothing.
---   deliveryRule g f      f stores a delivery that is legal (select, deliveryLegal); g: a guest's file
+--   deliveryRule g f      f stores a legal delivery (`deliveryLegal` of file_select); g: a guest's file
 --   thresholdRule n f     f's threshold is at most n
 --   zeroRule f            identity 0 is neither pending nor enabled
 --   fileSound n g f       all of these

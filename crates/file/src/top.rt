@@ -47,7 +47,8 @@ impl File {
         }
     }
 
-    // The signal of a file that delivers by itself; where it takes the wired controller's, the board tells.
+    // Whether the file signals by itself: its delivery is 1 and it has a top. With delivery 0x40000000 the
+    // signal is that of its domain, which a file does not know: the board has it.
     pub fn signals(self) -> bool
         ensures { λ r. ⌜ r ≡ signals identities self ⌝ }
     {
