@@ -2,7 +2,7 @@
 # make help.
 .DEFAULT_GOAL := all
 .PHONY: all test near check compare ctest archives boards audit cases mutants bench example tools fmt style numbers
-.PHONY: layers pages clean help toolchain
+.PHONY: layers pages change clean help toolchain
 
 # rt check runs each program once it is proved, and compares what it wrote
 all: check
@@ -84,6 +84,10 @@ pages:
 	@index=$$(scripts/claims) && printf '%s\n' "$$index" >docs/CLAIMS.md
 	@scripts/pictures
 
+# the page of a change since BASE, a commit: PAGE is the file, LOGS and GATES two logs each, before and after
+change:
+	@scripts/changes $(if $(PAGE),--into $(PAGE)) $(if $(LOGS),--logs $(LOGS)) $(if $(GATES),--gates $(GATES)) $(BASE)
+
 clean:
 	@rm -rf target
 
@@ -109,6 +113,7 @@ help:
 	@echo "make numbers  how much there is: crates, functions, lines, claims, edits"
 	@echo "make layers   the picture of the layers, from crates.txt"
 	@echo "make pages    print and draw anew what is generated and kept: docs/CLAIMS.md and docs/pictures"
+	@echo "make change   BASE=COMMIT PAGE=docs/changes/M-101.md: the page of a change, from two runs of rt prove"
 	@echo "make clean    remove target/, where all that is built lies"
 	@echo "All but tools, style, numbers, layers, pages, clean and help need rt, the command of the Rattle toolchain, on"
 	@echo "PATH."
