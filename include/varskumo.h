@@ -56,10 +56,12 @@
 
 /* The version of this header and of the archive that it goes with, in parts and as text.
  *   MAJOR changes if a call with the same blocks and numbers may answer or leave something else, if a word of
- *         the state or the log means something else, or if a name here is removed. A block that another MAJOR
- *         left must not be lent: it carries no version, and may be taken for a state.
+ *         the state or the log means something else, if a block has another length or a function other
+ *         parameters, or if a name here is removed. A block that another MAJOR left must not be lent: it
+ *         carries no version, and may be taken for a state.
  *   MINOR changes if something is added and all that was there stays as it was.
  *   PATCH changes with the words here, with what compilers are told, and with the speed of a call.
+ * CHANGELOG.md says what each version changed, CONTRIBUTING.md which part each request that is to come moves.
  * Nothing compares it with the archive when a monitor runs: the archive's comment section has the version
  * that it is stamped with, and readelf -p prints it. */
 #define VSK_VERSION_MAJOR 1
