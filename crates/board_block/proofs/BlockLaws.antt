@@ -12,7 +12,7 @@ use lib.Seq.{take-at, drop-at}
 use Rattle.files.specs.Files.{filesOf, filesSound}
 use Rattle.wired_state.specs.Wires.{wiredOf}
 use Rattle.wired_rules.specs.Rules.{wiredSound}
-use Rattle.board_block.specs.Block.{Board, boardOf, boardSound}
+use Rattle.board_block.specs.Block.{Board, withFiles, withWired, boardOf, boardSound}
 use Rattle.sizes.specs.Sizes.{blockSize, filesSize, wiredSize}
 
 -- two boards are equal if their parts are
@@ -45,7 +45,7 @@ abbrev pub wiredPut : List ℕ → List ℕ → List ℕ
 wiredPut l zs = take filesSize l ++ (zs ++ drop wiredSize (drop filesSize l))
 
 module _ (l ys : List ℕ) (long : length l ≡ blockSize) (part : length ys ≡ filesSize) where
-  pub put-files : boardOf (filesPut l ys) ≡ record { files = filesOf ys; wired = boardOf l .wired }
+  pub put-files : boardOf (filesPut l ys) ≡ withFiles (boardOf l) (filesOf ys)
   unfolding boardOf
   put-files =
       board-path (ap filesOf (take-at ys (drop filesSize l) filesSize part))
@@ -59,7 +59,7 @@ module _ (l ys : List ℕ) (long : length l ≡ blockSize) (part : length ys ≡
   wired-behind = wired-part (filesPut l ys) put-files-long ∙ ap (λ (b : Board). b .wired) put-files
 
 module _ (l zs : List ℕ) (long : length l ≡ blockSize) (part : length zs ≡ wiredSize) where
-  pub put-wired : boardOf (wiredPut l zs) ≡ record { files = boardOf l .files; wired = wiredOf zs }
+  pub put-wired : boardOf (wiredPut l zs) ≡ withWired (boardOf l) (wiredOf zs)
   unfolding boardOf
   put-wired =
       let rest = zs ++ drop wiredSize (drop filesSize l) in
@@ -77,10 +77,10 @@ module _ (l zs : List ℕ) (long : length l ≡ blockSize) (part : length zs ≡
 -- both parts
 module _ (l ys zs : List ℕ) (long : length l ≡ blockSize) (files : length ys ≡ filesSize) (wired : length zs ≡ wiredSize) where
   pub put-wired-files : boardOf (filesPut (wiredPut l zs) ys)
-      ≡ record { files = filesOf ys; wired = wiredOf zs }
+      ≡ withFiles (withWired (boardOf l) (wiredOf zs)) (filesOf ys)
   put-wired-files =
       put-files (wiredPut l zs) ys (put-wired-long l zs long wired) files
-      ∙ board-path refl (ap (λ (b : Board). b .wired) (put-wired l zs long wired))
+      ∙ ap (λ (b : Board). withFiles b (filesOf ys)) (put-wired l zs long wired)
 
 -- ---- the state rules
 

@@ -1,5 +1,6 @@
 -- The board, and the block of 650 words that holds it. 01, "The board", "State rules". Assumes nothing.
 --   Board             files: the 20 message files; wired: the wired controller
+--   withFiles b fs    b with fs as its message files; withWired b w: with w as its wired controller
 --   boardOf l         the board whose words are l: 360 of the files, then 290 of the wired controller
 --   domainWords d     the words of a domain, in their order
 --   wiredWords w      those of the wired controller
@@ -20,6 +21,13 @@ use Rattle.wired_rules.specs.Rules.{wiredSound}
 pub record Board : Type 0 where
   pub files : List File
   pub wired : Wired
+
+-- a part is replaced by these alone: what else a board has, it keeps
+abbrev pub withFiles : Board → List File → Board
+withFiles b fs = record { files = fs; wired = b .wired }
+
+abbrev pub withWired : Board → Wired → Board
+withWired b w = record { files = b .files; wired = w }
 
 -- [01 B8 B9]
 unfoldable pub boardOf : List ℕ → Board

@@ -30,7 +30,7 @@ use Rattle.wired_state.specs.Wires.{Wired, domainIn, wireSet}
 use Rattle.wired_registers.specs.Wired.{readIn, claimedIn, writtenIn}
 use Rattle.wired.specs.Controller.{generatedBy}
 use Rattle.board_move_steps.specs.Steps.{actOf}
-use Rattle.board_block.specs.Block.{Board}
+use Rattle.board_block.specs.Block.{Board, withFiles, withWired}
 use Rattle.board_block.specs.Start.{startBoard}
 use Rattle.board_call.specs.Move.{registerOn, Acted, acted}
 use Rattle.board_call.specs.declared.Call.{Call}
@@ -59,18 +59,12 @@ signalsTo b h zero = 0
 signalsTo b h (suc n) = putBit (signalsTo b h n) n (signalAt b h n)
 
 abbrev pub onWired : Board → Wired → ℕ → List ℕ → List ℕ → Changed
-onWired b w v ms s =
-    record { board = record { files = b .files; wired = w }; value = v; own = ms; saved = s }
+onWired b w v ms s = record { board = withWired b w; value = v; own = ms; saved = s }
 
 -- [01 C2 W52]
 abbrev pub onFile : Board → ℕ → File → ℕ → List ℕ → Changed
 onFile b k f v s =
-    record {
-      board = record { files = withFile (b .files) k f; wired = b .wired };
-      value = v;
-      own = [];
-      saved = s;
-    }
+    record { board = withFiles b (withFile (b .files) k f); value = v; own = []; saved = s }
 
 -- [01 C7]
 abbrev pub answering : Board → ℕ → List ℕ → Changed

@@ -26,14 +26,14 @@ use Rattle.wired_registers.specs.Wired.{readIn, writtenIn}
 use Rattle.board_move_steps.specs.declared.Act.{Act}
 use Rattle.board_move_steps.specs.declared.Act.the-variants.{Save, Zero, Target, Put}
 use Rattle.board_move_steps.specs.Names.{namesFile, renamed}
-use Rattle.board_block.specs.Block.{Board}
+use Rattle.board_block.specs.Block.{Board, withFiles, withWired}
 
 abbrev pub registerOn : Board → ℕ → ℕ → Access → ℕ → ℕ → Accessed
 registerOn b h f k s v =
     let n = fileNumber h f in accessed identities (isGuest n) (theFile (b .files) n) k s v
 
 abbrev pub withOne : Board → ℕ → ℕ → File → Board
-withOne b h f x = record { files = withFile (b .files) (fileNumber h f) x; wired = b .wired }
+withOne b h f x = withFiles b (withFile (b .files) (fileNumber h f) x)
 
 -- [01 V8]
 unfoldable pub retargetedIn : ℕ → ℕ → ℕ → ℕ → Wired → ℕ → Wired
@@ -54,9 +54,6 @@ acted (Zero new select) oh of nh nf b s =
     let f = cond new nf of in
     record { board = withOne b h f (registerOn b h f Write select 0 .file); saved = s }
 acted (Target i) oh of nh nf b s =
-    record {
-      board = record { files = b .files; wired = retargetedIn oh of nh nf (b .wired) i };
-      saved = s;
-    }
+    record { board = withWired b (retargetedIn oh of nh nf (b .wired) i); saved = s }
 acted (Put kind select place) oh of nh nf b s =
     record { board = withOne b nh nf (registerOn b nh nf kind select (getD s place 0) .file); saved = s }

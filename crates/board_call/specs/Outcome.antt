@@ -16,7 +16,7 @@ use lib.ListN.{length}
 use Rattle.files.specs.Files.{allReached}
 use Rattle.domain_sending.specs.Sending.{logged}
 use Rattle.wired.specs.Controller.{flushed}
-use Rattle.board_block.specs.Block.{Board, boardOf, blockOf}
+use Rattle.board_block.specs.Block.{Board, withFiles, withWired, boardOf, blockOf}
 use Rattle.board_call.specs.declared.Answer.{Answer}
 use Rattle.board_call.specs.declared.Call.{Call}
 use Rattle.board_call.specs.Answer.{refusalNumber, answerValue, answerCount}
@@ -35,7 +35,7 @@ thenSent x =
     let after = flushed (x .board .wired) in
     let ms = x .own ++ after .messages in
     record {
-      board = record { files = allReached (x .board .files) ms; wired = after .wired };
+      board = withFiles (withWired (x .board) (after .wired)) (allReached (x .board .files) ms);
       value = x .value;
       messages = ms;
       saved = x .saved;

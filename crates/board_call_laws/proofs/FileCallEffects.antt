@@ -21,8 +21,8 @@ use Rattle.file.specs.Page.{pageWritten, pageRead}
 use Rattle.file.specs.Register.{accessed}
 use Rattle.file.specs.Top.{topOf, claimed}
 use Rattle.files.specs.Files.{fileNumber, isGuest, filesOf, theFile, withFile}
-use Rattle.board_block.specs.Block.{Board, boardOf, boardSound}
-use Rattle.board_block.proofs.BlockLaws.{board-path, files-long, files-part, filesPut, put-files}
+use Rattle.board_block.specs.Block.{Board, withFiles, boardOf, boardSound}
+use Rattle.board_block.proofs.BlockLaws.{files-long, files-part, filesPut, put-files}
 use Rattle.board_call.specs.declared.Answer.the-variants.{Done}
 use Rattle.board_call.specs.declared.Call.the-variants.{PageRead, PageWrite, Register, Top, Claim}
 use Rattle.board_call.specs.Change.{kindOf, change}
@@ -65,7 +65,7 @@ module _ (h f : ℕ) where
 -- ---- a file in the block
 
 abbrev pub onlyFile : Board → ℕ → File → Board
-onlyFile b k f = record { files = withFile (b .files) k f; wired = b .wired }
+onlyFile b k f = withFiles b (withFile (b .files) k f)
 
 module _ (l : List ℕ) (long : length l ≡ blockSize) (h f : ℕ) (x : File) where
   pub file-loaded : x ≡ theFile (filesOf (take filesSize l)) (5 * h + f)
@@ -78,8 +78,8 @@ module _ (l : List ℕ) (long : length l ≡ blockSize) (h f : ℕ) (x : File) w
       → boardOf (filesPut l ys) ≡ onlyFile (boardOf l) (fileNumber h f) x
   file-stored ys kept e =
       put-files l ys long (kept ∙ files-long l long)
-      ∙ board-path (e ∙ ap₂ (λ (fs : List File) (k : ℕ). withFile fs k x) (files-part l long)
-      (number-read h f)) refl
+      ∙ ap (withFiles (boardOf l)) (e ∙ ap₂ (λ (fs : List File) (k : ℕ). withFile fs k x) (files-part l long)
+      (number-read h f))
 
 -- ---- what each call tests
 

@@ -29,7 +29,7 @@ use Rattle.wired_rules.specs.Rules.{wiredSound}
 use Rattle.wired_rules_laws.specs.Steady.{WiredSteady}
 use Rattle.wired_rules_laws.proofs.SoundParts.{wired-sound-steady}
 use Rattle.wired.specs.Controller.{flushed}
-use Rattle.board_block.specs.Block.{Board, boardOf, boardSound}
+use Rattle.board_block.specs.Block.{Board, withFiles, withWired, boardOf, boardSound}
 use Rattle.board_block.proofs.BlockLaws.{files-part, files-long}
 use Rattle.board_block_laws.specs.Shape.{BoardShaped}
 use Rattle.board_block_laws.proofs.BlockBack.{boardOf-shaped}
@@ -66,7 +66,7 @@ module _ (b : Board) (fit : Fit b) where
   -- ---- one file replaced
 
   pub fit-withFile : (k : ℕ) (f : File) → Shaped f → Rules identities (isGuest k) f
-      → Fit (record { files = withFile (b .files) k f; wired = b .wired })
+      → Fit (withFiles b (withFile (b .files) k f))
   unfolding boardSound
   fit-withFile k f s r =
       let all : (j : ℕ) → j < 20 → Shaped (theFile (withFile (b .files) k f) j) = λ j h.
@@ -92,7 +92,7 @@ module _ (b : Board) (fit : Fit b) where
 
   pub fit-wired : (w : Wired) (ms : List ℕ) → wiredSound w ≡ true → length (w .wires) ≡ 2
       → domain.DomainShaped (w .root) → domain.DomainShaped (w .child)
-      → Fit (record { files = allReached (b .files) ms; wired = w })
+      → Fit (withFiles (withWired b w) (allReached (b .files) ms))
   unfolding boardSound
   fit-wired w ms sound wires root child =
       let all : (j : ℕ) → j < 20 → Shaped (theFile (allReached (b .files) ms) j) = λ j h.
@@ -114,7 +114,7 @@ module _ (b : Board) (fit : Fit b) where
 
   -- a change of the wired controller that sends nothing
   pub fit-rewired : (w : Wired) → WiredSteady w → wiredSound w ≡ true
-      → Fit (record { files = b .files; wired = w })
+      → Fit (withWired b w)
   unfolding allReached
   fit-rewired w s sound = fit-wired w [] sound (s .long) (s .root .shaped) (s .child .shaped)
 
@@ -133,7 +133,7 @@ sent-shaped c d s =
 -- what is flushed, where all rules but the one on sending hold before
 pub fit-flushed : (b : Board) → Fit b → (w : Wired) → WiredSteady w → (ms : List ℕ)
     → wiredSound (flushed w .wired) ≡ true
-    → Fit (record { files = allReached (b .files) ms; wired = flushed w .wired })
+    → Fit (withFiles (withWired b (flushed w .wired)) (allReached (b .files) ms))
 unfolding flushed
 fit-flushed b fit w s ms sound =
     fit-wired b fit _ ms sound (s .long) (sent-shaped false (w .root) (s .root .shaped))

@@ -31,7 +31,7 @@ use Rattle.sizes.specs.Sizes.{recordSize}
 use Rattle.board_move_steps.specs.Steps.{actOf, actWithin}
 use Rattle.board_move_steps.specs.declared.Act.{Act}
 use Rattle.board_move_steps.specs.declared.Act.the-variants.{Save, Zero, Target, Put}
-use Rattle.board_block.specs.Block.{Board, boardOf, boardSound}
+use Rattle.board_block.specs.Block.{Board, withWired, boardOf, boardSound}
 use Rattle.board_block_laws.proofs.BlockBack.{boardOf-shaped}
 use Rattle.board_call.specs.declared.Answer.the-variants.{Done, NoSuch}
 use Rattle.board_call.specs.declared.Call.the-variants.{Move}
@@ -126,7 +126,7 @@ module _ (a : Act) (oh of nh nf : ℕ) (b : Board) (s : List ℕ) where
     made-zero-old new x e t q = rw (e, t) (q, refl)
 
     pub made-target : (i : ℕ) → a ≡ Target i
-        → b′ ≡ record { files = b .files; wired = retargetedIn oh of nh nf (b .wired) i }
+        → b′ ≡ withWired b (retargetedIn oh of nh nf (b .wired) i)
         → Made a oh of nh nf b s b′ s
     unfolding acted
     made-target i e q = rw e (q, refl)

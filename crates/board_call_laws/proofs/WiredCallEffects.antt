@@ -14,7 +14,7 @@ use Rattle.domain_region.specs.Region.{addressLegal, wordAt}
 use Rattle.wired_state.specs.Wires.{Wired}
 use Rattle.wired_registers.specs.Wired.{readIn}
 use Rattle.wired.specs.Controller.{wireCall, readCall, writeCall}
-use Rattle.board_block.specs.Block.{Board, boardOf}
+use Rattle.board_block.specs.Block.{Board, withWired, boardOf}
 use Rattle.board_call.specs.declared.Answer.the-variants.{Done}
 use Rattle.board_call.specs.declared.Call.the-variants.{Wire, DomainRead, DomainWrite}
 use Rattle.board_call.specs.Refusal.{isWire, testsRules, present, addressed, selected, blockRefusal}
@@ -73,11 +73,7 @@ module _ (l g : List ℕ) (z : blockRefusal true l g ≡ 0) where
     pub domainRead-done : (l′ : List ℕ) (v : ℕ) → length l′ ≡ blockSize
         → readCall (boardOf l .wired) (eqb d 1) (wordAt a) .messages ≡ []
         → v ≡ readIn (boardOf l .wired) (eqb d 1) (wordAt a)
-        → boardOf l′
-        ≡ record {
-          files = boardOf l .files;
-          wired = readCall (boardOf l .wired) (eqb d 1) (wordAt a) .wired;
-        }
+        → boardOf l′ ≡ withWired (boardOf l) (readCall (boardOf l .wired) (eqb d 1) (wordAt a) .wired)
         → Does (DomainRead d a) l g (Done v 0) l′ g
     unfolding allReached
     domainRead-done l′ v long none value board =

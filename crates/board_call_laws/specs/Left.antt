@@ -9,9 +9,9 @@ use lib.ListN.{length}
 use Rattle.files.specs.Files.{allReached}
 use Rattle.domain_sending.specs.Sending.{logged}
 use Rattle.wired.specs.Controller.{Out}
-use Rattle.board_block.specs.Block.{boardOf}
+use Rattle.board_block.specs.Block.{withFiles, withWired, boardOf}
 
 abbrev pub Left : Out → List ℕ → List ℕ → List ℕ → List ℕ → ℕ → Type 0
 Left o l l′ g g′ n =
-    (boardOf l′ ≡ record { files = allReached (boardOf l .files) (o .messages); wired = o .wired })
+    (boardOf l′ ≡ withFiles (withWired (boardOf l) (o .wired)) (allReached (boardOf l .files) (o .messages)))
     × (g′ ≡ logged g (o .messages)) × (n ≡ length (o .messages))

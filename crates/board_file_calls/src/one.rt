@@ -6,7 +6,7 @@ ghost use lib.ListN.{length};
 ghost use Rattle.sizes.specs.Sizes.{blockSize};
 ghost use Rattle.file.specs.Reply.{replyValue};
 ghost use Rattle.files.specs.Files.{fileNumber, theFile, withFile};
-ghost use Rattle.board_block.specs.Block.{boardOf};
+ghost use Rattle.board_block.specs.Block.{withFiles, boardOf};
 ghost use Rattle.board_call.specs.Refusal.{isFile};
 use board_call::is_file;
 use file::File;
@@ -34,10 +34,8 @@ pub fn load_file(state: &[u32], hart: u64, file: u64) -> File
 pub fn store_file(state: &mut [u32], hart: u64, file: u64, f: File)
     requires { ⌜ (length (now state) ≡ blockSize) × (isFile hart file ≡ true) ⌝ }
     ensures { λ r. ⌜ boardOf (now (state .exit))
-        ≡ record {
-          files = withFile (boardOf (now (state .entry)) .files) (fileNumber hart file) f;
-          wired = boardOf (now (state .entry)) .wired;
-        } ⌝ }
+        ≡ withFiles (boardOf (now (state .entry)))
+        (withFile (boardOf (now (state .entry)) .files) (fileNumber hart file) f) ⌝ }
 {
     files::store(
         &mut state[0..FILES_SIZE],

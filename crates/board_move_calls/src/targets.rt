@@ -7,7 +7,7 @@ ghost use Rattle.sizes.specs.Sizes.{sourceCount, wiredSize, blockSize};
 ghost use Rattle.domain_values.specs.Values.{configMark};
 ghost use Rattle.domain.specs.Domain.{configOf, byMessages};
 ghost use Rattle.wired_state.specs.Wires.{wiredOf, domainIn};
-ghost use Rattle.board_block.specs.Block.{boardOf, boardSound};
+ghost use Rattle.board_block.specs.Block.{withWired, boardOf, boardSound};
 ghost use Rattle.board_call.specs.Refusal.{isGuestFile};
 ghost use Rattle.board_call.specs.Move.{retargetedIn};
 use board_move_steps::names_file;
@@ -55,10 +55,8 @@ pub fn retarget(
     requires { ⌜ (length (now state) ≡ blockSize) × (boardSound (boardOf (now state)) ≡ true)
         × (isGuestFile newhart newfile ≡ true) × (1 ≤ source) × (source ≤ sourceCount) ⌝ }
     ensures { λ r. ⌜ boardOf (now (state .exit))
-        ≡ record {
-          files = boardOf (now (state .entry)) .files;
-          wired = retargetedIn oldhart oldfile newhart newfile (boardOf (now (state .entry)) .wired) source;
-        } ⌝ }
+        ≡ withWired (boardOf (now (state .entry)))
+        (retargetedIn oldhart oldfile newhart newfile (boardOf (now (state .entry)) .wired) source) ⌝ }
 {
     rewrite(
         &mut state[WIRED_PLACE..BLOCK_SIZE],

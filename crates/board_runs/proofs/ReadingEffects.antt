@@ -11,7 +11,6 @@ use lib.Dec.{eqb}
 use borrow.Author.Tests.{not-true}
 use Rattle.words.proofs.TestsLaws.{tested, not-same}
 use Rattle.sizes.specs.Sizes.{identities}
-use Rattle.file.specs.declared.File.{File}
 use Rattle.file.specs.Register.{accessed}
 use Rattle.file_laws.proofs.RegisterEffects.{accessed-read}
 use Rattle.files.specs.Files.{fileNumber, isGuest, theFile, withFile, allReached}
@@ -26,7 +25,7 @@ use Rattle.domain_sending.specs.Sending.{logged}
 use Rattle.domain_sending.proofs.SendingLaws.{logged-none}
 use Rattle.wired.specs.Controller.{Out}
 use Rattle.wired_laws.proofs.ReadEffects.{readCall-none}
-use Rattle.board_block.specs.Block.{Board, blockOf, boardSound}
+use Rattle.board_block.specs.Block.{Board, withFiles, withWired, blockOf, boardSound}
 use Rattle.board_block_laws.proofs.BlockBack.{block-back}
 use Rattle.board_call.specs.declared.Call.{Call}
 use Rattle.board_call.specs.declared.Call.the-variants.{Reset, Wire, DomainRead, DomainWrite, PageRead}
@@ -95,7 +94,7 @@ module _ (b : Board) (sound : boardSound b ≡ true) (u : List ℕ) where
       let e = step-domainRead b d a u in
       let silent = readCall-none (b .wired) (eqb d 1) (wordAt a) none (sound-quiet b sound) in (
         ap (λ (y : Stepped). y .board) e
-            ∙ ap (λ (o : Out). record { files = allReached (b .files) (o .messages); wired = o .wired })
+            ∙ ap (λ (o : Out). withFiles (withWired b (o .wired)) (allReached (b .files) (o .messages)))
             silent,
         ap (λ (y : Stepped). y .messages) e ∙ ap (λ (o : Out). o .messages) silent,
         ap (λ (y : Stepped). y .saved) e,
@@ -109,8 +108,7 @@ module _ (b : Board) (sound : boardSound b ≡ true) (u : List ℕ) where
       let kept : accessed identities (isGuest n) x (kindOf k) s v .file ≡ x =
       rw z (accessed-read identities (isGuest n) x s v) in
       quiet-still (Register h f k s v) _ _ (step-register b sound h f x refl k s v _ refl u)
-      (ap (λ (fs : List File). record { files = fs; wired = b .wired })
-      (ap (withFile (b .files) n) kept ∙ withFile-theFile (b .files) n))
+      (ap (withFiles b) (ap (withFile (b .files) n) kept ∙ withFile-theFile (b .files) n))
 
   still-read : (c : Call) → onlyReads c ≡ true → Still c
   unfolding onlyReads

@@ -17,8 +17,8 @@ use Rattle.domain_sending_laws.proofs.MessageEffects.{logged-back, logged-every
 use Rattle.wired.specs.Controller.{Out, Leaves, wireCall, readCall, writeCall}
 use Rattle.wired.proofs.CallLaws.{words-steady, words-quiet, read-silent}
 use Rattle.wired_laws.proofs.OutEffects.{Exists, wire-count, write-count}
-use Rattle.board_block.specs.Block.{boardOf, boardSound}
-use Rattle.board_block.proofs.BlockLaws.{board-path, wired-part, wired-long, wiredPut, filesPut}
+use Rattle.board_block.specs.Block.{withFiles, withWired, boardOf, boardSound}
+use Rattle.board_block.proofs.BlockLaws.{wired-part, wired-long, wiredPut, filesPut}
 use Rattle.board_block.proofs.BlockLaws.{put-wired-files, files-behind}
 use Rattle.board_call_laws.proofs.StepEffects.{sound-wired}
 use Rattle.board_call_laws.specs.Left.{Left}
@@ -81,9 +81,9 @@ module _ (l zs ys g g′ : List ℕ) (n : ℕ) (long : length l ≡ blockSize) (
       → filesOf ys ≡ allReached (filesOf (take filesSize (wiredPut l zs))) (take n g′)
       → Left o l (filesPut (wiredPut l zs) ys) g g′ n
   done-left o (a, b, k) e =
-      let sent : take n g′ ≡ o .messages = ap (take n) b ∙ logged-back (o .messages) g n k in (
-        put-wired-files l ys zs long files wired
-            ∙ board-path (e ∙ ap₂ allReached (files-behind l zs long wired) sent) a,
+      let sent : take n g′ ≡ o .messages = ap (take n) b ∙ logged-back (o .messages) g n k in
+      let all = e ∙ ap₂ allReached (files-behind l zs long wired) sent in (
+        put-wired-files l ys zs long files wired ∙ (λ j. withFiles (withWired (boardOf l) (a j)) (all j)),
         b,
         k,
       )

@@ -6,7 +6,7 @@ ghost use Rattle.sizes.specs.Sizes.{blockSize};
 ghost use Rattle.domain_region.specs.Region.{Within};
 ghost use Rattle.wired_registers.specs.Wired.{readIn};
 ghost use Rattle.wired.specs.Controller.{readCall};
-ghost use Rattle.board_block.specs.Block.{boardOf, boardSound};
+ghost use Rattle.board_block.specs.Block.{withWired, boardOf, boardSound};
 use domain_region::Word;
 use sizes::BLOCK_SIZE;
 use sizes::WIRED_PLACE;
@@ -15,11 +15,8 @@ pub fn read_done(state: &mut [u32], child: bool, word: Word) -> u32
     requires { ⌜ (length (now state) ≡ blockSize) × Within word
         × (boardSound (boardOf (now state)) ≡ true) ⌝ }
     ensures { λ r. ⌜ (r ≡ readIn (boardOf (now (state .entry)) .wired) child word)
-        × (boardOf (now (state .exit))
-        ≡ record {
-          files = boardOf (now (state .entry)) .files;
-          wired = readCall (boardOf (now (state .entry)) .wired) child word .wired;
-        }) ⌝ }
+        × (boardOf (now (state .exit)) ≡ withWired (boardOf (now (state .entry)))
+        (readCall (boardOf (now (state .entry)) .wired) child word .wired)) ⌝ }
 {
     wired::read(&mut state[WIRED_PLACE..BLOCK_SIZE], child, word)
 }

@@ -15,7 +15,7 @@ use Rattle.domain.specs.Domain.{Domain}
 use Rattle.wired_state.specs.Wires.{Wired}
 use Rattle.board_move_steps.specs.Names.{renamed}
 use Rattle.sizes.specs.Sizes.{recordSize}
-use Rattle.board_block.specs.Block.{Board, blockOf}
+use Rattle.board_block.specs.Block.{Board, withFiles, withWired, blockOf}
 use Rattle.board_block.specs.Start.{startBoard}
 use Rattle.board_runs.specs.Runs.{Lent}
 use Rattle.transfer_laws.specs.Shift.{Stations}
@@ -58,7 +58,7 @@ unfoldable pub wiredTo : ℕ → ℕ → Wired
 wiredTo h f = record { wires = replicate 2 0; root = machineDomain; child = childTo h f }
 
 unfoldable pub boardWith : Wired → Board
-boardWith w = record { files = withFile (startBoard .files) (oldNumber stations) station; wired = w }
+boardWith w = withFiles (withWired startBoard w) (withFile (startBoard .files) (oldNumber stations) station)
 
 unfoldable pub lent : Board → ℕ → Lent
 lent b n = record { block = blockOf b; log = replicate n 0; saved = replicate recordSize 0 }

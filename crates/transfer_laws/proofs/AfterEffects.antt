@@ -18,7 +18,7 @@ use Rattle.file.specs.Top.{topOf, claimed, signals}
 use Rattle.files.specs.Files.{fileNumber, theFile}
 use Rattle.files.proofs.FilesLaws.{theFile-withFile-same}
 use Rattle.files_laws.proofs.ReachedEffects.{withFile-theFile}
-use Rattle.board_block.specs.Block.{Board}
+use Rattle.board_block.specs.Block.{Board, withFiles}
 use Rattle.board_call.specs.declared.Call.{Call}
 use Rattle.board_call.specs.Change.{kindOf}
 use Rattle.board_call.specs.Outcome.{Stepped, step, doneAs}
@@ -93,8 +93,7 @@ module _ (h f : ℕ) (there : isGuestFile h f ≡ true) where
 
     -- a call that leaves the board leaves the file in its place
     unmoved : b ≡ onlyFile b k here
-    unmoved = ap (λ (fs : List File). record { files = fs; wired = b .wired })
-        (sym (withFile-theFile (b .files) k))
+    unmoved = ap (withFiles b) (sym (withFile-theFile (b .files) k))
 
     step-on : (c : FileCall) (u : List ℕ)
         → step (callOn h f c) b u ≡ quiet (onlyFile b k (leaves c here)) (answers c here) u

@@ -1,10 +1,11 @@
 -- `board_move_calls::targets::retarget` meets its contract: the files stay. Assumes nothing.
 use Prim.Native.Nat.{_<_}
-use mathlib.Core.Path.{refl, sym, ap, subst, _∙_}
+use mathlib.Core.Path.{sym, ap, subst, _∙_}
 use mathlib.Core.Bool.{true}
 use Rattle.domain.specs.Domain.{configOf}
 use Rattle.wired_state.specs.Wires.{Wired, domainIn}
-use Rattle.board_block.proofs.BlockLaws.{board-path, wired-long, wired-part, put-wired}
+use Rattle.board_block.specs.Block.{withWired, boardOf}
+use Rattle.board_block.proofs.BlockLaws.{wired-long, wired-part, put-wired}
 use Rattle.board_call.specs.Move.{retargetedIn}
 use Rattle.board_call_laws.proofs.MoveCallEffects.{child-config}
 use borrow.Author.Needs.{needs}
@@ -44,7 +45,7 @@ returns c =
     let l = args .state .now in
     let long = start .pre .0 in
     put-wired l (at-rewrite .rewrite .last .0) long (at-rewrite .rewrite .kept .0 ∙ wired-long l long)
-    ∙ board-path refl
+    ∙ ap (withWired (boardOf l))
     (at-rewrite .rewrite .ensures
     ∙ ap (λ (w : Wired). retargetedIn (args .oldhart) (args .oldfile) (args .newhart) (args .newfile) w
     (args .source)) (wired-part l long))

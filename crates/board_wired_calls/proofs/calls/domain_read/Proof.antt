@@ -14,7 +14,7 @@ use lib.Dec.{eqb}
 use Rattle.domain_region.specs.Region.{wordAt}
 use Rattle.wired_registers.specs.Wired.{readIn}
 use Rattle.wired.specs.Controller.{readCall}
-use Rattle.board_block.specs.Block.{boardOf}
+use Rattle.board_block.specs.Block.{withWired, boardOf}
 use Rattle.board_wired_calls.proofs.DoneLaws.{read-none}
 use Rattle.board_call_laws.proofs.CallTests.{tests-blocks, tests-name, tests-address}
 use Rattle.board_call_laws.proofs.WiredCallEffects.{tests-domainRead, domainRead-done}
@@ -117,10 +117,7 @@ returns-4 c =
     (at-done .read-done .kept .0 ∙ long)
     (read-none l long (passed-rules true l (args .log .now) none refl) child (wordAt (args .address)))
     (read .0 ∙ ap (readIn (boardOf l .wired) child) word)
-    (read .1 ∙ ap (λ (r : Word). record {
-      files = boardOf l .files;
-      wired = readCall (boardOf l .wired) child r .wired;
-    }) word)
+    (read .1 ∙ ap (λ (r : Word). withWired (boardOf l) (readCall (boardOf l .wired) child r .wired)) word)
 
 pub domain-read-spec : {M : Type 1} → statement M
 domain-read-spec =

@@ -1,9 +1,10 @@
 -- `board_wired_calls::seen::read_done` meets its contract: the files stay. Assumes nothing.
-use mathlib.Core.Path.{refl, ap, _∙_}
+use mathlib.Core.Path.{ap, _∙_}
 use Rattle.wired_state.specs.Wires.{Wired}
 use Rattle.wired_registers.specs.Wired.{readIn}
 use Rattle.wired.specs.Controller.{readCall}
-use Rattle.board_block.proofs.BlockLaws.{board-path, wired-long, wired-part, put-wired}
+use Rattle.board_block.specs.Block.{withWired, boardOf}
+use Rattle.board_block.proofs.BlockLaws.{wired-long, wired-part, put-wired}
 use Rattle.board_wired_calls.proofs.DoneLaws.{part-sound}
 use borrow.Author.Needs.{needs}
 use Rattle.board_wired_calls.proofs.seen.read_done.Statement.{statement}
@@ -38,7 +39,7 @@ returns c =
     let read = at-read .read .ensures in (
       read .0 ∙ ap (λ (w : Wired). readIn w (args .child) (args .word)) (wired-part l long),
       put
-          ∙ board-path refl
+          ∙ ap (withWired (boardOf l))
           (read .1 ∙ ap (λ (w : Wired). readCall w (args .child) (args .word) .wired) (wired-part l long)),
     )
 
