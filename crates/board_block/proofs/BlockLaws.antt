@@ -51,13 +51,6 @@ module _ (l ys : List ℕ) (long : length l ≡ blockSize) (part : length ys ≡
       board-path (ap filesOf (take-at ys (drop filesSize l) filesSize part))
       (ap (λ (x : List ℕ). wiredOf (take wiredSize x)) (drop-at ys (drop filesSize l) filesSize part))
 
-  pub put-files-long : length (filesPut l ys) ≡ blockSize
-  put-files-long = simp (length-append, length-drop) (omega arith)
-
-  -- the wired part, lent after the files came back
-  pub wired-behind : wiredOf (take wiredSize (drop filesSize (filesPut l ys))) ≡ boardOf l .wired
-  wired-behind = wired-part (filesPut l ys) put-files-long ∙ ap (λ (b : Board). b .wired) put-files
-
 module _ (l zs : List ℕ) (long : length l ≡ blockSize) (part : length zs ≡ wiredSize) where
   pub put-wired : boardOf (wiredPut l zs) ≡ withWired (boardOf l) (wiredOf zs)
   unfolding boardOf
@@ -69,18 +62,6 @@ module _ (l zs : List ℕ) (long : length l ≡ blockSize) (part : length zs ≡
 
   pub put-wired-long : length (wiredPut l zs) ≡ blockSize
   put-wired-long = simp (length-append, length-take, length-drop) (omega arith)
-
-  -- the files, lent after the wired part came back
-  pub files-behind : filesOf (take filesSize (wiredPut l zs)) ≡ boardOf l .files
-  files-behind = files-part (wiredPut l zs) put-wired-long ∙ ap (λ (b : Board). b .files) put-wired
-
--- both parts
-module _ (l ys zs : List ℕ) (long : length l ≡ blockSize) (files : length ys ≡ filesSize) (wired : length zs ≡ wiredSize) where
-  pub put-wired-files : boardOf (filesPut (wiredPut l zs) ys)
-      ≡ withFiles (withWired (boardOf l) (wiredOf zs)) (filesOf ys)
-  put-wired-files =
-      put-files (wiredPut l zs) ys (put-wired-long l zs long wired) files
-      ∙ ap (λ (b : Board). withFiles b (filesOf ys)) (put-wired l zs long wired)
 
 -- ---- the state rules
 

@@ -1,5 +1,6 @@
 -- What a call does, all in all. 01, "Calls and their refusals", "The wired controller". Assumes nothing.
 --   Stepped           the board after a call, its value, the messages that it sent, in order, and the record
+--   delivered b ms    b after the messages ms reached their files, in order
 --   thenSent x        x, then each domain sends what is to be sent, and every message reaches its file
 --   step c b s        what an accepted call does: its change, then what is sent; s is the record of a move
 --   Outcome           refusal, value and count, the block, the log and the record after the call
@@ -29,13 +30,16 @@ pub record Stepped : Type 0 where
   pub messages : List ℕ
   pub saved : List ℕ
 
+abbrev pub delivered : Board → List ℕ → Board
+delivered b ms = withFiles b (allReached (b .files) ms)
+
 -- [01 B15 W45]
 unfoldable pub thenSent : Changed → Stepped
 thenSent x =
     let after = flushed (x .board .wired) in
     let ms = x .own ++ after .messages in
     record {
-      board = withFiles (withWired (x .board) (after .wired)) (allReached (x .board .files) ms);
+      board = delivered (withWired (x .board) (after .wired)) ms;
       value = x .value;
       messages = ms;
       saved = x .saved;

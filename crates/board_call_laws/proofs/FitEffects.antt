@@ -36,6 +36,7 @@ use Rattle.board_block_laws.proofs.BlockBack.{boardOf-shaped}
 use Rattle.board_block_laws.proofs.StartEffects.{start-sound, start-shaped}
 use Rattle.board_block.specs.Start.{startFile, startBoard}
 use Rattle.board_block.proofs.StartLaws.{theFile-startFilesFrom}
+use Rattle.board_call.specs.Outcome.{delivered}
 use Rattle.board_call_laws.specs.Fit.{Fit}
 use Rattle.board_call_laws.proofs.StepEffects.{sound-files, sound-wired}
 
@@ -92,7 +93,7 @@ module _ (b : Board) (fit : Fit b) where
 
   pub fit-wired : (w : Wired) (ms : List ℕ) → wiredSound w ≡ true → length (w .wires) ≡ 2
       → domain.DomainShaped (w .root) → domain.DomainShaped (w .child)
-      → Fit (withFiles (withWired b w) (allReached (b .files) ms))
+      → Fit (delivered (withWired b w) ms)
   unfolding boardSound
   fit-wired w ms sound wires root child =
       let all : (j : ℕ) → j < 20 → Shaped (theFile (allReached (b .files) ms) j) = λ j h.
@@ -133,7 +134,7 @@ sent-shaped c d s =
 -- what is flushed, where all rules but the one on sending hold before
 pub fit-flushed : (b : Board) → Fit b → (w : Wired) → WiredSteady w → (ms : List ℕ)
     → wiredSound (flushed w .wired) ≡ true
-    → Fit (withFiles (withWired b (flushed w .wired)) (allReached (b .files) ms))
+    → Fit (delivered (withWired b (flushed w .wired)) ms)
 unfolding flushed
 fit-flushed b fit w s ms sound =
     fit-wired b fit _ ms sound (s .long) (sent-shaped false (w .root) (s .root .shaped))

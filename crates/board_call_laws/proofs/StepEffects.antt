@@ -16,12 +16,12 @@ use Rattle.wired_rules_laws.specs.Steady.{WiredQuiet}
 use Rattle.wired_rules_laws.proofs.SoundParts.{wired-sound-quiet}
 use Rattle.wired.specs.Controller.{Out, wireCall, readCall, writeCall}
 use Rattle.wired.proofs.CallLaws.{flushed-quiet}
-use Rattle.board_block.specs.Block.{Board, withFiles, withWired, boardSound}
+use Rattle.board_block.specs.Block.{Board, withWired, boardSound}
 use Rattle.board_block.specs.Start.{startBoard}
 use Rattle.board_block_laws.proofs.StartEffects.{start-sound}
 use Rattle.board_call.specs.declared.Call.the-variants as call
 use Rattle.board_call.specs.Change.{Changed, onFile, answering, change}
-use Rattle.board_call.specs.Outcome.{Stepped, thenSent, step}
+use Rattle.board_call.specs.Outcome.{Stepped, delivered, thenSent, step}
 
 -- ---- the two parts of a sound board
 
@@ -43,7 +43,7 @@ module _ (b : Board) (sound : boardSound b ≡ true) where
 abbrev pub wiredStep : Board → Out → ℕ → List ℕ → Stepped
 wiredStep b o v s =
     record {
-      board = withFiles (withWired b (o .wired)) (allReached (b .files) (o .messages));
+      board = delivered (withWired b (o .wired)) (o .messages);
       value = v;
       messages = o .messages;
       saved = s;

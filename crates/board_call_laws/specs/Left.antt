@@ -6,12 +6,12 @@ use Prim.Native.Nat.{ℕ}
 use mathlib.Core.Path.{_≡_}
 use mathlib.Core.List.{List}
 use lib.ListN.{length}
-use Rattle.files.specs.Files.{allReached}
 use Rattle.domain_sending.specs.Sending.{logged}
 use Rattle.wired.specs.Controller.{Out}
-use Rattle.board_block.specs.Block.{withFiles, withWired, boardOf}
+use Rattle.board_block.specs.Block.{withWired, boardOf}
+use Rattle.board_call.specs.Outcome.{delivered}
 
 abbrev pub Left : Out → List ℕ → List ℕ → List ℕ → List ℕ → ℕ → Type 0
 Left o l l′ g g′ n =
-    (boardOf l′ ≡ withFiles (withWired (boardOf l) (o .wired)) (allReached (boardOf l .files) (o .messages)))
+    (boardOf l′ ≡ delivered (withWired (boardOf l) (o .wired)) (o .messages))
     × (g′ ≡ logged g (o .messages)) × (n ≡ length (o .messages))

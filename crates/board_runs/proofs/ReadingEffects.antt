@@ -31,7 +31,7 @@ use Rattle.board_call.specs.declared.Call.{Call}
 use Rattle.board_call.specs.declared.Call.the-variants.{Reset, Wire, DomainRead, DomainWrite, PageRead}
 use Rattle.board_call.specs.declared.Call.the-variants.{PageWrite, Register, Top, Claim, Signals, Move}
 use Rattle.board_call.specs.Change.{kindOf}
-use Rattle.board_call.specs.Outcome.{Outcome, Stepped, step}
+use Rattle.board_call.specs.Outcome.{Outcome, Stepped, delivered, step}
 use Rattle.board_call.specs.Refusal.{testsRules, refusalOf}
 use Rattle.board_call.proofs.RefusalLaws.{passed-state, passed-rules, refused-none}
 use Rattle.board_call_laws.proofs.CallTests.{quiet}
@@ -94,8 +94,7 @@ module _ (b : Board) (sound : boardSound b ≡ true) (u : List ℕ) where
       let e = step-domainRead b d a u in
       let silent = readCall-none (b .wired) (eqb d 1) (wordAt a) none (sound-quiet b sound) in (
         ap (λ (y : Stepped). y .board) e
-            ∙ ap (λ (o : Out). withFiles (withWired b (o .wired)) (allReached (b .files) (o .messages)))
-            silent,
+            ∙ ap (λ (o : Out). delivered (withWired b (o .wired)) (o .messages)) silent,
         ap (λ (y : Stepped). y .messages) e ∙ ap (λ (o : Out). o .messages) silent,
         ap (λ (y : Stepped). y .saved) e,
       )

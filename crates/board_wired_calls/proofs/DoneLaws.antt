@@ -1,12 +1,12 @@
 -- What an accepted call leaves: the wired part came back, then the files. No contract cites this file.
 -- Assumes nothing.
 use Prim.Native.Nat.{ℕ, _≤_, _<_}
-use mathlib.Core.Path.{_≡_, sym, ap, ap₂, subst, _∙_}
+use mathlib.Core.Path.{_≡_, sym, ap, subst, _∙_}
 use mathlib.Core.Bool.{Bool, true}
 use mathlib.Core.List.{List, []}
 use native.Mathlib.Omega.{arith}
 use lib.ListN.{length, take, drop}
-use Rattle.files.specs.Files.{filesOf, allReached, Named}
+use Rattle.files.specs.Files.{Named}
 use Rattle.files.proofs.FilesLaws.{named-of}
 use Rattle.domain_region.specs.Region.{Within}
 use Rattle.domain_region.specs.declared.Word.{Word}
@@ -17,9 +17,9 @@ use Rattle.domain_sending_laws.proofs.MessageEffects.{logged-back, logged-every
 use Rattle.wired.specs.Controller.{Out, Leaves, wireCall, readCall, writeCall}
 use Rattle.wired.proofs.CallLaws.{words-steady, words-quiet, read-silent}
 use Rattle.wired_laws.proofs.OutEffects.{Exists, wire-count, write-count}
-use Rattle.board_block.specs.Block.{withFiles, withWired, boardOf, boardSound}
-use Rattle.board_block.proofs.BlockLaws.{wired-part, wired-long, wiredPut, filesPut}
-use Rattle.board_block.proofs.BlockLaws.{put-wired-files, files-behind}
+use Rattle.board_block.specs.Block.{withWired, boardOf, boardSound}
+use Rattle.board_block.proofs.BlockLaws.{wired-part, wired-long, wiredPut, put-wired}
+use Rattle.board_call.specs.Outcome.{delivered}
 use Rattle.board_call_laws.proofs.StepEffects.{sound-wired}
 use Rattle.board_call_laws.specs.Left.{Left}
 use Rattle.sizes.specs.Sizes.{blockSize, filesSize, wiredSize}
@@ -75,18 +75,14 @@ left-named o w g g′ n (a, b, k) exist =
     (named-of (logged g (o .messages)) n
     (λ j h. logged-every Exists (o .messages) g exist j (omega arith)))
 
-module _ (l zs ys g g′ : List ℕ) (n : ℕ) (long : length l ≡ blockSize) (wired : length zs ≡ wiredSize)
-    (files : length ys ≡ filesSize) where
-  pub done-left : (o : Out) → Leaves o (wiredOf zs) g g′ n
-      → filesOf ys ≡ allReached (filesOf (take filesSize (wiredPut l zs))) (take n g′)
-      → Left o l (filesPut (wiredPut l zs) ys) g g′ n
-  done-left o (a, b, k) e =
+-- the wired part zs came back, and then the messages were delivered
+module _ (l zs g g′ : List ℕ) (n : ℕ) (long : length l ≡ blockSize) (part : length zs ≡ wiredSize) where
+  pub done-left : (o : Out) → Leaves o (wiredOf zs) g g′ n → (l′ : List ℕ)
+      → boardOf l′ ≡ delivered (boardOf (wiredPut l zs)) (take n g′) → Left o l l′ g g′ n
+  done-left o (a, b, k) l′ e =
+      let put = put-wired l zs long part ∙ ap (withWired (boardOf l)) a in
       let sent : take n g′ ≡ o .messages = ap (take n) b ∙ logged-back (o .messages) g n k in
-      let all = e ∙ ap₂ allReached (files-behind l zs long wired) sent in (
-        put-wired-files l ys zs long files wired ∙ (λ j. withFiles (withWired (boardOf l) (a j)) (all j)),
-        b,
-        k,
-      )
+      (e ∙ (λ j. delivered (put j) (sent j)), b, k)
 
 pub left-of : {o p : Out} → o ≡ p → (l l′ g g′ : List ℕ) (n : ℕ) → Left o l l′ g g′ n
     → Left p l l′ g g′ n

@@ -7,8 +7,8 @@ ghost use Rattle.sizes.specs.Sizes.{slotCount, blockSize, logSize};
 ghost use Rattle.wired.specs.Controller.{wireCall};
 ghost use Rattle.board_block.specs.Block.{boardOf, boardSound};
 ghost use Rattle.board_call_laws.specs.Left.{Left};
+use super::delivery::delivered;
 use sizes::BLOCK_SIZE;
-use sizes::FILES_SIZE;
 use sizes::WIRED_PLACE;
 
 // Answers the number of messages.
@@ -19,6 +19,6 @@ pub fn wire_done(state: &mut [u32], log: &mut [u32], i: usize, level: bool) -> u
         (now (state .entry)) (now (state .exit)) (now (log .entry)) (now (log .exit)) r ⌝ }
 {
     let n = wired::set_wire(&mut state[WIRED_PLACE..BLOCK_SIZE], log, i, level);
-    files::deliver(&mut state[0..FILES_SIZE], log, n);
+    delivered(state, log, n);
     n
 }

@@ -1,5 +1,6 @@
 // The calls on the wired controller: a wire set, a word of a domain read or written.
 mod calls;
+mod delivery;
 mod done;
 mod seen;
 mod written;

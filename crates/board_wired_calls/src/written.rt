@@ -8,9 +8,9 @@ ghost use Rattle.domain_region.specs.Region.{Within};
 ghost use Rattle.wired.specs.Controller.{writeCall};
 ghost use Rattle.board_block.specs.Block.{boardOf, boardSound};
 ghost use Rattle.board_call_laws.specs.Left.{Left};
+use super::delivery::delivered;
 use domain_region::Word;
 use sizes::BLOCK_SIZE;
-use sizes::FILES_SIZE;
 use sizes::WIRED_PLACE;
 
 // Answers the number of messages.
@@ -21,6 +21,6 @@ pub fn write_done(state: &mut [u32], log: &mut [u32], child: bool, word: Word, v
         (now (state .entry)) (now (state .exit)) (now (log .entry)) (now (log .exit)) r ⌝ }
 {
     let n = wired::write(&mut state[WIRED_PLACE..BLOCK_SIZE], log, child, word, value);
-    files::deliver(&mut state[0..FILES_SIZE], log, n);
+    delivered(state, log, n);
     n
 }

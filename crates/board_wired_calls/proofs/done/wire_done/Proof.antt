@@ -4,7 +4,7 @@ use lib.ListN.{take, drop}
 use Rattle.wired_state.specs.Wires.{Wired, wiredOf}
 use Rattle.wired.specs.Controller.{wireCall}
 use Rattle.wired_laws.proofs.OutEffects.{wire-exists}
-use Rattle.board_block.proofs.BlockLaws.{files-long, wired-long, wired-part, wiredPut, put-wired-long}
+use Rattle.board_block.proofs.BlockLaws.{wired-long, wired-part, wiredPut, put-wired-long}
 use Rattle.board_wired_calls.proofs.DoneLaws.{part-sound, wire-within, left-named, done-left, left-of}
 use borrow.Author.Needs.{needs}
 use Rattle.board_wired_calls.proofs.done.wire_done.Statement.{statement}
@@ -31,17 +31,8 @@ set-wire-requires c κs =
       part-sound l (start .pre .0) (start .pre .4),
     )
 
-sub-deliver : tie.Need-sub-deliver
-sub-deliver c = search needs
-
-part-deliver-start : tie.Need-part-deliver-start
-part-deliver-start c = search needs
-
-part-deliver-end : tie.Need-part-deliver-end
-part-deliver-end c = search needs
-
-deliver-requires : tie.Need-deliver-requires
-deliver-requires c κs =
+delivered-requires : tie.Need-delivered-requires
+delivered-requires c κs =
     let at-call = c .before .before .before .before .before .before in
     let start = at-call .before .before .before .before .before in
     let args = start .args in
@@ -49,7 +40,7 @@ deliver-requires c κs =
     let long = start .pre .0 in
     let zs = at-call .set-wire .last .0 in
     let left = at-call .set-wire .ensures in (
-      files-long (wiredPut l zs) (put-wired-long l zs long (at-call .set-wire .kept .0 ∙ wired-long l long)),
+      put-wired-long l zs long (at-call .set-wire .kept .0 ∙ wired-long l long),
       at-call .set-wire .kept .1 .0 ∙ start .pre .1,
       wire-within l long (start .pre .4) _ (args .i) (start .pre .2) (start .pre .3) (args .level) (left .2),
       left-named _ _ (args .log .now) _ _ left (wire-exists (wiredOf (take wiredSize (drop filesSize l))) (args .i)
@@ -64,8 +55,8 @@ same-length-2 c = search needs
 
 returns : tie.Need-returns
 returns c =
-    let at-deliver = c .before .before in
-    let at-call = at-deliver .before .before .before .before .before .before .before in
+    let at-delivered = c .before .before in
+    let at-call = at-delivered .before .before .before .before .before .before .before in
     let start = at-call .before .before .before .before .before in
     let args = start .args in
     let l = args .state .now in
@@ -76,9 +67,7 @@ returns c =
       wire-within l long (start .pre .4) _ (args .i) (start .pre .2) (start .pre .3) (args .level) (left .2),
       left-of (ap (λ (w : Wired). wireCall w (args .i) (args .level)) (wired-part l long)) l _
           (args .log .now) _ _
-          (done-left l zs (at-deliver .deliver .last .0) (args .log .now) _ _ long whole
-          (at-deliver .deliver .kept .0 ∙ files-long (wiredPut l zs) (put-wired-long l zs long whole)) _ left
-          (at-deliver .deliver .ensures)),
+          (done-left l zs (args .log .now) _ _ long whole _ left _ (at-delivered .delivered .ensures)),
     )
 
 pub wire-done-spec : {M : Type 1} → statement M
@@ -89,10 +78,7 @@ wire-done-spec =
     part-set-wire-start
     part-set-wire-end
     set-wire-requires
-    sub-deliver
-    part-deliver-start
-    part-deliver-end
-    deliver-requires
+    delivered-requires
     same-length
     same-length-2
     returns)

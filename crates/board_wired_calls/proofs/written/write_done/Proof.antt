@@ -4,7 +4,7 @@ use lib.ListN.{take, drop}
 use Rattle.wired_state.specs.Wires.{Wired, wiredOf}
 use Rattle.wired.specs.Controller.{writeCall}
 use Rattle.wired_laws.proofs.OutEffects.{write-exists}
-use Rattle.board_block.proofs.BlockLaws.{files-long, wired-long, wired-part, wiredPut, put-wired-long}
+use Rattle.board_block.proofs.BlockLaws.{wired-long, wired-part, wiredPut, put-wired-long}
 use Rattle.board_wired_calls.proofs.DoneLaws.{part-sound, write-within, left-named, done-left, left-of}
 use borrow.Author.Needs.{needs}
 use Rattle.board_wired_calls.proofs.written.write_done.Statement.{statement}
@@ -26,17 +26,8 @@ write-requires c κs =
     let l = start .args .state .now in
     (wired-long l (start .pre .0), start .pre .1, start .pre .2, part-sound l (start .pre .0) (start .pre .3))
 
-sub-deliver : tie.Need-sub-deliver
-sub-deliver c = search needs
-
-part-deliver-start : tie.Need-part-deliver-start
-part-deliver-start c = search needs
-
-part-deliver-end : tie.Need-part-deliver-end
-part-deliver-end c = search needs
-
-deliver-requires : tie.Need-deliver-requires
-deliver-requires c κs =
+delivered-requires : tie.Need-delivered-requires
+delivered-requires c κs =
     let at-call = c .before .before .before .before .before .before in
     let start = at-call .before .before .before .before .before in
     let args = start .args in
@@ -44,7 +35,7 @@ deliver-requires c κs =
     let long = start .pre .0 in
     let zs = at-call .write .last .0 in
     let left = at-call .write .ensures in (
-      files-long (wiredPut l zs) (put-wired-long l zs long (at-call .write .kept .0 ∙ wired-long l long)),
+      put-wired-long l zs long (at-call .write .kept .0 ∙ wired-long l long),
       at-call .write .kept .1 .0 ∙ start .pre .1,
       write-within l long (start .pre .3) _ (args .child) (args .word) (start .pre .2) (args .value)
           (left .2),
@@ -60,8 +51,8 @@ same-length-2 c = search needs
 
 returns : tie.Need-returns
 returns c =
-    let at-deliver = c .before .before in
-    let at-call = at-deliver .before .before .before .before .before .before .before in
+    let at-delivered = c .before .before in
+    let at-call = at-delivered .before .before .before .before .before .before .before in
     let start = at-call .before .before .before .before .before in
     let args = start .args in
     let l = args .state .now in
@@ -73,9 +64,7 @@ returns c =
           (left .2),
       left-of (ap (λ (w : Wired). writeCall w (args .child) (args .word) (args .value))
           (wired-part l long)) l _ (args .log .now) _ _
-          (done-left l zs (at-deliver .deliver .last .0) (args .log .now) _ _ long whole
-          (at-deliver .deliver .kept .0 ∙ files-long (wiredPut l zs) (put-wired-long l zs long whole)) _ left
-          (at-deliver .deliver .ensures)),
+          (done-left l zs (args .log .now) _ _ long whole _ left _ (at-delivered .delivered .ensures)),
     )
 
 pub write-done-spec : {M : Type 1} → statement M
@@ -86,10 +75,7 @@ write-done-spec =
     part-write-start
     part-write-end
     write-requires
-    sub-deliver
-    part-deliver-start
-    part-deliver-end
-    deliver-requires
+    delivered-requires
     same-length
     same-length-2
     returns)

@@ -1,0 +1,19 @@
+// The messages that a call has logged reach their files: the one place where a call delivers.
+ghost use mathlib.Core.Path.{_≡_};
+ghost use Prim.Native.Nat.{_≤_};
+ghost use lib.ListN.{length, take};
+ghost use Rattle.sizes.specs.Sizes.{blockSize, logSize};
+ghost use Rattle.files.specs.Files.{Named};
+ghost use Rattle.board_block.specs.Block.{boardOf};
+ghost use Rattle.board_call.specs.Outcome.{delivered};
+use sizes::FILES_SIZE;
+
+// The first `count` words of `log`, in order.
+pub fn delivered(state: &mut [u32], log: &[u32], count: usize)
+    requires { ⌜ (length (now state) ≡ blockSize) × (length (now log) ≡ logSize) × (count ≤ logSize)
+        × Named (now log) count ⌝ }
+    ensures { λ r. ⌜ boardOf (now (state .exit))
+        ≡ delivered (boardOf (now (state .entry))) (take count (now (log .entry))) ⌝ }
+{
+    files::deliver(&mut state[0..FILES_SIZE], log, count);
+}
