@@ -19,7 +19,7 @@ use Rattle.domain_laws.proofs.ZeroEffects.{domainOf-zeros}
 use Rattle.wired_state.specs.Wires.{wiredOf}
 use Rattle.wired_state.proofs.WiresLaws.{wired-path, wires-read, root-part, child-part}
 use Rattle.board_block.specs.Start.{startFile, startFilesFrom, startDomain, startBoard}
-use Rattle.sizes.specs.Sizes.{blockSize, filesSize, wiredSize}
+use Rattle.sizes.specs.Sizes.{blockSize, filesSize, wiredSize, fileCount}
 
 -- ---- the files
 
@@ -53,7 +53,8 @@ theFile-startFilesFrom k (suc n) (suc i) h =
     ∙ theFile-startFilesFrom (suc k) n i (omega arith) ∙ ap startFile (omega arith)
 
 -- the start file put in as number k is one more of them
-pub start-more : (fs gs : List File) (k : ℕ) → length fs ≡ 20 → k < 20 → gs ≡ withFile fs k (startFile k)
+pub start-more : (fs gs : List File) (k : ℕ) → length fs ≡ fileCount → k < fileCount
+    → gs ≡ withFile fs k (startFile k)
     → ((j : ℕ) → j < k → theFile fs j ≡ startFile j) → (j : ℕ) → j < k + 1 → theFile gs j ≡ startFile j
 start-more fs gs k many h e each j below = ap (λ (hs : List File). theFile hs j) e ∙ at (ℕ-discrete j k)
   where
@@ -64,7 +65,7 @@ start-more fs gs k many h e each j below = ap (λ (hs : List File). theFile hs j
 -- the files below k are those of the start, and the others are 0
 pub record Started (k : ℕ) (fs : List File) : Type 0 where
   pub below : (j : ℕ) → j < k → theFile fs j ≡ startFile j
-  pub above : (j : ℕ) → k ≤ j → j < 20 → theFile fs j ≡ zerosBut 0
+  pub above : (j : ℕ) → k ≤ j → j < fileCount → theFile fs j ≡ zerosBut 0
 
 pub started-zeros : (l : List ℕ) → l ≡ replicate filesSize 0 → Started 0 (filesOf l)
 started-zeros l e =
@@ -74,7 +75,7 @@ started-zeros l e =
     }
 
 -- the signal put into number k is the start's file there
-pub started-signal : (fs gs : List File) (k : ℕ) → length fs ≡ 20 → k < 20 → k % 5 < 2
+pub started-signal : (fs gs : List File) (k : ℕ) → length fs ≡ fileCount → k < fileCount → k % 5 < 2
     → gs ≡ withFile fs k (withDelivery (theFile fs k) 0x40000000) → Started k fs → Started (k + 1) gs
 started-signal fs gs k many h m e s =
     let f = withDelivery (theFile fs k) 0x40000000 in
@@ -87,7 +88,7 @@ started-signal fs gs k many h m e s =
     }
 
 -- a guest's file that is 0 is the start's
-pub started-guests : (fs : List File) (k n : ℕ) → n ≤ 20 → k ≤ n
+pub started-guests : (fs : List File) (k n : ℕ) → n ≤ fileCount → k ≤ n
     → ((j : ℕ) → k ≤ j → j < n → 2 ≤ j % 5) → Started k fs → Started n fs
 started-guests fs k n h l guests s =
     record { below = λ j q. at j q (decLt j k); above = λ j b q. s .above j (omega arith) q }
@@ -98,12 +99,13 @@ started-guests fs k n h l guests s =
         s .above j (omega arith) (omega arith) ∙ start-guest j (guests j (omega arith) q)
 
 -- files that are one by one those of the start are all of them
-pub start-files : (l : List ℕ) → ((j : ℕ) → j < 20 → theFile (filesOf l) j ≡ startFile j)
-    → filesOf l ≡ startFilesFrom 0 20
+pub start-files : (l : List ℕ) → ((j : ℕ) → j < fileCount → theFile (filesOf l) j ≡ startFile j)
+    → filesOf l ≡ startFilesFrom 0 fileCount
 start-files l each =
-    files-same (filesOf l) (startFilesFrom 0 20) (length-filesOf l ∙ sym (length-startFilesFrom 0 20))
-    (λ j q. let h : j < 20 = omega (arith, length-filesOf l) in
-    each j h ∙ sym (theFile-startFilesFrom 0 20 j h ∙ ap startFile (omega arith)))
+    files-same (filesOf l) (startFilesFrom 0 fileCount)
+    (length-filesOf l ∙ sym (length-startFilesFrom 0 fileCount))
+    (λ j q. let h : j < fileCount = omega (arith, length-filesOf l) in
+    each j h ∙ sym (theFile-startFilesFrom 0 fileCount j h ∙ ap startFile (omega arith)))
 
 -- ---- words that are 0
 
@@ -113,7 +115,8 @@ all-filled l i n h e =
     ap (λ (x : List ℕ). replicate i 0 ++ x) (ap (λ (k : ℕ). drop k l) (sym h) ∙ drop-length l)
     ∙ append-nil (replicate i 0) ∙ ap (λ (k : ℕ). replicate k 0) e
 
-pub start-wired : (l : List ℕ) → l ≡ replicate blockSize 0 → wiredOf (take wiredSize (drop filesSize l)) ≡ startBoard .wired
+pub start-wired : (l : List ℕ) → l ≡ replicate blockSize 0
+    → wiredOf (take wiredSize (drop filesSize l)) ≡ startBoard .wired
 unfolding startBoard startDomain
 start-wired l e =
     let ws : List ℕ = replicate wiredSize 0 in

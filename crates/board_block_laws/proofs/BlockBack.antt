@@ -22,7 +22,7 @@ use Rattle.board_block.proofs.BlockLaws.{board-path, files-long, wired-long}
 use Rattle.board_block_laws.specs.Shape.{BoardShaped}
 use Rattle.board_block_laws.proofs.DomainBack.{stretch-at, wired-words-back, length-wiredWords}
 use Rattle.board_block_laws.proofs.DomainBack.{wired-back}
-use Rattle.sizes.specs.Sizes.{blockSize, childPlace, domainSize, filesSize, wiredSize}
+use Rattle.sizes.specs.Sizes.{blockSize, childPlace, domainSize, filesSize, wiredSize, fileSize}
 
 -- ---- from the block to the board and back
 
@@ -57,7 +57,7 @@ blocks-same l m hl hm e = sym (block-back l hl) ∙ ap blockOf e ∙ block-back 
 -- ---- from the board to the block and back
 
 length-wordsOf : (fs : List File) → ((k : ℕ) → k < length fs → Long (theFile fs k))
-    → length (wordsOf fs) ≡ 18 * length fs
+    → length (wordsOf fs) ≡ fileSize * length fs
 unfolding wordsOf theFile
 length-wordsOf [] long = refl
 length-wordsOf (f ∷ fs) long =
@@ -72,7 +72,7 @@ module _ (b : Board) (shaped : BoardShaped b) where
   length-files : length filesWords ≡ filesSize
   length-files =
       length-wordsOf (b .files) (λ k h. shaped .long k (omega (arith, shaped .many)))
-      ∙ ap (λ (n : ℕ). 18 * n) (shaped .many)
+      ∙ ap (λ (n : ℕ). fileSize * n) (shaped .many)
 
   length-wired : length (wiredWords (b .wired)) ≡ wiredSize
   length-wired = length-wiredWords (b .wired) (shaped .wires) (shaped .root) (shaped .child)
@@ -88,5 +88,6 @@ module _ (b : Board) (shaped : BoardShaped b) where
       board-path (ap filesOf (stretch-at (blockOf b) [] filesWords ws 0 filesSize refl refl length-files)
       ∙ files-back (b .files) (shaped .many) (shaped .long))
       (ap wiredOf
-      (stretch-at (blockOf b) filesWords ws [] filesSize wiredSize (simp append-nil) length-files length-wired)
+      (stretch-at (blockOf b) filesWords ws [] filesSize wiredSize
+      (simp append-nil) length-files length-wired)
       ∙ wired-back (b .wired) (shaped .wires) (shaped .root) (shaped .child))

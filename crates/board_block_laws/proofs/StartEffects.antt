@@ -30,6 +30,7 @@ use Rattle.board_block.specs.Block.{boardSound}
 use Rattle.board_block.specs.Start.{startFile, startFilesFrom, startDomain, startBoard}
 use Rattle.board_block.proofs.StartLaws.{theFile-startFilesFrom}
 use Rattle.board_block_laws.specs.Shape.{BoardShaped}
+use Rattle.sizes.specs.Sizes.{fileCount}
 
 -- every rule computes
 start-files-sound : filesSound (startBoard .files) ≡ true
@@ -54,7 +55,7 @@ unfolding startBoard startDomain startFilesFrom
 start-shaped =
     record {
       many = refl;
-      long = λ k h. rw (theFile-startFilesFrom 0 20 k h) (start-long (0 + k));
+      long = λ k h. rw (theFile-startFilesFrom 0 fileCount k h) (start-long (0 + k));
       wires = refl;
       root = domain-shaped;
       child = domain-shaped;

@@ -11,7 +11,7 @@ use lib.Dec.{ltb, leb}
 use lib.ListN.{length, take}
 use borrow.Author.Tests.{ltb-true}
 use Rattle.words.proofs.TestsLaws.{and-first, and-second}
-use Rattle.sizes.specs.Sizes.{identities, blockSize, filesSize}
+use Rattle.sizes.specs.Sizes.{identities, blockSize, filesSize, fileCount}
 use Rattle.file_select.specs.Select.{selectLegal}
 use Rattle.file.specs.declared.File.{File}
 use Rattle.file.specs.declared.register.Access.{Access}
@@ -48,7 +48,7 @@ module _ (h f : ℕ) where
     unfolding isFile
     file-lt = ltb-true f 5 (and-second (ltb h 4) (ltb f 5) there)
 
-    pub number-lt : 5 * h + f < 20
+    pub number-lt : 5 * h + f < fileCount
     number-lt = omega (arith, hart-lt, file-lt)
 
     pub guest-file : leb 2 f ≡ isGuest (fileNumber h f)

@@ -10,7 +10,7 @@ use mathlib.Core.List.{List, []}
 use lib.ListN.{length, getD, replicate, take, getD-replicate, List·getD-eq-default}
 use Rattle.words.specs.Sets.{WordsFit}
 use Rattle.words.proofs.TestsLaws.{tested, and-both}
-use Rattle.sizes.specs.Sizes.{identities, blockSize, filesSize}
+use Rattle.sizes.specs.Sizes.{identities, blockSize, filesSize, fileCount}
 use Rattle.file.specs.declared.File.{File}
 use Rattle.file.specs.Shape.{Shaped}
 use Rattle.file_laws.proofs.Keeps.{Rules, rules-of, sound-of}
@@ -41,7 +41,8 @@ use Rattle.board_call_laws.specs.Fit.{Fit}
 use Rattle.board_call_laws.proofs.StepEffects.{sound-files, sound-wired}
 
 -- the board of a block of words of 32 bits that keeps the rules
-pub fit-block : (l : List ℕ) → length l ≡ blockSize → WordsFit l → boardSound (boardOf l) ≡ true → Fit (boardOf l)
+pub fit-block : (l : List ℕ) → length l ≡ blockSize → WordsFit l → boardSound (boardOf l) ≡ true
+    → Fit (boardOf l)
 fit-block l long fit sound =
     record {
       shaped = boardOf-shaped l long;
@@ -59,7 +60,7 @@ module _ (b : Board) (fit : Fit b) where
   pub fit-steady : WiredSteady (b .wired)
   fit-steady = shaped-steady b (fit .shaped) (fit .sound)
 
-  pub fit-rules : (k : ℕ) → k < 20 → Rules identities (isGuest k) (theFile (b .files) k)
+  pub fit-rules : (k : ℕ) → k < fileCount → Rules identities (isGuest k) (theFile (b .files) k)
   fit-rules k h =
       rules-of identities (isGuest k) (theFile (b .files) k)
       (filesSound-1 (b .files) (sound-files b (fit .sound)) k h)
@@ -70,7 +71,7 @@ module _ (b : Board) (fit : Fit b) where
       → Fit (withFiles b (withFile (b .files) k f))
   unfolding boardSound
   fit-withFile k f s r =
-      let all : (j : ℕ) → j < 20 → Shaped (theFile (withFile (b .files) k f) j) = λ j h.
+      let all : (j : ℕ) → j < fileCount → Shaped (theFile (withFile (b .files) k f) j) = λ j h.
       withFile-keeps Shaped (b .files) k f j (λ e. s) (fit .files j h) in
       record {
         shaped =
@@ -96,7 +97,7 @@ module _ (b : Board) (fit : Fit b) where
       → Fit (delivered (withWired b w) ms)
   unfolding boardSound
   fit-wired w ms sound wires root child =
-      let all : (j : ℕ) → j < 20 → Shaped (theFile (allReached (b .files) ms) j) = λ j h.
+      let all : (j : ℕ) → j < fileCount → Shaped (theFile (allReached (b .files) ms) j) = λ j h.
       allReached-shaped ms (b .files) j (fit .files j h) in
       record {
         shaped =
@@ -143,9 +144,9 @@ fit-flushed b fit w s ms sound =
 -- ---- the start
 
 -- the words of its files are small
-start-fit : (k : ℕ) → k < 20 → Shaped (theFile (startBoard .files) k)
+start-fit : (k : ℕ) → k < fileCount → Shaped (theFile (startBoard .files) k)
 unfolding startBoard
-start-fit k h = rw (theFile-startFilesFrom 0 20 k h) (start-file (0 + k))
+start-fit k h = rw (theFile-startFilesFrom 0 fileCount k h) (start-file (0 + k))
   where
     zeros : WordsFit (replicate 8 0)
     zeros = unfold WordsFit in λ k. at k (decLt k 8)

@@ -8,7 +8,7 @@ use native.Mathlib.Omega.{arith}
 use lib.Dec.{eqb, ltb}
 use lib.ListN.{length}
 use Rattle.words.proofs.TestsLaws.{and-first}
-use Rattle.sizes.specs.Sizes.{identities}
+use Rattle.sizes.specs.Sizes.{identities, fileCount}
 use Rattle.file.specs.declared.File.{File}
 use Rattle.file.specs.Page.{pageWritten}
 use Rattle.file.specs.Register.{accessed}
@@ -75,7 +75,7 @@ module _ (b : Board) (fit : Fit b) (s : List ℕ) (small : SavedFit s) where
     abbrev x : File
     x = theFile (b .files) k
 
-    below : k < 20
+    below : k < fileCount
     below = omega (arith, number-read h f, number-lt h f there)
 
     pub kept-pageWrite : (a v : ℕ) → Kept (step (call.PageWrite h f a v) b s)

@@ -11,7 +11,7 @@ use lib.ListN.{length, getD, set}
 use lib.Seq.{getD-set-same, getD-set-other, set-out}
 use borrow.Author.Tests.{ltb-true, leb-true}
 use Rattle.words.proofs.TestsLaws.{tested, and-first, and-second}
-use Rattle.sizes.specs.Sizes.{identities}
+use Rattle.sizes.specs.Sizes.{identities, fileCount}
 use Rattle.file_select.specs.Select.{selectLegal, registerOf}
 use Rattle.file.specs.declared.File.{File}
 use Rattle.file.specs.declared.register.Access.{Access}
@@ -57,7 +57,7 @@ module _ (h f : ℕ) (there : isGuestFile h f ≡ true) where
   unfolding isGuestFile
   guest-high = ltb-true f 5 (and-second low (ltb f 5) there)
 
-  pub guest-number : fileNumber h f < 20
+  pub guest-number : fileNumber h f < fileCount
   unfolding fileNumber
   guest-number = omega (arith, guest-hart, guest-high)
 

@@ -1,6 +1,6 @@
 -- What holds of every line of the table of accesses, by a test that computes over the whole table. No
 -- contract cites this file. Assumes nothing.
-use Prim.Native.Nat.{ℕ, _≤_, _<_}
+use Prim.Native.Nat.{ℕ, _-_, _≤_, _<_}
 use mathlib.Core.Path.{_≡_, refl}
 use mathlib.Core.Bool.{Bool, true, false, not}
 use mathlib.Core.Logic.{_⊎_, inl, inr}
@@ -30,7 +30,7 @@ first-else : every (λ n. not (isTarget (actOf n))) 1 8 ≡ true
 unfolding every isTarget actOf
 first-else = refl
 
-last-else : every (λ n. not (isTarget (actOf n))) 72 18 ≡ true
+last-else : every (λ n. not (isTarget (actOf n))) 72 (accesses - 71) ≡ true
 unfolding every isTarget actOf
 last-else = refl
 
@@ -38,4 +38,4 @@ pub act-else : (n : ℕ) → 1 ≤ n → n ≤ accesses → (n ≤ 8) ⊎ (71 < 
 act-else n l h (inl a) =
     not-true _ (every-each (λ k. not (isTarget (actOf k))) 1 8 first-else n l (omega arith))
 act-else n l h (inr a) =
-    not-true _ (every-each (λ k. not (isTarget (actOf k))) 72 18 last-else n a (omega arith))
+    not-true _ (every-each (λ k. not (isTarget (actOf k))) 72 (accesses - 71) last-else n a (omega arith))

@@ -14,7 +14,7 @@ use Rattle.sizes.specs.Sizes.{identities}
 use Rattle.file.specs.declared.File.{File}
 use Rattle.file.specs.Page.{arrived}
 use Rattle.file_message.specs.Message.{identityIn}
-use Rattle.source_target.specs.Target.{hartOf, guestOf, numberOf, keptTarget, messageOf}
+use Rattle.source_target.specs.Target.{hartAt, hartOf, guestOf, numberOf, keptTarget, messageOf}
 use Rattle.source_target.proofs.TargetLaws.{hartOf-lt, guestOf-lt, numberOf-lt, kept-child}
 use Rattle.file_message.proofs.MessageLaws.{hartIn-logWord, fileIn-logWord, identityIn-logWord}
 use Rattle.files.specs.Files.{fileNumber, theFile, withFile, namedBy, reached}
@@ -62,7 +62,7 @@ module _ (t h f : ℕ) (hh : h < 4) (lf : 1 ≤ f) (hf : f < 5) where
   kept-renamed =
       let guest : guestOf (renamed t h f) ≡ f - 1 = omega (arith, guestOf-renamed) in
       kept-child true true (renamed t h f) refl refl
-      ∙ ap₂ (λ (x y : ℕ). packed x 18 y) hartOf-renamed
+      ∙ ap₂ (λ (x y : ℕ). packed x hartAt y) hartOf-renamed
       (ap₂ (λ (x y : ℕ). packed x 12 y) guest numberOf-renamed)
 
   pub renamed-names : namesFile (renamed t h f) h f ≡ true

@@ -16,6 +16,7 @@ use Rattle.words.specs.Sets.{WordsFit}
 use Rattle.file.specs.declared.File.{File}
 use Rattle.file.specs.Shape.{Shaped}
 use Rattle.file_words.specs.Stored.{fileWords, fileAt, putFile}
+use Rattle.sizes.specs.Sizes.{fieldsSize, pendingPlace, enablePlace, thresholdPlace, fileSetSize}
 pub use Rattle.file.specs.Shape.{Long}
 
 -- ---- a run of stores, read at a place
@@ -74,21 +75,23 @@ file-path d t p e = λ k. record { delivery = d k; threshold = t k; pending = p 
 pub shaped-long : (f : File) → Shaped f → Long f
 shaped-long f s = record { pendingLong = s .pendingLong; enableLong = s .enableLong }
 
-pub words-long : (f : File) → Long f → length (fileWords f) ≡ 18
+pub words-long : (f : File) → Long f → length (fileWords f) ≡ fieldsSize
 unfolding fileWords
 words-long f s = omega (arith, length-append (f .pending) (f .enable), s .pendingLong, s .enableLong)
 
-words-pending : (f : File) → Long f → (i : ℕ) → i < 8 → getD (fileWords f) (2 + i) 0 ≡ getD (f .pending) i 0
+words-pending : (f : File) → Long f → (i : ℕ) → i < 8
+    → getD (fileWords f) (pendingPlace + i) 0 ≡ getD (f .pending) i 0
 unfolding fileWords
 words-pending f s i h =
-    let place : 2 + i ≡ suc (suc i) = omega arith in
+    let place : pendingPlace + i ≡ suc (suc i) = omega arith in
     ap (λ (k : ℕ). getD (fileWords f) k 0) place
     ∙ List·getD-append (f .pending) (f .enable) 0 i (omega (arith, s .pendingLong))
 
-words-enable : (f : File) → Long f → (i : ℕ) → i < 8 → getD (fileWords f) (10 + i) 0 ≡ getD (f .enable) i 0
+words-enable : (f : File) → Long f → (i : ℕ) → i < 8
+    → getD (fileWords f) (enablePlace + i) 0 ≡ getD (f .enable) i 0
 unfolding fileWords
 words-enable f s i h =
-    let place : 10 + i ≡ suc (suc (length (f .pending) + i)) = omega (arith, s .pendingLong) in
+    let place : enablePlace + i ≡ suc (suc (length (f .pending) + i)) = omega (arith, s .pendingLong) in
     ap (λ (k : ℕ). getD (fileWords f) k 0) place ∙ getD-append-add (f .pending) (f .enable) i 0
 
 module _ (l : List ℕ) (at : ℕ) (f : File) where
@@ -97,56 +100,59 @@ module _ (l : List ℕ) (at : ℕ) (f : File) where
   length-put = length-sets l at (fileWords f)
 
   -- word k of the file, where it stands in the block
-  put-word : Long f → at + 18 ≤ length l → (k : ℕ) → k < 18
+  put-word : Long f → at + fieldsSize ≤ length l → (k : ℕ) → k < fieldsSize
       → getD (putFile l at f) (at + k) 0 ≡ getD (fileWords f) k 0
   unfolding putFile
   put-word s h k m =
       sets-inside (fileWords f) l at k (omega (arith, words-long f s)) (omega (arith, words-long f s))
 
   -- what was stored is loaded
-  pub long-back : Long f → at + 18 ≤ length l → fileAt (putFile l at f) at ≡ f
+  pub long-back : Long f → at + fieldsSize ≤ length l → fileAt (putFile l at f) at ≡ f
   unfolding fileAt fileWords
   long-back s h =
       let m = putFile l at f in
-      let place : (j i : ℕ) → j + i < 18 → getD m (at + j + i) 0 ≡ getD (fileWords f) (j + i) 0 =
+      let place : (j i : ℕ) → j + i < fieldsSize → getD m (at + j + i) 0 ≡ getD (fileWords f) (j + i) 0 =
       λ j i r. ap (λ (k : ℕ). getD m k 0) (add-assoc at j i) ∙ put-word s h (j + i) r in
       file-path
       (ap (λ (k : ℕ). getD m k 0) (sym (add-zero at)) ∙ put-word s h 0 (omega arith))
-      (put-word s h 1 (omega arith))
-      (part-is m (f .pending) (at + 2) 8 (omega (arith, length-put)) (s .pendingLong)
-      (λ i q. place 2 i (omega arith) ∙ words-pending f s i q))
-      (part-is m (f .enable) (at + 10) 8 (omega (arith, length-put)) (s .enableLong)
-      (λ i q. place 10 i (omega arith) ∙ words-enable f s i q))
+      (put-word s h thresholdPlace (omega arith))
+      (part-is m (f .pending) (at + pendingPlace) 8 (omega (arith, length-put)) (s .pendingLong)
+      (λ i q. place pendingPlace i (omega arith) ∙ words-pending f s i q))
+      (part-is m (f .enable) (at + enablePlace) 8 (omega (arith, length-put)) (s .enableLong)
+      (λ i q. place enablePlace i (omega arith) ∙ words-enable f s i q))
 
   -- a file that stands apart is as it was
-  pub long-apart : Long f → (at′ : ℕ) → at + 18 ≤ length l → at′ + 18 ≤ length l
-      → (at′ + 18 ≤ at) ⊎ (at + 18 ≤ at′)
+  pub long-apart : Long f → (at′ : ℕ) → at + fieldsSize ≤ length l → at′ + fieldsSize ≤ length l
+      → (at′ + fieldsSize ≤ at) ⊎ (at + fieldsSize ≤ at′)
       → fileAt (putFile l at f) at′ ≡ fileAt l at′
   unfolding fileAt
   long-apart s at′ h h′ apart =
       let m = putFile l at f in
-      let same : (k : ℕ) → k < 18 → getD m (at′ + k) 0 ≡ getD l (at′ + k) 0 = λ k q. elsewhere k q apart in
-      let stretch : (j : ℕ) → j + 8 ≤ 18 → take 8 (drop (at′ + j) m) ≡ take 8 (drop (at′ + j) l) = λ j q.
+      let same : (k : ℕ) → k < fieldsSize
+      → getD m (at′ + k) 0 ≡ getD l (at′ + k) 0 = λ k q. elsewhere k q apart in
+      let stretch : (j : ℕ) → j + 8 ≤ fieldsSize
+      → take 8 (drop (at′ + j) m) ≡ take 8 (drop (at′ + j) l) = λ j q.
       part-same m l (at′ + j) (at′ + j) 8 (omega (arith, length-put)) (omega arith)
       (λ i b. ap (λ (k : ℕ). getD m k 0) (add-assoc at′ j i) ∙ same (j + i) (omega arith)
       ∙ ap (λ (k : ℕ). getD l k 0) (sym (add-assoc at′ j i))) in
       file-path
       (ap (λ (k : ℕ). getD m k 0) (sym (add-zero at′)) ∙ same 0 (omega arith)
       ∙ ap (λ (k : ℕ). getD l k 0) (add-zero at′))
-      (same 1 (omega arith)) (stretch 2 (omega arith)) (stretch 10 (omega arith))
+      (same thresholdPlace (omega arith)) (stretch pendingPlace (omega arith))
+      (stretch enablePlace (omega arith))
     where
-      elsewhere : (k : ℕ) → k < 18 → (at′ + 18 ≤ at) ⊎ (at + 18 ≤ at′)
+      elsewhere : (k : ℕ) → k < fieldsSize → (at′ + fieldsSize ≤ at) ⊎ (at + fieldsSize ≤ at′)
           → getD (putFile l at f) (at′ + k) 0 ≡ getD l (at′ + k) 0
       elsewhere k q =
           ⊎-elim (λ b. unfold putFile in sets-before (fileWords f) l at (at′ + k) (omega arith))
           (λ a. unfold putFile in sets-after (fileWords f) l at (at′ + k) (omega (arith, words-long f s)))
 
   -- so of one with the whole shape
-  pub file-back : Shaped f → at + 18 ≤ length l → fileAt (putFile l at f) at ≡ f
+  pub file-back : Shaped f → at + fieldsSize ≤ length l → fileAt (putFile l at f) at ≡ f
   file-back s = long-back (shaped-long f s)
 
-  pub file-apart : Shaped f → (at′ : ℕ) → at + 18 ≤ length l → at′ + 18 ≤ length l
-      → (at′ + 18 ≤ at) ⊎ (at + 18 ≤ at′)
+  pub file-apart : Shaped f → (at′ : ℕ) → at + fieldsSize ≤ length l → at′ + fieldsSize ≤ length l
+      → (at′ + fieldsSize ≤ at) ⊎ (at + fieldsSize ≤ at′)
       → fileAt (putFile l at f) at′ ≡ fileAt l at′
   file-apart s = long-apart (shaped-long f s)
 
@@ -164,50 +170,52 @@ part-fit l at n fit k = place (decLt k n)
         subst (λ (x : ℕ). x < 2 ^ 32) (sym (List·getD-eq-default (take n (drop at l)) 0 (past q)))
         (omega arith)
 
-pub loaded-long : (l : List ℕ) (at : ℕ) → at + 18 ≤ length l → Long (fileAt l at)
+pub loaded-long : (l : List ℕ) (at : ℕ) → at + fieldsSize ≤ length l → Long (fileAt l at)
 unfolding fileAt
 loaded-long l at h =
     record {
-      pendingLong = part-length l (at + 2) 8 (omega arith);
-      enableLong = part-length l (at + 10) 8 (omega arith);
+      pendingLong = part-length l (at + pendingPlace) 8 (omega arith);
+      enableLong = part-length l (at + enablePlace) 8 (omega arith);
     }
 
 -- a file loaded has the shape, where the block's words have 32 bits
-pub loaded-shaped : (l : List ℕ) (at : ℕ) → WordsFit l → at + 18 ≤ length l → Shaped (fileAt l at)
+pub loaded-shaped : (l : List ℕ) (at : ℕ) → WordsFit l → at + fieldsSize ≤ length l → Shaped (fileAt l at)
 unfolding fileAt WordsFit
 loaded-shaped l at fit h =
     record {
       deliveryFit = fit at;
-      thresholdFit = fit (at + 1);
-      pendingLong = part-length l (at + 2) 8 (omega arith);
-      pendingFit = part-fit l (at + 2) 8 fit;
-      enableLong = part-length l (at + 10) 8 (omega arith);
-      enableFit = part-fit l (at + 10) 8 fit;
+      thresholdFit = fit (at + thresholdPlace);
+      pendingLong = part-length l (at + pendingPlace) 8 (omega arith);
+      pendingFit = part-fit l (at + pendingPlace) 8 fit;
+      enableLong = part-length l (at + enablePlace) 8 (omega arith);
+      enableFit = part-fit l (at + enablePlace) 8 fit;
     }
 
 -- the words of a file loaded are the block's own
-pub words-loaded : (l : List ℕ) (at : ℕ) → at + 18 ≤ length l → take 18 (drop at l) ≡ fileWords (fileAt l at)
+pub words-loaded : (l : List ℕ) (at : ℕ) → at + fieldsSize ≤ length l
+    → take fieldsSize (drop at l) ≡ fileWords (fileAt l at)
 unfolding fileWords fileAt
 words-loaded l at h =
-    let next : at + 2 + 8 ≡ at + 10 = omega arith in
-    let two : suc (at + 1) ≡ at + 2 = omega arith in
-    let second : drop (suc at) l ≡ getD l (at + 1) 0 ∷ drop (at + 2) l =
-    ap (λ (k : ℕ). drop k l) (sym (add-one at)) ∙ drop-cons l (at + 1) 0 (omega arith)
-    ∙ ap (λ (k : ℕ). getD l (at + 1) 0 ∷ drop k l) two in
-    ap (take 18) (drop-cons l at 0 (omega arith) ∙ ap (λ (r : List ℕ). getD l at 0 ∷ r) second)
-    ∙ ap (λ (r : List ℕ). getD l at 0 ∷ getD l (at + 1) 0 ∷ r)
-    (take-add 8 8 (drop (at + 2) l)
-    ∙ ap (λ (r : List ℕ). take 8 (drop (at + 2) l) ++ take 8 r) (drop-drop 8 (at + 2) l
+    let next : at + pendingPlace + fileSetSize ≡ at + enablePlace = omega arith in
+    let two : suc (at + thresholdPlace) ≡ at + pendingPlace = omega arith in
+    let second : drop (suc at) l ≡ getD l (at + thresholdPlace) 0 ∷ drop (at + pendingPlace) l =
+    ap (λ (k : ℕ). drop k l) (sym (add-one at)) ∙ drop-cons l (at + thresholdPlace) 0 (omega arith)
+    ∙ ap (λ (k : ℕ). getD l (at + thresholdPlace) 0 ∷ drop k l) two in
+    ap (take fieldsSize) (drop-cons l at 0 (omega arith) ∙ ap (λ (r : List ℕ). getD l at 0 ∷ r) second)
+    ∙ ap (λ (r : List ℕ). getD l at 0 ∷ getD l (at + thresholdPlace) 0 ∷ r)
+    (take-add 8 8 (drop (at + pendingPlace) l)
+    ∙ ap (λ (r : List ℕ). take 8 (drop (at + pendingPlace) l) ++ take 8 r) (drop-drop 8 (at + pendingPlace) l
     ∙ ap (λ (k : ℕ). drop k l) next))
 
 -- what is loaded is stored back as it was
-pub block-back : (l : List ℕ) (at : ℕ) → at + 18 ≤ length l → putFile l at (fileAt l at) ≡ l
+pub block-back : (l : List ℕ) (at : ℕ) → at + fieldsSize ≤ length l → putFile l at (fileAt l at) ≡ l
 unfolding putFile
 block-back l at h =
     let same = words-loaded l at h in
-    let long : length (fileWords (fileAt l at)) ≡ 18 = ap length (sym same) ∙ part-length l at 18 h in
+    let long : length (fileWords (fileAt l at)) ≡ fieldsSize = ap length (sym same)
+    ∙ part-length l at fieldsSize h in
     sets-eq (fileWords (fileAt l at)) l at (omega arith)
     ∙ ap₂ (λ (r : List ℕ) (k : ℕ). take at l ++ r ++ drop (at + k) l) (sym same) long
-    ∙ ap (λ (r : List ℕ). take at l ++ take 18 (drop at l) ++ r) (sym (drop-drop 18 at l))
-    ∙ append-assoc (take at l) (take 18 (drop at l)) (drop 18 (drop at l))
-    ∙ ap (λ (r : List ℕ). take at l ++ r) (take-append-drop 18 (drop at l)) ∙ take-append-drop at l
+    ∙ ap (λ (r : List ℕ). take at l ++ take fieldsSize (drop at l) ++ r) (sym (drop-drop fieldsSize at l))
+    ∙ append-assoc (take at l) (take fieldsSize (drop at l)) (drop fieldsSize (drop at l))
+    ∙ ap (λ (r : List ℕ). take at l ++ r) (take-append-drop fieldsSize (drop at l)) ∙ take-append-drop at l

@@ -11,7 +11,7 @@ use native.Mathlib.Omega.{arith}
 use lib.Dec.{leb}
 use lib.ListN.{length, getD, set, take, length-set}
 use lib.Seq.{getD-set-same, getD-set-other, set-getD, ext-getD, take-suc}
-use Rattle.sizes.specs.Sizes.{identities, filesSize}
+use Rattle.sizes.specs.Sizes.{identities, filesSize, fileCount, fileSize, fieldsSize}
 use borrow.Author.Tests.{le-leb, lt-leb}
 use Rattle.words.specs.Every.{every}
 use Rattle.words.proofs.EveryLaws.{every-one, every-more}
@@ -33,21 +33,22 @@ unfolding filesFrom
 length-filesFrom l k zero = refl
 length-filesFrom l k (suc n) = ap suc (length-filesFrom l (suc k) n)
 
-pub length-filesOf : (l : List ℕ) → length (filesOf l) ≡ 20
+pub length-filesOf : (l : List ℕ) → length (filesOf l) ≡ fileCount
 unfolding filesOf
-length-filesOf l = length-filesFrom l 0 20
+length-filesOf l = length-filesFrom l 0 fileCount
 
-theFile-filesFrom : (l : List ℕ) (k n i : ℕ) → i < n → theFile (filesFrom l k n) i ≡ fileAt l (18 * (k + i))
+theFile-filesFrom : (l : List ℕ) (k n i : ℕ) → i < n
+    → theFile (filesFrom l k n) i ≡ fileAt l (fileSize * (k + i))
 unfolding filesFrom theFile
 theFile-filesFrom l k zero i h = absurd (omega arith)
-theFile-filesFrom l k (suc n) zero h = ap (λ (j : ℕ). fileAt l (18 * j)) (omega arith)
+theFile-filesFrom l k (suc n) zero h = ap (λ (j : ℕ). fileAt l (fileSize * j)) (omega arith)
 theFile-filesFrom l k (suc n) (suc i) h =
-    theFile-filesFrom l (suc k) n i (omega arith) ∙ ap (λ (j : ℕ). fileAt l (18 * j)) (omega arith)
+    theFile-filesFrom l (suc k) n i (omega arith) ∙ ap (λ (j : ℕ). fileAt l (fileSize * j)) (omega arith)
 
-pub theFile-filesOf : (l : List ℕ) (k : ℕ) → k < 20 → theFile (filesOf l) k ≡ fileAt l (18 * k)
+pub theFile-filesOf : (l : List ℕ) (k : ℕ) → k < fileCount → theFile (filesOf l) k ≡ fileAt l (fileSize * k)
 unfolding filesOf
 theFile-filesOf l k h =
-    theFile-filesFrom l 0 20 k h ∙ ap (λ (j : ℕ). fileAt l (18 * j)) (omega arith)
+    theFile-filesFrom l 0 fileCount k h ∙ ap (λ (j : ℕ). fileAt l (fileSize * j)) (omega arith)
 
 -- ---- one file replaced
 
@@ -78,31 +79,33 @@ pub files-same : (fs gs : List File) → length fs ≡ length gs
 unfolding theFile
 files-same fs gs e h = ext-getD zeroFile fs gs e h
 
-apart : (i k : ℕ) → i ≢ k → (18 * i + 18 ≤ 18 * k) ⊎ (18 * k + 18 ≤ 18 * i)
+apart : (i k : ℕ) → i ≢ k
+    → (fileSize * i + fieldsSize ≤ fileSize * k) ⊎ (fileSize * k + fieldsSize ≤ fileSize * i)
 apart i k n = at (decLt i k)
   where
-    at : Dec (i < k) → (18 * i + 18 ≤ 18 * k) ⊎ (18 * k + 18 ≤ 18 * i)
+    at : Dec (i < k) → (fileSize * i + fieldsSize ≤ fileSize * k) ⊎ (fileSize * k + fieldsSize ≤ fileSize * i)
     at (yes h) = inl (omega arith)
     at (no h) = inr (omega arith)
 
-module _ (l : List ℕ) (long : length l ≡ filesSize) (k : ℕ) (h : k < 20) (f : File) (s : Long f) where
+module _ (l : List ℕ) (long : length l ≡ filesSize) (k : ℕ) (h : k < fileCount) (f : File) (s : Long f) where
   abbrev put : List ℕ
-  put = putFile l (18 * k) f
+  put = putFile l (fileSize * k) f
 
-  put-file : (i : ℕ) → i < 20 → Dec (i ≡ k) → fileAt put (18 * i) ≡ theFile (withFile (filesOf l) k f) i
+  put-file : (i : ℕ) → i < fileCount → Dec (i ≡ k)
+      → fileAt put (fileSize * i) ≡ theFile (withFile (filesOf l) k f) i
   put-file i hi (yes e) =
-      rw e (long-back l (18 * k) f s (omega arith)
+      rw e (long-back l (fileSize * k) f s (omega arith)
       ∙ sym (theFile-withFile-same (filesOf l) k f (omega (arith, length-filesOf l))))
   put-file i hi (no n) =
-      long-apart l (18 * k) f s (18 * i) (omega arith) (omega arith) (apart i k n)
+      long-apart l (fileSize * k) f s (fileSize * i) (omega arith) (omega arith) (apart i k n)
       ∙ sym (theFile-withFile-other (filesOf l) k f i n ∙ theFile-filesOf l i hi)
 
   -- a file stored in its place is that file replaced
-  pub filesOf-put : filesOf (putFile l (18 * k) f) ≡ withFile (filesOf l) k f
+  pub filesOf-put : filesOf (putFile l (fileSize * k) f) ≡ withFile (filesOf l) k f
   filesOf-put =
       files-same (filesOf put) (withFile (filesOf l) k f)
       (length-filesOf put ∙ sym (length-withFile (filesOf l) k f ∙ length-filesOf l))
-      (λ i q. let hi : i < 20 = omega (arith, length-filesOf put) in
+      (λ i q. let hi : i < fileCount = omega (arith, length-filesOf put) in
       theFile-filesOf put i hi ∙ put-file i hi (ℕ-discrete i k))
 
 -- ---- messages

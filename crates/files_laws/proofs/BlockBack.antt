@@ -13,25 +13,26 @@ use Rattle.file_laws.proofs.Stored.{file-path, words-long, words-loaded}
 use Rattle.file_words.specs.Stored.{fileWords, fileAt}
 use Rattle.files.specs.Files.{filesFrom, filesOf, wordsOf, theFile}
 use Rattle.files.proofs.FilesLaws.{length-filesOf, theFile-filesOf, files-same}
-use Rattle.sizes.specs.Sizes.{filesSize}
+use Rattle.sizes.specs.Sizes.{filesSize, fileSize, fileCount, thresholdPlace, enablePlace, pendingPlace}
 
 -- ---- from the words to the files and back
 
-wordsOf-filesFrom : (n k : ℕ) (l : List ℕ) → 18 * (k + n) ≤ length l
-    → wordsOf (filesFrom l k n) ≡ take (18 * n) (drop (18 * k) l)
+wordsOf-filesFrom : (n k : ℕ) (l : List ℕ) → fileSize * (k + n) ≤ length l
+    → wordsOf (filesFrom l k n) ≡ take (fileSize * n) (drop (fileSize * k) l)
 unfolding wordsOf filesFrom
 wordsOf-filesFrom zero k l h = refl
 wordsOf-filesFrom (suc n) k l h =
-    let next : 18 * suc k ≡ 18 * k + 18 = omega arith in
-    let more : 18 + 18 * n ≡ 18 * suc n = omega arith in
-    ap₂ (λ (us vs : List ℕ). us ++ vs) (sym (words-loaded l (18 * k) (omega arith)))
+    let next : fileSize * suc k ≡ fileSize * k + fileSize = omega arith in
+    let more : fileSize + fileSize * n ≡ fileSize * suc n = omega arith in
+    ap₂ (λ (us vs : List ℕ). us ++ vs) (sym (words-loaded l (fileSize * k) (omega arith)))
     (wordsOf-filesFrom n (suc k) l (omega arith)
-    ∙ ap (take (18 * n)) (ap (λ (i : ℕ). drop i l) next ∙ sym (drop-drop 18 (18 * k) l)))
-    ∙ sym (take-add 18 (18 * n) (drop (18 * k) l)) ∙ ap (λ (i : ℕ). take i (drop (18 * k) l)) more
+    ∙ ap (take (fileSize * n)) (ap (λ (i : ℕ). drop i l) next ∙ sym (drop-drop fileSize (fileSize * k) l)))
+    ∙ sym (take-add fileSize (fileSize * n) (drop (fileSize * k) l))
+    ∙ ap (λ (i : ℕ). take i (drop (fileSize * k) l)) more
 
 pub words-back : (l : List ℕ) → length l ≡ filesSize → wordsOf (filesOf l) ≡ l
 unfolding filesOf
-words-back l long = wordsOf-filesFrom 20 0 l (omega arith) ∙ take-all filesSize l (omega arith)
+words-back l long = wordsOf-filesFrom fileCount 0 l (omega arith) ∙ take-all filesSize l (omega arith)
 
 -- two blocks with the same files are the same
 pub blocks-same : (l m : List ℕ) → length l ≡ filesSize → length m ≡ filesSize → filesOf l ≡ filesOf m → l ≡ m
@@ -56,24 +57,25 @@ fileAt-behind us l at =
     let part : (j : ℕ) → drop (length us + at + j) (us ++ l) ≡ drop (at + j) l = λ j.
     ap (λ (k : ℕ). drop k (us ++ l)) (add-assoc (length us) at j) ∙ drop-append-add us l (at + j) in
     file-path (getD-append-add us l at 0)
-    (ap (λ (k : ℕ). getD (us ++ l) k 0) (add-assoc (length us) at 1) ∙ getD-append-add us l (at + 1) 0)
-    (ap (take 8) (part 2)) (ap (take 8) (part 10))
+    (ap (λ (k : ℕ). getD (us ++ l) k 0) (add-assoc (length us) at thresholdPlace)
+    ∙ getD-append-add us l (at + thresholdPlace) 0)
+    (ap (take 8) (part pendingPlace)) (ap (take 8) (part enablePlace))
 
 fileAt-wordsOf : (fs : List File) (k : ℕ) → ((j : ℕ) → j < length fs → Long (theFile fs j)) → k < length fs
-    → fileAt (wordsOf fs) (18 * k) ≡ theFile fs k
+    → fileAt (wordsOf fs) (fileSize * k) ≡ theFile fs k
 unfolding wordsOf theFile
 fileAt-wordsOf [] k long h = absurd (omega arith)
 fileAt-wordsOf (f ∷ fs) zero long h = fileAt-words f (wordsOf fs) (long 0 (omega arith))
 fileAt-wordsOf (f ∷ fs) (suc k) long h =
-    let place : 18 * suc k ≡ length (fileWords f) + 18 * k =
+    let place : fileSize * suc k ≡ length (fileWords f) + fileSize * k =
     omega (arith, words-long f (long 0 (omega arith))) in
-    ap (fileAt (fileWords f ++ wordsOf fs)) place ∙ fileAt-behind (fileWords f) (wordsOf fs) (18 * k)
+    ap (fileAt (fileWords f ++ wordsOf fs)) place ∙ fileAt-behind (fileWords f) (wordsOf fs) (fileSize * k)
     ∙ fileAt-wordsOf fs k (λ j q. long (suc j) (omega arith)) (omega arith)
 
-pub files-back : (fs : List File) → length fs ≡ 20 → ((k : ℕ) → k < 20 → Long (theFile fs k))
+pub files-back : (fs : List File) → length fs ≡ fileCount → ((k : ℕ) → k < fileCount → Long (theFile fs k))
     → filesOf (wordsOf fs) ≡ fs
 files-back fs many long =
     files-same (filesOf (wordsOf fs)) fs (length-filesOf (wordsOf fs) ∙ sym many)
-    (λ k h. let hk : k < 20 = omega (arith, length-filesOf (wordsOf fs)) in
+    (λ k h. let hk : k < fileCount = omega (arith, length-filesOf (wordsOf fs)) in
     theFile-filesOf (wordsOf fs) k hk
     ∙ fileAt-wordsOf fs k (λ j q. long j (omega arith)) (omega arith))

@@ -9,7 +9,7 @@ use native.Mathlib.Omega.{arith}
 use lib.ListN.{length}
 use Rattle.words.specs.Sets.{WordsFit}
 use Rattle.words.proofs.EveryLaws.{every-each, every-of}
-use Rattle.sizes.specs.Sizes.{identities, filesSize}
+use Rattle.sizes.specs.Sizes.{identities, filesSize, fileCount, fileSize}
 use Rattle.file.specs.declared.File.{File}
 use Rattle.file.specs.Shape.{Shaped, Long}
 use Rattle.file.specs.Page.{arrived}
@@ -36,12 +36,12 @@ withFile-keeps P fs k f j here there = at (ℕ-discrete j k) (decLt k (length fs
 -- ---- the shape of every file
 
 -- a file of a block has it
-module _ (l : List ℕ) (many : length l ≡ filesSize) (k : ℕ) (h : k < 20) where
+module _ (l : List ℕ) (many : length l ≡ filesSize) (k : ℕ) (h : k < fileCount) where
   pub filesOf-long : Long (theFile (filesOf l) k)
-  filesOf-long = rw (theFile-filesOf l k h) (loaded-long l (18 * k) (omega arith))
+  filesOf-long = rw (theFile-filesOf l k h) (loaded-long l (fileSize * k) (omega arith))
 
   pub filesOf-shaped : WordsFit l → Shaped (theFile (filesOf l) k)
-  filesOf-shaped fit = rw (theFile-filesOf l k h) (loaded-shaped l (18 * k) fit (omega arith))
+  filesOf-shaped fit = rw (theFile-filesOf l k h) (loaded-shaped l (fileSize * k) fit (omega arith))
 
 module _ (ms : List ℕ) (fs : List File) (k : ℕ) where
   pub allReached-long : Long (theFile fs k) → Long (theFile (allReached fs ms) k)
@@ -60,15 +60,15 @@ arrived-sound g f i e =
 
 module _ (fs : List File) where
   -- the rules of all are the rules of each
-  pub filesSound-1 : filesSound fs ≡ true → (k : ℕ) → k < 20
+  pub filesSound-1 : filesSound fs ≡ true → (k : ℕ) → k < fileCount
       → fileSound identities (isGuest k) (theFile fs k) ≡ true
   unfolding filesSound soundAt
-  filesSound-1 e k h = every-each (soundAt fs) 0 20 e k (omega arith) (omega arith)
+  filesSound-1 e k h = every-each (soundAt fs) 0 fileCount e k (omega arith) (omega arith)
 
-  pub filesSound-2 : ((k : ℕ) → k < 20 → fileSound identities (isGuest k) (theFile fs k) ≡ true)
+  pub filesSound-2 : ((k : ℕ) → k < fileCount → fileSound identities (isGuest k) (theFile fs k) ≡ true)
       → filesSound fs ≡ true
   unfolding filesSound soundAt
-  filesSound-2 each = every-of (soundAt fs) 0 20 (λ k l h. each k (omega arith))
+  filesSound-2 each = every-of (soundAt fs) 0 fileCount (λ k l h. each k (omega arith))
 
 pub allReached-sound : (ms : List ℕ) (fs : List File) → filesSound fs ≡ true
     → filesSound (allReached fs ms) ≡ true

@@ -9,6 +9,7 @@
 --   ..Size                              how many words something takes: a file, the files, a delivery
 --                                       structure, the four of a domain, a domain, the wired controller,
 --                                       the block, the log; recordSize: the 64-bit numbers that a move saves
+--   fieldsSize                          the words of a file's four fields, which stand first among its words
 --   slotCount                           a domain has a word at each number 0 to 63, twice: number 0 is the
 --                                       domain's own, the others are the sources'
 --   ..Place                             the first word of a part in what holds it
@@ -60,8 +61,11 @@ pendingPlace = 2
 abbrev pub enablePlace : ℕ
 enablePlace = pendingPlace + fileSetSize
 
+abbrev pub fieldsSize : ℕ
+fieldsSize = enablePlace + fileSetSize
+
 abbrev pub fileSize : ℕ
-fileSize = enablePlace + fileSetSize
+fileSize = fieldsSize
 
 abbrev pub filesSize : ℕ
 filesSize = fileCount * fileSize

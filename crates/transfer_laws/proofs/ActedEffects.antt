@@ -8,7 +8,7 @@ use mathlib.Core.Logic.{_≢_}
 use native.Mathlib.Omega.{arith}
 use lib.ListN.{length, getD, set}
 use borrow.Author.Tests.{le-leb}
-use Rattle.sizes.specs.Sizes.{identities}
+use Rattle.sizes.specs.Sizes.{identities, fileCount}
 use Rattle.file.specs.declared.File.{File}
 use Rattle.file.specs.declared.register.Access.{Access}
 use Rattle.file.specs.declared.register.Access.the-variants.{Read, Write}
@@ -43,7 +43,7 @@ module _ (h f : ℕ) (there : isGuestFile h f ≡ true) where
       ap (λ (g : Bool). accessed identities g (theFile (b .files) (fileNumber h f)) k s v) guest-is
 
 module _ (oh of nh nf : ℕ) (oldThere : isGuestFile oh of ≡ true) (newThere : isGuestFile nh nf ≡ true)
-    (different : fileNumber nh nf ≢ fileNumber oh of) (b : Board) (many : length (b .files) ≡ 20)
+    (different : fileNumber nh nf ≢ fileNumber oh of) (b : Board) (many : length (b .files) ≡ fileCount)
     (s : List ℕ) where
   abbrev old : ℕ
   old = fileNumber oh of

@@ -14,7 +14,7 @@ use lib.Dec.{eqb}
 use lib.ListN.{length}
 use Rattle.words.specs.Parts.{reversed}
 use mathlib.Core.Bool.{cond}
-use Rattle.sizes.specs.Sizes.{identities}
+use Rattle.sizes.specs.Sizes.{identities, fileCount}
 use Rattle.file.specs.declared.File.{File}
 use Rattle.file.specs.Page.{arrived, pageWritten}
 use Rattle.file.specs.Shape.{Shaped}
@@ -46,11 +46,14 @@ module _ (old new : ℕ) where
 
   pub record FilesMoved (n : ℕ) (fs gs : List File) (s : List ℕ) : Type 0 where
     pub related : Related n (three fs s) (theFile gs old)
-    pub others : (k : ℕ) → k < 20 → k ≢ old → k ≢ new → theFile fs k ≡ theFile gs k
+    pub others : (k : ℕ) → k < fileCount → k ≢ old → k ≢ new → theFile fs k ≡ theFile gs k
 
-  module _ (n : ℕ) (fs gs : List File) (s : List ℕ) (many : length fs ≡ 20) (many′ : length gs ≡ 20)
-      (shaped : (k : ℕ) → k < 20 → Shaped (theFile fs k)) (shaped′ : (k : ℕ) → k < 20 → Shaped (theFile gs k))
-      (r : FilesMoved n fs gs s) (different : new ≢ old) (oldLt : old < 20) (newLt : new < 20) (i : ℕ) where
+  module _ (n : ℕ) (fs gs : List File) (s : List ℕ)
+      (many : length fs ≡ fileCount) (many′ : length gs ≡ fileCount)
+      (shaped : (k : ℕ) → k < fileCount → Shaped (theFile fs k))
+      (shaped′ : (k : ℕ) → k < fileCount → Shaped (theFile gs k))
+      (r : FilesMoved n fs gs s) (different : new ≢ old) (oldLt : old < fileCount) (newLt : new < fileCount)
+      (i : ℕ) where
     arrival-old : n < 72 → FilesMoved n (arrivedAt fs old i) (arrivedAt gs old i) s
     arrival-old h =
         record {
@@ -83,7 +86,7 @@ module _ (old new : ℕ) where
               ∙ sym (theFile-withFile-other gs old _ k a);
         }
 
-    module _ (k : ℕ) (kLt : k < 20) (notNew : k ≢ new) where
+    module _ (k : ℕ) (kLt : k < fileCount) (notNew : k ≢ new) where
       arrival-other : k ≢ old → FilesMoved n (arrivedAt fs k i) (arrivedAt gs k i) s
       arrival-other notOld =
           record {
@@ -97,7 +100,7 @@ module _ (old new : ℕ) where
             others = λ j l a b. at j l a b (ℕ-discrete j k);
           }
         where
-          at : (j : ℕ) → j < 20 → j ≢ old → j ≢ new → Dec (j ≡ k)
+          at : (j : ℕ) → j < fileCount → j ≢ old → j ≢ new → Dec (j ≡ k)
               → theFile (arrivedAt fs k i) j ≡ theFile (arrivedAt gs k i) j
           at j l a b (yes e) =
               rw e (theFile-withFile-same fs k _ (omega arith)

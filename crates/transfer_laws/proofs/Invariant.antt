@@ -15,7 +15,7 @@ use lib.ListN.{getD}
 use Rattle.words.specs.Bits.{hasBit}
 use borrow.Author.Tests.{eq-eqb, eqb-true, le-leb}
 use Rattle.words.proofs.TestsLaws.{tested, and-first, and-second, and-both, not-same}
-use Rattle.sizes.specs.Sizes.{identities}
+use Rattle.sizes.specs.Sizes.{identities, fileCount}
 use Rattle.file.specs.declared.File.{File}
 use Rattle.file.specs.Page.{pageWritten}
 use Rattle.file_laws.proofs.Keeps.{Rules}
@@ -67,7 +67,7 @@ machine-apart k h f there q =
     let parts = number-parts k 0 h f (omega arith) (guest-high h f there) q in
     omega (arith, guest-low h f there, parts .1)
 
-number-below : (h f : ℕ) → h < 4 → f < 5 → fileNumber h f < 20
+number-below : (h f : ℕ) → h < 4 → f < 5 → fileNumber h f < fileCount
 unfolding fileNumber
 number-below h f a b = omega arith
 
@@ -84,10 +84,10 @@ module _ (m : Stations) (g : TwoGuests m) where
   unfolding isMove
   move-there n l h = simp (g .old, g .new, g .different, le-leb 1 n l, le-leb n accesses h)
 
-  pub old-lt : oldNumber m < 20
+  pub old-lt : oldNumber m < fileCount
   old-lt = guest-number (m .oldHart) (m .oldFile) (g .old)
 
-  pub new-lt : newNumber m < 20
+  pub new-lt : newNumber m < fileCount
   new-lt = guest-number (m .newHart) (m .newFile) (g .new)
 
   -- a file is new exactly if its number is
@@ -126,7 +126,7 @@ module _ (m : Stations) (g : TwoGuests m) where
         (fit′ .shaped .many) (fit .files) (fit′ .files) (r .files) different old-lt new-lt i h
 
     -- at one file of both
-    come-same : (k i : ℕ) → k < 20 → k ≢ newNumber m → (k ≡ oldNumber m → n < 72)
+    come-same : (k i : ℕ) → k < fileCount → k ≢ newNumber m → (k ≡ oldNumber m → n < 72)
         → FilesMoved (oldNumber m) (newNumber m) n (arrivedAt (b .files) k i) (arrivedAt (b′ .files) k i) s
     come-same k i h notNew still =
         arrival-same (oldNumber m) (newNumber m) n (b .files) (b′ .files) s (fit .shaped .many)

@@ -31,8 +31,10 @@ module _ (l : List ℕ) (long : length l ≡ wiredSize) (sound : wiredSound (wir
   pub words-steady : WiredSteady (wiredOf l)
   words-steady =
       wired-sound-steady (wiredOf l) sound (ap length (sym (wires-read l long)))
-      (subst DomainShaped (root-part l long) (domainOf-shaped (take domainSize (drop 2 l)) (root-long l long)))
-      (subst DomainShaped (child-part l long) (domainOf-shaped (take domainSize (drop childPlace l)) (child-long l long)))
+      (subst DomainShaped (root-part l long)
+      (domainOf-shaped (take domainSize (drop 2 l)) (root-long l long)))
+      (subst DomainShaped (child-part l long)
+      (domainOf-shaped (take domainSize (drop childPlace l)) (child-long l long)))
 
   pub words-quiet : WiredQuiet (wiredOf l)
   words-quiet = wired-sound-quiet (wiredOf l) sound

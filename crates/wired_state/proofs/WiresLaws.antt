@@ -31,7 +31,8 @@ module _ (l ys : List ℕ) (long : length l ≡ wiredSize) (part : length ys ≡
       wired-path (take-at (take 2 l) (ys ++ drop domainSize (drop 2 l)) 2 two)
       (ap domainOf (ap (take domainSize) behind ∙ take-at ys (drop domainSize (drop 2 l)) domainSize part))
       (ap (λ (x : List ℕ). domainOf (take domainSize x))
-      (sym (drop-drop domainSize 2 (take 2 l ++ (ys ++ drop domainSize (drop 2 l)))) ∙ ap (drop domainSize) behind
+      (sym (drop-drop domainSize 2 (take 2 l ++ (ys ++ drop domainSize (drop 2 l))))
+      ∙ ap (drop domainSize) behind
       ∙ drop-at ys (drop domainSize (drop 2 l)) domainSize part ∙ drop-drop domainSize 2 l))
 
   pub put-child : wiredOf (take childPlace l ++ (ys ++ drop domainSize (drop childPlace l)))
@@ -51,7 +52,8 @@ module _ (l ys : List ℕ) (long : length l ≡ wiredSize) (part : length ys ≡
       ∙ ap (take domainSize) (drop-at (take 2 l) (middle ++ z) 2 two)
       ∙ take-at middle z domainSize whole))
       (ap domainOf
-      (ap (take domainSize) (drop-at (take childPlace l) z childPlace most) ∙ take-at ys (drop domainSize (drop childPlace l)) domainSize part))
+      (ap (take domainSize) (drop-at (take childPlace l) z childPlace most)
+      ∙ take-at ys (drop domainSize (drop childPlace l)) domainSize part))
 
 -- the parts that are lent
 module _ (l : List ℕ) (long : length l ≡ wiredSize) where

@@ -11,14 +11,14 @@ use Rattle.board_block.proofs.StartLaws.{start-files}
 use borrow.Author.Needs.{needs}
 use Rattle.board_block.proofs.start_files.Statement.{statement}
 use Rattle.board_block.proofs.start_files.Tie as tie
-use Rattle.sizes.specs.Sizes.{filesSize}
+use Rattle.sizes.specs.Sizes.{filesSize, fileCount}
 
 abbrev Inv-loop : tie.InvT-loop
 Inv-loop files₀ k₀ files k =
-    (k ≤ 20) × (k % 5 ≡ 0) × (length files ≡ filesSize) × Started k (filesOf files)
+    (k ≤ fileCount) × (k % 5 ≡ 0) × (length files ≡ filesSize) × Started k (filesOf files)
 
 abbrev μ-loop : tie.MeasureT-loop
-μ-loop files₀ k₀ files k = 20 - k
+μ-loop files₀ k₀ files k = fileCount - k
 
 loop-holds : tie.Need-loop-holds Inv-loop μ-loop
 loop-holds c =

@@ -7,6 +7,7 @@ use Rattle.file_words.specs.Stored.{fileAt}
 use borrow.Author.Needs.{needs}
 use Rattle.file_words.proofs.load.Statement.{statement}
 use Rattle.file_words.proofs.load.Tie as tie
+use Rattle.sizes.specs.Sizes.{thresholdPlace}
 
 add-eight : tie.Need-add-eight
 add-eight c = search needs
@@ -43,7 +44,7 @@ returns c =
     (λ (p e : List ℕ). record {
       delivery = getD (args .block .now) (args .at) 0;
       threshold =
-          getD (args .block .now) (args .at + 1) 0;
+          getD (args .block .now) (args .at + thresholdPlace) 0;
       pending = p;
       enable = e;
     })

@@ -9,6 +9,7 @@ use Rattle.file_words.proofs.StoredLaws.{file-written}
 use borrow.Author.Needs.{needs}
 use Rattle.file_words.proofs.store.Statement.{statement}
 use Rattle.file_words.proofs.store.Tie as tie
+use Rattle.sizes.specs.Sizes.{enablePlace}
 
 mul-block : tie.Need-mul-block
 mul-block c = search needs
@@ -49,7 +50,7 @@ returns c =
     let f = start .args .f in
     let at = start .args .at in
     c .before .before .put-eight2 .ensures
-    ∙ ap (λ (l : List ℕ). sets l (at + 10) (f .enable)) (first .put-eight .ensures)
+    ∙ ap (λ (l : List ℕ). sets l (at + enablePlace) (f .enable)) (first .put-eight .ensures)
     ∙ file-written (start .args .block .now) at f (search needs)
 
 pub store-spec : {M : Type 1} → statement M

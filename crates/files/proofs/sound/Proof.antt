@@ -9,14 +9,15 @@ use Rattle.files.specs.Files.{filesOf, soundAt, filesSound}
 use borrow.Author.Needs.{needs}
 use Rattle.files.proofs.sound.Statement.{statement}
 use Rattle.files.proofs.sound.Tie as tie
+use Rattle.sizes.specs.Sizes.{fileCount}
 
 abbrev Inv-loop : tie.InvT-loop
 Inv-loop files sound₀ k₀ sound k =
     let p = soundAt (filesOf files) in
-    (k ≤ 20) × (k % 5 ≡ 0) × ((sound && every p k (20 - k)) ≡ every p 0 20)
+    (k ≤ fileCount) × (k % 5 ≡ 0) × ((sound && every p k (fileCount - k)) ≡ every p 0 fileCount)
 
 abbrev μ-loop : tie.MeasureT-loop
-μ-loop files sound₀ k₀ sound k = 20 - k
+μ-loop files sound₀ k₀ sound k = fileCount - k
 
 loop-holds : tie.Need-loop-holds Inv-loop μ-loop
 loop-holds c = (omega arith, refl, refl)
@@ -35,13 +36,13 @@ loop-again c =
     let at-loop = c .before .before .loop in
     let p = soundAt (filesOf (c .before .before .before .before .args .files .now)) in
     let k = at-loop .k in
-    let rest : 20 - k ≡ 5 + (20 - (k + 5)) = omega arith in (
+    let rest : fileCount - k ≡ 5 + (fileCount - (k + 5)) = omega arith in (
       omega arith,
       omega arith,
-      ap (λ (b : Bool). at-loop .sound && b && every p (k + 5) (20 - (k + 5))) (c .hart-sound .ensures)
-          ∙ and-assoc (at-loop .sound) (every p k 5) (every p (k + 5) (20 - (k + 5)))
+      ap (λ (b : Bool). at-loop .sound && b && every p (k + 5) (fileCount - (k + 5))) (c .hart-sound .ensures)
+          ∙ and-assoc (at-loop .sound) (every p k 5) (every p (k + 5) (fileCount - (k + 5)))
           ∙ ap (λ (b : Bool). at-loop .sound && b)
-          (sym (every-parts p k 5 (20 - (k + 5))) ∙ ap (every p k) (sym rest))
+          (sym (every-parts p k 5 (fileCount - (k + 5))) ∙ ap (every p k) (sym rest))
           ∙ at-loop .inv .2,
     )
 
@@ -50,7 +51,7 @@ unfolding filesSound
 returns c =
     let at-loop = c .before .loop in
     let p = soundAt (filesOf (c .before .before .before .args .files .now)) in
-    sym (every-done p (at-loop .sound) (at-loop .k) 20 (omega arith))
+    sym (every-done p (at-loop .sound) (at-loop .k) fileCount (omega arith))
     ∙ at-loop .inv .2
 
 pub sound-spec : {M : Type 1} → statement M

@@ -43,8 +43,8 @@ delivered-requires c κs =
       put-wired-long l zs long (at-call .set-wire .kept .0 ∙ wired-long l long),
       at-call .set-wire .kept .1 .0 ∙ start .pre .1,
       wire-within l long (start .pre .4) _ (args .i) (start .pre .2) (start .pre .3) (args .level) (left .2),
-      left-named _ _ (args .log .now) _ _ left (wire-exists (wiredOf (take wiredSize (drop filesSize l))) (args .i)
-          (args .level)),
+      left-named _ _ (args .log .now) _ _ left
+          (wire-exists (wiredOf (take wiredSize (drop filesSize l))) (args .i) (args .level)),
     )
 
 same-length : tie.Need-same-length

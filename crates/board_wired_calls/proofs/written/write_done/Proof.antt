@@ -39,8 +39,9 @@ delivered-requires c κs =
       at-call .write .kept .1 .0 ∙ start .pre .1,
       write-within l long (start .pre .3) _ (args .child) (args .word) (start .pre .2) (args .value)
           (left .2),
-      left-named _ _ (args .log .now) _ _ left (write-exists (wiredOf (take wiredSize (drop filesSize l))) (args .child)
-          (args .word) (args .value)),
+      left-named _ _ (args .log .now) _ _ left
+          (write-exists (wiredOf (take wiredSize (drop filesSize l))) (args .child) (args .word)
+          (args .value)),
     )
 
 same-length : tie.Need-same-length
