@@ -15,12 +15,16 @@ use sizes::FILE_SIZE;
 use sizes::FILES_SIZE;
 use sizes::HART_FILES;
 use sizes::WIRED_PLACE;
+use sizes::WIRED_SIZE;
+
+// Where the words of the wired controller end.
+pub const WIRED_END: usize = WIRED_PLACE + WIRED_SIZE;
 
 pub fn sound(state: &[u32]) -> bool
     requires { ⌜ length (now state) ≡ blockSize ⌝ }
     ensures { λ r. ⌜ r ≡ boardSound (boardOf (now (state .entry))) ⌝ }
 {
-    let wired = wired_rules::sound(&state[WIRED_PLACE..BLOCK_SIZE]);
+    let wired = wired_rules::sound(&state[WIRED_PLACE..WIRED_END]);
     files::sound(&state[0..FILES_SIZE]) & wired
 }
 

@@ -5,8 +5,8 @@ ghost use lib.ListN.{length};
 ghost use Rattle.sizes.specs.Sizes.{hartCount, hartFiles, blockSize};
 ghost use Rattle.board_block.specs.Block.{boardOf};
 ghost use Rattle.board_call.specs.Change.{signalAt, signalsTo};
+use board_block::WIRED_END;
 use file_select::FROM_WIRED;
-use sizes::BLOCK_SIZE;
 use sizes::FILES_SIZE;
 use sizes::FIRST_GUEST;
 use sizes::HART_FILES;
@@ -27,7 +27,7 @@ fn signal_at(state: &[u32], hart: usize, file: usize) -> bool
     if f.delivery != FROM_WIRED {
         return false;
     }
-    wired_registers::signal(&state[WIRED_PLACE..BLOCK_SIZE], file == 1, hart)
+    wired_registers::signal(&state[WIRED_PLACE..WIRED_END], file == 1, hart)
 }
 
 const END: u32 = HART_FILES as u32;

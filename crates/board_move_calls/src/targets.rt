@@ -10,10 +10,10 @@ ghost use Rattle.wired_state.specs.Wires.{wiredOf, domainIn};
 ghost use Rattle.board_block.specs.Block.{withWired, boardOf, boardSound};
 ghost use Rattle.board_call.specs.Refusal.{isGuestFile};
 ghost use Rattle.board_call.specs.Move.{retargetedIn};
+use board_block::WIRED_END;
 use board_move_steps::names_file;
 use board_move_steps::renamed;
 use domain_region::Word;
-use sizes::BLOCK_SIZE;
 use sizes::CHILD_PLACE;
 use sizes::WIRED_PLACE;
 use sizes::WIRED_SIZE;
@@ -22,7 +22,7 @@ pub fn by_messages(state: &[u32]) -> bool
     requires { ⌜ length (now state) ≡ blockSize ⌝ }
     ensures { λ r. ⌜ r ≡ byMessages (boardOf (now (state .entry)) .wired .child) ⌝ }
 {
-    let w = &state[WIRED_PLACE..BLOCK_SIZE];
+    let w = &state[WIRED_PLACE..WIRED_END];
     domain::by_messages(&w[CHILD_PLACE..WIRED_SIZE])
 }
 
@@ -59,7 +59,7 @@ pub fn retarget(
         (retargetedIn oldhart oldfile newhart newfile (boardOf (now (state .entry)) .wired) source) ⌝ }
 {
     rewrite(
-        &mut state[WIRED_PLACE..BLOCK_SIZE],
+        &mut state[WIRED_PLACE..WIRED_END],
         oldhart,
         oldfile,
         newhart,

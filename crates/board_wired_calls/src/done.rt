@@ -8,7 +8,7 @@ ghost use Rattle.wired.specs.Controller.{wireCall};
 ghost use Rattle.board_block.specs.Block.{boardOf, boardSound};
 ghost use Rattle.board_call_laws.specs.Left.{Left};
 use super::delivery::delivered;
-use sizes::BLOCK_SIZE;
+use board_block::WIRED_END;
 use sizes::WIRED_PLACE;
 
 // Answers the number of messages.
@@ -18,7 +18,7 @@ pub fn wire_done(state: &mut [u32], log: &mut [u32], i: usize, level: bool) -> u
     ensures { λ r. ⌜ (r ≤ logSize) × Left (wireCall (boardOf (now (state .entry)) .wired) i level)
         (now (state .entry)) (now (state .exit)) (now (log .entry)) (now (log .exit)) r ⌝ }
 {
-    let n = wired::set_wire(&mut state[WIRED_PLACE..BLOCK_SIZE], log, i, level);
+    let n = wired::set_wire(&mut state[WIRED_PLACE..WIRED_END], log, i, level);
     delivered(state, log, n);
     n
 }

@@ -7,8 +7,8 @@ ghost use Rattle.domain_region.specs.Region.{Within};
 ghost use Rattle.wired_registers.specs.Wired.{readIn};
 ghost use Rattle.wired.specs.Controller.{readCall};
 ghost use Rattle.board_block.specs.Block.{withWired, boardOf, boardSound};
+use board_block::WIRED_END;
 use domain_region::Word;
-use sizes::BLOCK_SIZE;
 use sizes::WIRED_PLACE;
 
 pub fn read_done(state: &mut [u32], child: bool, word: Word) -> u32
@@ -18,5 +18,5 @@ pub fn read_done(state: &mut [u32], child: bool, word: Word) -> u32
         × (boardOf (now (state .exit)) ≡ withWired (boardOf (now (state .entry)))
         (readCall (boardOf (now (state .entry)) .wired) child word .wired)) ⌝ }
 {
-    wired::read(&mut state[WIRED_PLACE..BLOCK_SIZE], child, word)
+    wired::read(&mut state[WIRED_PLACE..WIRED_END], child, word)
 }

@@ -9,8 +9,8 @@ ghost use Rattle.wired.specs.Controller.{writeCall};
 ghost use Rattle.board_block.specs.Block.{boardOf, boardSound};
 ghost use Rattle.board_call_laws.specs.Left.{Left};
 use super::delivery::delivered;
+use board_block::WIRED_END;
 use domain_region::Word;
-use sizes::BLOCK_SIZE;
 use sizes::WIRED_PLACE;
 
 // Answers the number of messages.
@@ -20,7 +20,7 @@ pub fn write_done(state: &mut [u32], log: &mut [u32], child: bool, word: Word, v
     ensures { λ r. ⌜ (r ≤ logSize) × Left (writeCall (boardOf (now (state .entry)) .wired) child word value)
         (now (state .entry)) (now (state .exit)) (now (log .entry)) (now (log .exit)) r ⌝ }
 {
-    let n = wired::write(&mut state[WIRED_PLACE..BLOCK_SIZE], log, child, word, value);
+    let n = wired::write(&mut state[WIRED_PLACE..WIRED_END], log, child, word, value);
     delivered(state, log, n);
     n
 }
