@@ -1,13 +1,12 @@
--- An accepted call on a board that is fit leaves one that is, and sends 63 messages at most: so the next call
--- can be made on what it leaves. No contract cites this file. Assumes nothing.
+-- An accepted call on a board that is fit leaves one that is, and sends 63 messages at most, kind by kind; an
+-- access of a move is elsewhere. No contract cites this file. Assumes nothing.
 use Prim.Native.Nat.{ℕ, _^_, _≤_, _<_}
 use mathlib.Core.Path.{_≡_, sym, ap, subst}
 use mathlib.Core.Bool.{true}
 use mathlib.Core.List.{List}
 use native.Mathlib.Omega.{arith}
-use lib.Dec.{eqb, ltb}
+use lib.Dec.{eqb}
 use lib.ListN.{length}
-use Rattle.words.proofs.TestsLaws.{and-first}
 use Rattle.sizes.specs.Sizes.{identities, fileCount}
 use Rattle.file.specs.declared.File.{File}
 use Rattle.file.specs.Page.{pageWritten}
@@ -19,7 +18,6 @@ use Rattle.file_laws.proofs.Keeps.{accessed-shaped, accessed-rules}
 use Rattle.files.specs.Files.{fileNumber, isGuest, theFile}
 use Rattle.domain_region.specs.Region.{wordAt}
 use Rattle.domain_region.proofs.RegionLaws.{word-within}
-use Rattle.domain.specs.Domain.{byMessages}
 use Rattle.wired_state.specs.Wires.{Wired}
 use Rattle.wired_rules_laws.specs.Steady.{WiredSteady}
 use Rattle.wired_rules_laws.proofs.WiredEffects.{steady-wireSet, steady-claimedIn}
@@ -28,15 +26,11 @@ use Rattle.wired_rules.specs.Rules.{wiredSound}
 use Rattle.wired.specs.Controller.{Out, flushed, wireCall, readCall, writeCall}
 use Rattle.wired_laws.proofs.OutEffects.{wire-sound, read-sound, write-sound, wire-count, write-count}
 use Rattle.wired.proofs.CallLaws.{read-silent}
-use Rattle.board_move_steps.specs.Steps.{actOf}
-use Rattle.board_move_files_laws.proofs.TableLaws.{act-within}
 use Rattle.board_block.specs.Block.{Board}
-use Rattle.board_call.specs.declared.Call.{Call}
 use Rattle.board_call.specs.declared.Call.the-variants as call
 use Rattle.board_call.specs.Change.{kindOf, onFile, answering, change}
-use Rattle.board_call.specs.Refusal.{isWire, isFile, isMove, present}
+use Rattle.board_call.specs.Refusal.{isWire, isFile}
 use Rattle.board_call.specs.Outcome.{Stepped, thenSent, step}
-use Rattle.board_call_laws.specs.Small.{Small}
 use Rattle.board_call_laws.specs.Fit.{Fit, SavedFit, Kept}
 use Rattle.board_call_laws.proofs.StepEffects.{sound-quiet, wiredStep, step-wire, step-domainRead}
 use Rattle.board_call_laws.proofs.StepEffects.{step-domainWrite, step-onFile, step-answering}
@@ -45,11 +39,8 @@ use Rattle.board_call_laws.proofs.FileCallEffects.{number-read, number-
 use Rattle.board_call_laws.proofs.WiredCallEffects.{wire-low, wire-high}
 use Rattle.board_call_laws.proofs.FitEffects.{fit-start, fit-steady, fit-rules, fit-withFile}
 use Rattle.board_call_laws.proofs.FitEffects.{fit-flushed}
-use Rattle.board_call_laws.proofs.MoveEffects.{move-old, move-new, move-low, move-high, acted-fit}
-use Rattle.board_call_laws.proofs.MoveEffects.{acted-saved}
-use Rattle.board_call_laws.proofs.MoveEffects.{step-move}
 
-kept-of : {x y : Stepped} → x ≡ y → Kept y → Kept x
+pub kept-of : {x y : Stepped} → x ≡ y → Kept y → Kept x
 kept-of e = subst Kept (sym e)
 
 module _ (b : Board) (fit : Fit b) (s : List ℕ) (small : SavedFit s) where
@@ -139,36 +130,3 @@ module _ (b : Board) (fit : Fit b) (s : List ℕ) (small : SavedFit s) where
       (kept-wired _ (steady-writtenIn (b .wired) steady c (wordAt a) (word-within a) v) _ 0
       (write-sound (b .wired) steady c (wordAt a) (word-within a) v)
       (write-count (b .wired) steady (sound-quiet b (fit .sound)) c (wordAt a) (word-within a) v))
-
-  -- ---- an access of a move
-
-  pub kept-move : (oh of nh nf n : ℕ) → isMove oh of nh nf n ≡ true
-      → Kept (step (call.Move oh of nh nf n) b s)
-  kept-move oh of nh nf n there =
-      let old = move-old oh of nh nf n there in
-      let new = move-new oh of nh nf n there in
-      let within = act-within n (move-low oh of nh nf n there) (move-high oh of nh nf n there) in
-      kept-of (step-move b fit oh of nh nf n there s)
-      record {
-        fit = acted-fit b fit oh of nh nf old new s small (actOf n) within;
-        few = omega arith;
-        saved = acted-saved b fit oh of nh nf old new s small (actOf n);
-      }
-
-  -- ---- every call
-
-  pub kept-step : (c : Call) → present c b ≡ true → Small c → Kept (step c b s)
-  unfolding present step change
-  kept-step call.Reset n t = kept-reset
-  kept-step (call.Wire i level) n t = kept-wire i level n
-  kept-step (call.DomainRead d a) n t = kept-domainRead d a
-  kept-step (call.DomainWrite d a v) n t = kept-domainWrite d a v
-  kept-step (call.PageRead h f a) n t = kept-answering _
-  kept-step (call.PageWrite h f a v) n t = kept-pageWrite h f n a v
-  kept-step (call.Register h f kind x v) n t =
-      kept-register h f (and-first (isFile h f) (ltb kind 4) n) kind x v t
-  kept-step (call.Top h f) n t = kept-answering _
-  kept-step (call.Claim h f) n t = kept-claim h f n
-  kept-step (call.Signals h) n t = kept-answering _
-  kept-step (call.Move oh of nh nf k) n t =
-      kept-move oh of nh nf k (and-first (isMove oh of nh nf k) (byMessages (b .wired .child)) n)

@@ -4,8 +4,6 @@ pub mod StepEffects
 pub mod WiredCallEffects
 pub mod GivesEffects
 pub mod FitEffects
-pub mod MoveEffects
-pub mod MoveCallEffects
 pub mod KeepsEffects
 pub mod CallTests
 pub mod FileCallEffects

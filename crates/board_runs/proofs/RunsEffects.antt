@@ -18,10 +18,10 @@ use Rattle.board_call.specs.Refusal.{testsRules, present, nameRefusal, refusalO
 use Rattle.board_call.proofs.RefusalLaws.{refused-numbers, refused-name, blocks-sound}
 use Rattle.board_call_laws.specs.Fit.{Fit, Kept}
 use Rattle.board_call_laws.specs.Small.{Small}
-use Rattle.board_call_laws.proofs.KeepsEffects.{kept-step}
 use Rattle.board_call_laws.proofs.OutcomeEffects.{outcome-refused, outcome-done}
 use Rattle.board_runs.specs.Runs.{Lent, outcomeOn, after, ran, outcomesOf}
 use Rattle.board_runs.specs.Ready.{boardIn, Ready, AllSmall}
+use Rattle.board_runs.proofs.KeptEffects.{kept-step}
 
 -- ---- the calls of a run in two parts
 

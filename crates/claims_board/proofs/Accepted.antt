@@ -35,7 +35,7 @@ use Rattle.board_runs.specs.Runs.{outcomeOn, after}
 use Rattle.board_runs.specs.Ready.{boardIn}
 use Rattle.board_runs.proofs.RunsEffects.{ready-refusal, accepted-named, after-board, ready-after}
 use Rattle.board_call_laws.specs.Fit.{Kept}
-use Rattle.board_call_laws.proofs.KeepsEffects.{kept-step}
+use Rattle.board_runs.proofs.KeptEffects.{kept-step}
 use Rattle.claims_registers.specs.Registers.{Claim-132}
 use Rattle.claims_registers.proofs.Registers.{claim-132}
 use Rattle.claims_board.specs.Accepted.{AccessedBy, WireRead}

@@ -33,7 +33,7 @@ use Rattle.board_call.specs.Change.{change}
 use Rattle.board_call.specs.Move.{retargetedIn, acted}
 use Rattle.board_move_wired_laws.proofs.StepThree.{next-hit, next-miss}
 use Rattle.board_call_laws.proofs.WiredCallEffects.{wire-low, wire-high}
-use Rattle.board_call_laws.proofs.MoveEffects.{move-low, move-high}
+use Rattle.board_move_laws.proofs.MoveEffects.{move-low, move-high}
 use Rattle.claims_registers.specs.Rules.{Long}
 use Rattle.claims_wired.specs.Kept.{none, sources, writes, writesIn, Spares, Claim-155}
 use Rattle.claims_wired.proofs.Kept.{kept-same}

@@ -40,7 +40,7 @@ use Rattle.board_call.specs.Change.{kindOf, change}
 use Rattle.board_call.specs.Move.{acted}
 use Rattle.board_call.specs.Outcome.{thenSent, step}
 use Rattle.board_call_laws.specs.Fit.{Fit}
-use Rattle.board_call_laws.proofs.MoveEffects.{move-low, move-high}
+use Rattle.board_move_laws.proofs.MoveEffects.{move-low, move-high}
 use Rattle.board_call_laws.proofs.FileCallEffects.{number-read}
 use Rattle.claims_board.specs.Closure.{oldAccess, newAccess, touchesFile, Claim-152, Claim-153}
 use Rattle.claims_board.proofs.ClosureSent.{Addressed, accepted-present, silent-step, Silent}

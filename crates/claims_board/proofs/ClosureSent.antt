@@ -45,7 +45,7 @@ use Rattle.board_call.specs.Change.{change}
 use Rattle.board_call.specs.Outcome.{Stepped, thenSent, step}
 use Rattle.board_call_laws.specs.Fit.{Fit}
 use Rattle.board_call_laws.proofs.StepEffects.{sound-quiet, settled-quiet}
-use Rattle.board_call_laws.proofs.MoveEffects.{step-move}
+use Rattle.board_move_laws.proofs.MoveEffects.{step-move}
 use Rattle.claims_board.specs.Closure.{maySend, Claim-154, Claim-151}
 
 -- ---- a message of a list

@@ -31,7 +31,7 @@ use Rattle.board_call.proofs.RefusalLaws.{refused-blocks, refused-numbers, refu
 use Rattle.board_call_laws.proofs.GivesEffects.{gives-one}
 use Rattle.board_call_laws.proofs.FitEffects.{fit-block}
 use Rattle.board_call_laws.proofs.HartCallEffects.{signal-bit}
-use Rattle.board_call_laws.proofs.KeepsEffects.{kept-step}
+use Rattle.board_runs.proofs.KeptEffects.{kept-step}
 use Rattle.board_call_laws.proofs.OutcomeEffects.{outcome-refused, outcome-done}
 use Rattle.board_call_laws.proofs.StepEffects.{step-reset}
 use Rattle.claims_file.specs.FileFacts.{Claim-33}

@@ -52,9 +52,9 @@ use Rattle.board_call.specs.Outcome.{Stepped, step}
 use Rattle.board_call_laws.specs.Fit.{Fit}
 use Rattle.board_call_laws.proofs.CallTests.{quiet}
 use Rattle.board_call_laws.proofs.FitEffects.{fit-steady, fit-rules}
-use Rattle.board_call_laws.proofs.MoveEffects.{guest-hart, guest-low, guest-high, guest-number, move-old}
-use Rattle.board_call_laws.proofs.MoveEffects.{move-new}
-use Rattle.board_call_laws.proofs.MoveEffects.{move-apart, move-low, move-high, step-move}
+use Rattle.board_move_laws.proofs.MoveEffects.{guest-hart, guest-low, guest-high, guest-number, move-old}
+use Rattle.board_move_laws.proofs.MoveEffects.{move-new}
+use Rattle.board_move_laws.proofs.MoveEffects.{move-apart, move-low, move-high, step-move}
 use Rattle.transfer_laws.proofs.ArrivalEffects.{three}
 use Rattle.transfer_laws.proofs.ActedEffects.{acted-three, acted-others, acted-wired}
 use Rattle.transfer_laws.proofs.ActedEffects as board

@@ -18,7 +18,7 @@ use Rattle.board_call.specs.declared.Call.the-variants.{Reset, Wire, DomainRead
 use Rattle.board_call.specs.declared.Call.the-variants.{PageWrite, Register, Top, Claim, Signals, Move}
 use Rattle.board_call_laws.specs.Small.{Small}
 use Rattle.board_call_laws.proofs.FitEffects.{fit-block}
-use Rattle.board_call_laws.proofs.MoveEffects.{guest-hart, guest-low, guest-high}
+use Rattle.board_move_laws.proofs.MoveEffects.{guest-hart, guest-low, guest-high}
 use Rattle.board_runs.specs.Runs.{Lent, outcomeOn, after, ran}
 use Rattle.board_runs.specs.Ready.{boardIn}
 use Rattle.transfer_laws.specs.Shift.{Stations, Event, accessOf, withMove, withoutMove}

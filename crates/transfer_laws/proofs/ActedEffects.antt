@@ -25,8 +25,8 @@ use Rattle.board_block.specs.Block.{Board}
 use Rattle.board_call.specs.Move.{registerOn, retargetedIn, Acted, acted}
 use Rattle.board_call.specs.Refusal.{isGuestFile}
 use Rattle.board_call_laws.proofs.FileCallEffects.{guest-file}
-use Rattle.board_call_laws.proofs.MoveCallEffects.{guest-there}
-use Rattle.board_call_laws.proofs.MoveEffects.{guest-low, guest-number}
+use Rattle.board_move_laws.proofs.MoveCallEffects.{guest-there}
+use Rattle.board_move_laws.proofs.MoveEffects.{guest-low, guest-number}
 use Rattle.transfer_laws.proofs.ArrivalEffects.{three}
 
 three-path : {x y : Three} → x .old ≡ y .old → x .new ≡ y .new → x .numbers ≡ y .numbers → x ≡ y

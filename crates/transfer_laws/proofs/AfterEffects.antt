@@ -31,7 +31,7 @@ use Rattle.board_call_laws.proofs.FileCallEffects.{onlyFile, step-pageRead, ste
 use Rattle.board_call_laws.proofs.FileCallEffects.{step-top}
 use Rattle.board_call_laws.proofs.FileCallEffects.{step-claim}
 use Rattle.board_call_laws.proofs.HartCallEffects.{signal-bit, signal-guest-own}
-use Rattle.board_call_laws.proofs.MoveEffects.{guest-low, guest-high, guest-number}
+use Rattle.board_move_laws.proofs.MoveEffects.{guest-low, guest-high, guest-number}
 use Rattle.board_call_laws.proofs.OutcomeEffects.{outcome-refused, outcome-done}
 use Rattle.board_runs.specs.Runs.{Lent, outcomeOn, after, ran, outcomesOf}
 use Rattle.board_runs.specs.Ready.{boardIn, Ready}
@@ -41,7 +41,7 @@ use Rattle.transfer_laws.specs.Premises.{TwoGuests}
 use Rattle.transfer_laws.specs.Moved.{oldIn, newIn}
 use Rattle.transfer_laws.specs.After.{FileCall, callOn, Said, saidOf, GoesOn, SmallCalls}
 use Rattle.transfer_laws.specs.After.{SameSignal}
-use Rattle.board_call_laws.proofs.MoveCallEffects.{guest-there}
+use Rattle.board_move_laws.proofs.MoveCallEffects.{guest-there}
 use Rattle.transfer_laws.proofs.ActedEffects.{guest-is}
 
 -- ---- one call on a guest's file

@@ -46,7 +46,7 @@ use Rattle.board_call_laws.proofs.FileCallEffects.{onlyFile, file-lt, number-lt
 use Rattle.board_call_laws.specs.Fit.{Fit}
 use Rattle.board_call_laws.proofs.FitEffects.{fit-steady, fit-rules}
 use Rattle.board_call_laws.proofs.StepEffects.{sound-quiet, wiredStep}
-use Rattle.board_call_laws.proofs.MoveEffects.{guest-hart, guest-low, guest-high, guest-number}
+use Rattle.board_move_laws.proofs.MoveEffects.{guest-hart, guest-low, guest-high, guest-number}
 use Rattle.transfer_laws.specs.Shift.{Stations, isOld, isNew}
 use Rattle.transfer_laws.specs.Premises.{TwoGuests}
 use Rattle.transfer_laws.specs.Moved.{oldNumber, newNumber}

@@ -29,7 +29,7 @@ use Rattle.board_call.specs.Refusal.{isWire, present, nameRefusal}
 use Rattle.board_call_laws.specs.Fit.{Fit}
 use Rattle.board_call_laws.proofs.FitEffects.{fit-steady}
 use Rattle.board_call_laws.proofs.HartCallEffects.{signal-bit, signal-guest-own}
-use Rattle.board_call_laws.proofs.MoveEffects.{guest-hart, guest-low, guest-high}
+use Rattle.board_move_laws.proofs.MoveEffects.{guest-hart, guest-low, guest-high}
 use Rattle.board_call_laws.proofs.StepEffects.{sound-quiet, step-wire}
 use Rattle.board_call_laws.proofs.WiredCallEffects.{wire-low, wire-high}
 use Rattle.board_runs.specs.Runs.{Lent, after}

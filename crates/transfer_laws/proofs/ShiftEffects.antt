@@ -25,7 +25,7 @@ use Rattle.board_call.proofs.RefusalLaws.{numbers-name}
 use Rattle.board_call_laws.specs.Small.{Small}
 use Rattle.board_call_laws.proofs.FileCallEffects.{step-pageWrite}
 use Rattle.board_call_laws.proofs.FitEffects.{fit-block, fit-steady}
-use Rattle.board_call_laws.proofs.MoveEffects.{guest-low, step-move}
+use Rattle.board_move_laws.proofs.MoveEffects.{guest-low, step-move}
 use Rattle.board_call_laws.proofs.OutcomeEffects.{outcome-done}
 use Rattle.board_call_laws.proofs.StepEffects.{step-wire}
 use Rattle.board_call_laws.proofs.WiredCallEffects.{wire-low, wire-high}
@@ -39,7 +39,7 @@ use Rattle.transfer_laws.specs.Premises.{Started, TwoGuests, ByMessages,
 use Rattle.transfer_laws.specs.Premises.{AllAccesses}
 use Rattle.transfer_laws.specs.Premises.{PagesKept, Premises}
 use Rattle.transfer_laws.specs.Moved.{oldNumber, newNumber, Moved, MoveKeeps, AccessesDone, MoveDone}
-use Rattle.board_call_laws.proofs.MoveCallEffects.{guest-there}
+use Rattle.board_move_laws.proofs.MoveCallEffects.{guest-there}
 use Rattle.transfer_laws.proofs.Invariant.{old-lt, new-lt, new-parts, move-there, Middle, middle-page}
 use Rattle.transfer_laws.proofs.Invariant.{middle-wire}
 use Rattle.transfer_laws.proofs.Invariant.{middle-access}

@@ -1,9 +1,9 @@
 -- `board_move_calls::acts::perform` meets its contract: case by case it is the act of that case. Assumes
 -- nothing.
 use native.Mathlib.Omega.{arith}
-use Rattle.board_call_laws.proofs.MoveCallEffects.{save-within, put-within, target-low, target-high}
-use Rattle.board_call_laws.proofs.MoveCallEffects.{made-save, made-zero-new, made-zero-old, made-target}
-use Rattle.board_call_laws.proofs.MoveCallEffects.{made-put}
+use Rattle.board_move_laws.proofs.MoveCallEffects.{save-within, put-within, target-low, target-high}
+use Rattle.board_move_laws.proofs.MoveCallEffects.{made-save, made-zero-new, made-zero-old, made-target}
+use Rattle.board_move_laws.proofs.MoveCallEffects.{made-put}
 use borrow.Author.Needs.{needs}
 use Rattle.board_move_calls.proofs.acts.perform.Statement.{statement}
 use Rattle.board_move_calls.proofs.acts.perform.Tie as tie

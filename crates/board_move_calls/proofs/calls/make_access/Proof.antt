@@ -7,8 +7,8 @@ use Rattle.board_move_steps.specs.Steps.{actWithin}
 use Rattle.board_move_files_laws.proofs.TableLaws.{act-within}
 use Rattle.board_call.proofs.AnswerLaws.{done-case}
 use Rattle.board_call_laws.proofs.CallTests.{checked-long, checked-sound, tests-blocks}
-use Rattle.board_call_laws.proofs.MoveEffects.{move-old, move-new, move-low, move-high}
-use Rattle.board_call_laws.proofs.MoveCallEffects.{tests-move, move-unnamed, move-barred, move-done}
+use Rattle.board_move_laws.proofs.MoveEffects.{move-old, move-new, move-low, move-high}
+use Rattle.board_move_laws.proofs.MoveCallEffects.{tests-move, move-unnamed, move-barred, move-done}
 use borrow.Author.Needs.{needs}
 use Rattle.board_move_calls.proofs.calls.make_access.Statement.{statement}
 use Rattle.board_move_calls.proofs.calls.make_access.Tie as tie

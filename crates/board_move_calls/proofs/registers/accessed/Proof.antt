@@ -1,7 +1,7 @@
 -- `board_move_calls::registers::accessed` meets its contract: a guest's file is one of the 20. Assumes
 -- nothing.
 use Rattle.board_block.specs.Block.{boardOf}
-use Rattle.board_call_laws.proofs.MoveCallEffects.{guest-there, register-made}
+use Rattle.board_move_laws.proofs.MoveCallEffects.{guest-there, register-made}
 use borrow.Author.Needs.{needs}
 use Rattle.board_move_calls.proofs.registers.accessed.Statement.{statement}
 use Rattle.board_move_calls.proofs.registers.accessed.Tie as tie

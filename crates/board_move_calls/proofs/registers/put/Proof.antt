@@ -3,7 +3,7 @@ use mathlib.Core.Path.{ap, _∙_}
 use Rattle.file.specs.declared.register.Accessed.{Accessed}
 use Rattle.board_block.specs.Block.{boardOf}
 use Rattle.board_call.specs.Move.{withOne}
-use Rattle.board_call_laws.proofs.MoveCallEffects.{guest-there}
+use Rattle.board_move_laws.proofs.MoveCallEffects.{guest-there}
 use borrow.Author.Needs.{needs}
 use Rattle.board_move_calls.proofs.registers.put.Statement.{statement}
 use Rattle.board_move_calls.proofs.registers.put.Tie as tie

@@ -7,7 +7,7 @@ use Rattle.wired_state.specs.Wires.{Wired, domainIn}
 use Rattle.board_block.specs.Block.{withWired, boardOf}
 use Rattle.board_block.proofs.BlockLaws.{wired-long, wired-part, put-wired}
 use Rattle.board_call.specs.Move.{retargetedIn}
-use Rattle.board_call_laws.proofs.MoveCallEffects.{child-config}
+use Rattle.board_move_laws.proofs.MoveCallEffects.{child-config}
 use borrow.Author.Needs.{needs}
 use Rattle.board_move_calls.proofs.targets.retarget.Statement.{statement}
 use Rattle.board_move_calls.proofs.targets.retarget.Tie as tie

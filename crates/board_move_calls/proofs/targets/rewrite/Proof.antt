@@ -3,8 +3,8 @@
 use mathlib.Core.Path.{sym, _∙_}
 use native.Mathlib.Omega.{arith}
 use Rattle.wired_state.specs.Wires.{wiredOf}
-use Rattle.board_call_laws.proofs.MoveEffects.{guest-hart, guest-low, guest-high}
-use Rattle.board_call_laws.proofs.MoveCallEffects.{retarget-made, retarget-none}
+use Rattle.board_move_laws.proofs.MoveEffects.{guest-hart, guest-low, guest-high}
+use Rattle.board_move_laws.proofs.MoveCallEffects.{retarget-made, retarget-none}
 use borrow.Author.Needs.{needs}
 use Rattle.board_move_calls.proofs.targets.rewrite.Statement.{statement}
 use Rattle.board_move_calls.proofs.targets.rewrite.Tie as tie

@@ -39,11 +39,11 @@ use Rattle.board_call.specs.Refusal.{testsRules, present, addressed, selected, 
 use Rattle.board_call.specs.Refusal.{blockRefusal}
 use Rattle.board_call.specs.Move.{registerOn, withOne, retargetedIn, acted}
 use Rattle.board_call.specs.Outcome.{outcome, Gives, Does}
 use Rattle.board_call_laws.proofs.CallTests.{Tests, checked-long, checked-sound, tests-name}
 use Rattle.board_call_laws.proofs.CallTests.{tests-left}
 use Rattle.board_call_laws.proofs.FileCallEffects.{guest-file}
 use Rattle.board_call_laws.proofs.FitEffects.{shaped-steady}
-use Rattle.board_call_laws.proofs.MoveEffects.{guest-hart, guest-low, guest-high, step-access}
+use Rattle.board_move_laws.proofs.MoveEffects.{guest-hart, guest-low, guest-high, step-access}
 
 -- ---- a register of a guest's file
 

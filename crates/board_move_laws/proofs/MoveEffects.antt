@@ -1,5 +1,5 @@
 -- One access of a move on a board that is fit: it sends nothing, and leaves the board fit and the record of
--- 64 bits. No contract cites this file. Assumes nothing.
+-- 64 bits, so that the next call can be made. No contract cites this file. Assumes nothing.
 use Prim.Native.Nat.{ℕ, _^_, _≤_, _<_}
 use mathlib.Core.Path.{_≡_, refl}
 use mathlib.Core.Bool.{Bool, true, false, not, _&&_}
@@ -33,10 +33,11 @@ use Rattle.board_call.specs.Move.{registerOn, withOne, acted}
 use Rattle.board_move_wired_laws.proofs.StepThree.{retargeted-steady, retargeted-quiet, retargeted-sound}
 use Rattle.board_call.specs.Outcome.{step}
 use Rattle.board_call.specs.Refusal.{isGuestFile, isMove}
-use Rattle.board_call_laws.specs.Fit.{Fit, SavedFit}
+use Rattle.board_call_laws.specs.Fit.{Fit, SavedFit, Kept}
 use Rattle.board_call_laws.proofs.CallTests.{quiet}
 use Rattle.board_call_laws.proofs.FitEffects.{fit-steady, fit-rules, fit-withFile, fit-rewired}
+use Rattle.board_call_laws.proofs.KeepsEffects.{kept-of}
 use Rattle.board_call_laws.proofs.StepEffects.{sound-quiet, settled-quiet}
 
 -- ---- the numbers of a move that is not barred
 
@@ -185,3 +186,16 @@ pub step-move : (b : Board) → Fit b → (oh of nh nf n : ℕ) → isMove oh of
     → let x = acted (actOf n) oh of nh nf b s in
     step (Move oh of nh nf n) b s ≡ quiet (x .board) 0 (x .saved)
 step-move b fit = step-access b (fit .sound) (fit-steady b fit)
+
+pub kept-move : (b : Board) → Fit b → (s : List ℕ) → SavedFit s → (oh of nh nf n : ℕ)
+    → isMove oh of nh nf n ≡ true → Kept (step (Move oh of nh nf n) b s)
+kept-move b fit s small oh of nh nf n there =
+    let old = move-old oh of nh nf n there in
+    let new = move-new oh of nh nf n there in
+    let within = act-within n (move-low oh of nh nf n there) (move-high oh of nh nf n there) in
+    kept-of (step-move b fit oh of nh nf n there s)
+    record {
+      fit = acted-fit b fit oh of nh nf old new s small (actOf n) within;
+      few = omega arith;
+      saved = acted-saved b fit oh of nh nf old new s small (actOf n);
+    }

@@ -1,0 +1,1 @@
+// No code: what an access of a move gives, from what its code leaves.
