@@ -15,7 +15,7 @@ use Rattle.files.proofs.FilesLaws.{theFile-filesOf}
 use Rattle.domain.specs.Domain.{domainOf, configOf, generatedAt}
 use Rattle.domain.specs.Slot.{sourceAt}
 use Rattle.domain.specs.Structure.{structureAt}
-use Rattle.domain.proofs.SegmentLaws.{segment-at}
+use Rattle.words.proofs.SegmentLaws.{segment-at}
 use Rattle.domain.proofs.DomainLaws.{read-source, read-target, read-pending, read-enable, read-delivery}
 use Rattle.wired_state.specs.Wires.{wiredOf, domainIn}
 use Rattle.board_block.specs.Block.{boardOf}

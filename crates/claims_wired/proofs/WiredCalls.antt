@@ -4,8 +4,9 @@ use Prim.Native.Nat.{ℕ, _+_, _≤_}
 use mathlib.Core.Path.{_≡_, refl, sym, ap, ap₂, _∙_}
 use mathlib.Core.List.{List, _++_}
 use native.Mathlib.Omega.{arith}
-use lib.ListN.{length, take, drop, take-append-drop, length-take, length-drop}
+use lib.ListN.{length, take, drop, take-append-drop, length-drop}
 use lib.Seq.{drop-drop, take-all}
+use Rattle.words.proofs.SegmentLaws.{segment-long}
 use Rattle.domain.specs.Domain.{Domain, domainOf}
 use denote.Ref.{now}
 use Rattle.domain_region.specs.declared.Word.the-variants.{Sourcecfg}
@@ -68,17 +69,14 @@ claim-66 l m hl hm e =
     (stretch l m 130 2 (ap (λ (d : Domain). d .enable) e)
     (last-stretch l m 132 12 hl hm (ap (λ (d : Domain). d .delivery) e)))))
 
-part-long : (l : List ℕ) (a : ℕ) → a + 144 ≤ length l → length (take 144 (drop a l)) ≡ 144
-part-long l a h = simp (length-take, length-drop) (omega arith)
-
 pub claim-67 : Claim-67
 unfolding Claim-67 wiredOf
 claim-67 l m hl hm e =
     let same : (a : ℕ) → a + 144 ≤ 290 → domainOf (take 144 (drop a l)) ≡ domainOf (take 144 (drop a m))
     → take 144 (drop a l) ≡ take 144 (drop a m) =
     λ a h q. unfold Claim-66 in
-    claim-66 (take 144 (drop a l)) (take 144 (drop a m)) (part-long l a (omega arith))
-    (part-long m a (omega arith)) q in
+    claim-66 (take 144 (drop a l)) (take 144 (drop a m)) (segment-long l a 144 (omega arith))
+    (segment-long m a 144 (omega arith)) q in
     stretch l m 0 2 (ap (λ (w : Wired). w .wires) e)
     (stretch l m 2 144 (same 2 (omega arith) (ap (λ (w : Wired). w .root) e))
     (last-stretch l m 146 144 hl hm (same 146 (omega arith) (ap (λ (w : Wired). w .child) e))))

@@ -6,9 +6,9 @@ use mathlib.Core.List.{List}
 use native.Mathlib.Omega.{arith}
 use lib.ListN.{getD, set}
 use lib.Seq.{take-set-lt, take-set-le, getD-take}
+use Rattle.words.proofs.SegmentLaws.{segment-in, segment-before, segment-after, segment-at}
 use Rattle.domain.specs.Domain.{Domain, domainOf, withSources, withTargets, withPendings, withEnables}
 use Rattle.domain.specs.Domain.{withDeliveries}
-use Rattle.domain.proofs.SegmentLaws.{segment-in, segment-before, segment-after, segment-at}
 
 -- two domains are equal if their parts are
 pub domain-path : {d e : Domain} → d .source ≡ e .source → d .target ≡ e .target → d .pending ≡ e .pending

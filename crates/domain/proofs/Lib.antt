@@ -1,5 +1,4 @@
 -- The laws of a domain's words. Assumes nothing.
-pub mod SegmentLaws
 pub mod DomainLaws
 pub mod SlotLaws
 pub mod StructureLaws

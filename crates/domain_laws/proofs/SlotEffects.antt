@@ -16,7 +16,7 @@ use Rattle.domain.specs.Domain.{Domain, domainOf, withPendings}
 use Rattle.domain.specs.Slot.{sourceAt, withSource}
 use Rattle.domain.specs.Structure.{structureAt}
 use Rattle.domain.proofs.DomainLaws.{domain-path}
-use Rattle.domain.proofs.SegmentLaws.{segment-long}
+use Rattle.words.proofs.SegmentLaws.{segment-long}
 use Rattle.domain.proofs.SlotLaws.{source-path}
 use Rattle.domain_laws.specs.Shape.{DomainShaped}
 use Rattle.domain_laws.proofs.SetsBack.{put-back}

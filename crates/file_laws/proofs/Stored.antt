@@ -8,11 +8,12 @@ use native.Mathlib.Decide.{decLt}
 use native.Mathlib.Nat.{add-zero, add-assoc}
 use native.Mathlib.Numerals.{add-one}
 use native.Mathlib.Omega.{arith}
-use lib.ListN.{length, getD, take, drop, set, length-set, length-append, length-take, length-drop}
+use lib.ListN.{length, getD, take, drop, set, length-set, length-append, length-take}
 use lib.ListN.{List·getD-eq-default, List·getD-append, take-append-drop}
-use lib.Seq.{sets, sets-eq, length-sets, getD-take, getD-drop, getD-set-same, getD-set-other, getD-append-add}
+use lib.Seq.{sets, sets-eq, length-sets, getD-set-same, getD-set-other, getD-append-add}
 use lib.Seq.{ext-getD, drop-cons, drop-drop, take-add}
 use Rattle.words.specs.Sets.{WordsFit}
+use Rattle.words.proofs.SegmentLaws.{segment-at, segment-long}
 use Rattle.file.specs.declared.File.{File}
 use Rattle.file.specs.Shape.{Shaped}
 use Rattle.file_words.specs.Stored.{fileWords, fileAt, putFile}
@@ -43,27 +44,21 @@ sets-inside (v ∷ vs) l at (suc k) h m =
 
 -- ---- a stretch of a block
 
-part-at : (l : List ℕ) (at n i : ℕ) → i < n → getD (take n (drop at l)) i 0 ≡ getD l (at + i) 0
-part-at l at n i h = getD-take n (drop at l) i 0 h ∙ getD-drop at l i 0
-
-pub part-length : (l : List ℕ) (at n : ℕ) → at + n ≤ length l → length (take n (drop at l)) ≡ n
-part-length l at n h = simp (length-take, length-drop) (omega arith)
-
 -- two stretches of n words are equal if their words are
 part-same : (l m : List ℕ) (at at′ n : ℕ) → at + n ≤ length l → at′ + n ≤ length m
     → ((i : ℕ) → i < n → getD l (at + i) 0 ≡ getD m (at′ + i) 0) → take n (drop at l) ≡ take n (drop at′ m)
 part-same l m at at′ n hl hm h =
-    ext-getD 0 (take n (drop at l)) (take n (drop at′ m)) (part-length l at n hl
-    ∙ sym (part-length m at′ n hm))
-    (λ i q. let b : i < n = omega (arith, part-length l at n hl) in part-at l at n i b ∙ h i b
-    ∙ sym (part-at m at′ n i b))
+    ext-getD 0 (take n (drop at l)) (take n (drop at′ m)) (segment-long l at n hl
+    ∙ sym (segment-long m at′ n hm))
+    (λ i q. let b : i < n = omega (arith, segment-long l at n hl) in segment-at l at n i b ∙ h i b
+    ∙ sym (segment-at m at′ n i b))
 
 -- a stretch is a given list if its words are
 part-is : (l ws : List ℕ) (at n : ℕ) → at + n ≤ length l → length ws ≡ n
     → ((i : ℕ) → i < n → getD l (at + i) 0 ≡ getD ws i 0) → take n (drop at l) ≡ ws
 part-is l ws at n hl hw h =
-    ext-getD 0 (take n (drop at l)) ws (part-length l at n hl ∙ sym hw)
-    (λ i q. let b : i < n = omega (arith, part-length l at n hl) in part-at l at n i b ∙ h i b)
+    ext-getD 0 (take n (drop at l)) ws (segment-long l at n hl ∙ sym hw)
+    (λ i q. let b : i < n = omega (arith, segment-long l at n hl) in segment-at l at n i b ∙ h i b)
 
 -- ---- a file in a block
 
@@ -165,7 +160,7 @@ part-fit l at n fit k = place (decLt k n)
     past q = simp length-take (omega arith)
 
     place : Dec (k < n) → getD (take n (drop at l)) k 0 < 2 ^ 32
-    place (yes q) = subst (λ (x : ℕ). x < 2 ^ 32) (sym (part-at l at n k q)) (fit (at + k))
+    place (yes q) = subst (λ (x : ℕ). x < 2 ^ 32) (sym (segment-at l at n k q)) (fit (at + k))
     place (no q) =
         subst (λ (x : ℕ). x < 2 ^ 32) (sym (List·getD-eq-default (take n (drop at l)) 0 (past q)))
         (omega arith)
@@ -174,8 +169,8 @@ pub loaded-long : (l : List ℕ) (at : ℕ) → at + fieldsSize ≤ length l →
 unfolding fileAt
 loaded-long l at h =
     record {
-      pendingLong = part-length l (at + pendingPlace) 8 (omega arith);
-      enableLong = part-length l (at + enablePlace) 8 (omega arith);
+      pendingLong = segment-long l (at + pendingPlace) 8 (omega arith);
+      enableLong = segment-long l (at + enablePlace) 8 (omega arith);
     }
 
 -- a file loaded has the shape, where the block's words have 32 bits
@@ -185,9 +180,9 @@ loaded-shaped l at fit h =
     record {
       deliveryFit = fit at;
       thresholdFit = fit (at + thresholdPlace);
-      pendingLong = part-length l (at + pendingPlace) 8 (omega arith);
+      pendingLong = segment-long l (at + pendingPlace) 8 (omega arith);
       pendingFit = part-fit l (at + pendingPlace) 8 fit;
-      enableLong = part-length l (at + enablePlace) 8 (omega arith);
+      enableLong = segment-long l (at + enablePlace) 8 (omega arith);
       enableFit = part-fit l (at + enablePlace) 8 fit;
     }
 
@@ -213,7 +208,7 @@ unfolding putFile
 block-back l at h =
     let same = words-loaded l at h in
     let long : length (fileWords (fileAt l at)) ≡ fieldsSize = ap length (sym same)
-    ∙ part-length l at fieldsSize h in
+    ∙ segment-long l at fieldsSize h in
     sets-eq (fileWords (fileAt l at)) l at (omega arith)
     ∙ ap₂ (λ (r : List ℕ) (k : ℕ). take at l ++ r ++ drop (at + k) l) (sym same) long
     ∙ ap (λ (r : List ℕ). take at l ++ take fieldsSize (drop at l) ++ r) (sym (drop-drop fieldsSize at l))

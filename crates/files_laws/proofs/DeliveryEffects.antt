@@ -6,9 +6,10 @@ use mathlib.Core.List.{List, _∷_, _++_, append-assoc}
 use native.Mathlib.Omega.{arith}
 use lib.ListN.{length, getD, take, drop, set, replicate, length-set, take-append-drop, getD-replicate}
 use lib.Seq.{sets, sets-eq, drop-drop, drop-set-lt, set-set, getD-set-same, getD-set-other}
+use Rattle.words.proofs.SegmentLaws.{segment-long}
 use Rattle.file.specs.declared.File.{File}
 use Rattle.file.specs.Parts.{withDelivery}
-use Rattle.file_laws.proofs.Stored.{file-path, part-length, words-loaded}
+use Rattle.file_laws.proofs.Stored.{file-path, words-loaded}
 use Rattle.file_words.specs.Stored.{fileWords, fileAt, putFile}
 use Rattle.files.specs.Files.{zeroFile, filesFrom, filesOf, theFile, withFile}
 use Rattle.files.proofs.FilesLaws.{theFile-filesOf, filesOf-put}
@@ -22,7 +23,7 @@ use Rattle.sizes.specs.Sizes.{thresholdPlace, pendingPlace, enablePlace}
 part-back : (l : List ℕ) (at n : ℕ) → at + n ≤ length l → sets l at (take n (drop at l)) ≡ l
 part-back l at n h =
     let ws = take n (drop at l) in
-    let many : length ws ≡ n = part-length l at n h in
+    let many : length ws ≡ n = segment-long l at n h in
     sets-eq ws l at (omega arith)
     ∙ ap (λ (k : ℕ). take at l ++ ws ++ drop (at + k) l) many
     ∙ ap (λ (r : List ℕ). take at l ++ ws ++ r) (sym (drop-drop n at l))

@@ -11,6 +11,7 @@ use lib.ListN.{length, getD, take, drop, set, length-take, length-drop, length-a
 use lib.Seq.{take-at, drop-at, drop-drop, take-add, drop-cons, take-set-lt, drop-set-lt, getD-take}
 use Rattle.words.specs.Bits.{putBit}
 use Rattle.words.specs.Sets.{put}
+use Rattle.words.proofs.SegmentLaws.{segment-long}
 use Rattle.words.proofs.SetsLaws.{put-word}
 use Rattle.domain.specs.Domain.{Domain, domainOf}
 use Rattle.domain.specs.Slot.{sourceAt}
@@ -43,7 +44,7 @@ module _ (l ys : List ℕ) (long : length l ≡ wiredSize) (part : length ys ≡
       let middle = take domainSize (drop 2 l) in
       let two : length (take 2 l) ≡ 2 = simp length-take (omega arith) in
       let most : length (take childPlace l) ≡ childPlace = simp length-take (omega arith) in
-      let whole : length middle ≡ domainSize = simp (length-take, length-drop) (omega arith) in
+      let whole : length middle ≡ domainSize = segment-long l 2 domainSize (omega arith) in
       let apart : take childPlace l ++ z ≡ take 2 l ++ (middle ++ z) =
       ap (λ (x : List ℕ). x ++ z) (take-add 2 domainSize l) ∙ append-assoc (take 2 l) middle z in
       wired-path (ap (take 2) apart ∙ take-at (take 2 l) (middle ++ z) 2 two)
@@ -58,10 +59,10 @@ module _ (l ys : List ℕ) (long : length l ≡ wiredSize) (part : length ys ≡
 -- the parts that are lent
 module _ (l : List ℕ) (long : length l ≡ wiredSize) where
   pub root-long : length (take domainSize (drop 2 l)) ≡ domainSize
-  root-long = simp (length-take, length-drop) (omega arith)
+  root-long = segment-long l 2 domainSize (omega arith)
 
   pub child-long : length (take domainSize (drop childPlace l)) ≡ domainSize
-  child-long = simp (length-take, length-drop) (omega arith)
+  child-long = segment-long l childPlace domainSize (omega arith)
 
   pub root-part : domainOf (take domainSize (drop 2 l)) ≡ wiredOf l .root
   unfolding wiredOf

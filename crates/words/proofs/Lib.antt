@@ -2,6 +2,7 @@
 pub mod BitsLaws
 pub mod EveryLaws
 pub mod PartsLaws
+pub mod SegmentLaws
 pub mod SetsLaws
 pub mod TestsLaws
 pub mod ThresholdLaws

@@ -1,5 +1,5 @@
--- A stretch of a list, n elements from a on, after one element was stored: inside it, before it, behind it.
--- No contract cites this file. Assumes nothing.
+-- A stretch of a list, n elements from a on: what stands in it, its length, and what it is after one element
+-- was stored: inside it, before it, behind it. No contract cites this file. Assumes nothing.
 use Prim.Native.Nat.{ℕ, _+_, _-_, _≤_, _<_}
 use mathlib.Core.Path.{_≡_, ap, _∙_}
 use mathlib.Core.List.{List}
