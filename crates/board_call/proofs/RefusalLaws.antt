@@ -106,6 +106,10 @@ module _ (c : Call) (b : Board) where
   unfolding nameRefusal nameTests firstFailed
   refused-name n = simp n
 
+  -- an accepted call named what is there
+  pub accepted-present : nameRefusal c b ≡ 0 → present c b ≡ true
+  accepted-present e = tested (present c b) (λ y. y) (λ n. absurd (omega (arith, refused-name n, e)))
+
   module _ (n : present c b ≡ true) where
     pub refused-address : addressed c ≡ false → nameRefusal c b ≡ 5
     unfolding nameRefusal nameTests firstFailed

@@ -34,4 +34,5 @@ module _ (b : Board) (fit : Fit b) (s : List ℕ) (small : SavedFit s) where
   kept-step (call.Claim h f) n t = kept-claim b fit s small h f n
   kept-step (call.Signals h) n t = kept-answering b fit s small _
   kept-step (call.Move oh of nh nf k) n t =
-      kept-move b fit s small oh of nh nf k (and-first (isMove oh of nh nf k) (byMessages (b .wired .child)) n)
+      kept-move b fit s small oh of nh nf k
+      (and-first (isMove oh of nh nf k) (byMessages (b .wired .child)) n)

@@ -8,14 +8,13 @@ use mathlib.Core.Logic.{_≢_}
 use native.Mathlib.Decide.{ℕ-discrete}
 use native.Mathlib.Omega.{arith}
 use lib.ListN.{length, length-append, length-drop}
-use Rattle.words.proofs.TestsLaws.{tested}
 use Rattle.domain_sending.specs.Sending.{logged}
 use Rattle.board_block.specs.Block.{blockOf}
 use Rattle.board_block_laws.proofs.BlockBack.{board-back, length-blockOf}
 use Rattle.board_call.specs.declared.Call.{Call}
 use Rattle.board_call.specs.Outcome.{Outcome, Stepped, step}
-use Rattle.board_call.specs.Refusal.{testsRules, present, nameRefusal, refusalOf}
-use Rattle.board_call.proofs.RefusalLaws.{refused-numbers, refused-name, blocks-sound}
+use Rattle.board_call.specs.Refusal.{testsRules, nameRefusal, refusalOf}
+use Rattle.board_call.proofs.RefusalLaws.{refused-numbers, accepted-present, blocks-sound}
 use Rattle.board_call_laws.specs.Fit.{Fit, Kept}
 use Rattle.board_call_laws.specs.Small.{Small}
 use Rattle.board_call_laws.proofs.OutcomeEffects.{outcome-refused, outcome-done}
@@ -56,11 +55,6 @@ module _ (c : Call) (x : Lent) where
         refused-numbers c (x .block) (x .log)
         (blocks-sound (testsRules c) (x .block) (x .log) (ready .long) (ready .full) (ready .fit .sound))
 
-    -- an accepted call named what is there
-    pub accepted-named : nameRefusal c (boardIn x) ≡ 0 → present c (boardIn x) ≡ true
-    accepted-named e =
-        tested (present c (boardIn x)) (λ y. y) (λ n. absurd (omega (arith, refused-name c (boardIn x) n, e)))
-
     abbrev stepped : Stepped
     stepped = step c (boardIn x) (x .saved)
 
@@ -79,7 +73,9 @@ module _ (c : Call) (x : Lent) where
 
       module _ (small : Small c) where
         kept : Kept stepped
-        kept = kept-step (boardIn x) (ready .fit) (x .saved) (ready .saved) c (accepted-named e) small
+        kept =
+            kept-step (boardIn x) (ready .fit) (x .saved) (ready .saved) c (accepted-present c (boardIn x) e)
+            small
 
         -- the board that the next call is made on
         pub after-board : boardIn (after c x) ≡ stepped .board

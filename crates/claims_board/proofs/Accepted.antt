@@ -25,6 +25,7 @@ use Rattle.wired_state.specs.Wires.{domainIn}
 use Rattle.wired_registers.specs.Wired.{readIn}
 use Rattle.wired.specs.Controller.{Out}
 use Rattle.board_block.specs.Block.{Board, boardSound}
+use Rattle.board_call.proofs.RefusalLaws.{accepted-present}
 use Rattle.board_call.specs.declared.Call.the-variants.{DomainRead}
 use Rattle.board_call.specs.Change.{kindOf, onFile, change}
 use Rattle.board_call.specs.Outcome.{Outcome, Stepped, thenSent, step, doneAs}
@@ -33,7 +34,7 @@ use Rattle.board_call_laws.proofs.StepEffects.{wiredStep, step-wire, step-domai
 use Rattle.board_call_laws.proofs.StepEffects.{step-onFile}
 use Rattle.board_runs.specs.Runs.{outcomeOn, after}
 use Rattle.board_runs.specs.Ready.{boardIn}
-use Rattle.board_runs.proofs.RunsEffects.{ready-refusal, accepted-named, after-board, ready-after}
+use Rattle.board_runs.proofs.RunsEffects.{ready-refusal, after-board, ready-after}
 use Rattle.board_call_laws.specs.Fit.{Kept}
 use Rattle.board_runs.proofs.KeptEffects.{kept-step}
 use Rattle.claims_registers.specs.Registers.{Claim-132}
@@ -62,7 +63,7 @@ claim-171 c x ready small e =
     let done : outcomeOn c x ≡ doneAs y (x .log) =
     outcome-done c (x .block) (x .log) (x .saved) (ready-refusal c x ready ∙ e) in
     let kept : Kept y =
-    kept-step (boardIn x) (ready .fit) (x .saved) (ready .saved) c (accepted-named c x ready e) small in
+    kept-step (boardIn x) (ready .fit) (x .saved) (ready .saved) c (accepted-present c (boardIn x) e) small in
     let next = ready-after c x ready small in (
       ap (λ (o : Outcome). o .number) done,
       ap (λ (o : Outcome). o .value) done,

@@ -25,6 +25,7 @@ use Rattle.board_move_steps.specs.Steps.{actOf, actWithin}
 use Rattle.board_move_files_laws.proofs.TableLaws.{act-within}
 use Rattle.board_block.specs.Block.{Board}
 use Rattle.board_block_laws.specs.Shape.{BoardShaped}
+use Rattle.board_call.proofs.RefusalLaws.{accepted-present}
 use Rattle.board_call.specs.declared.Call.{Call}
 use Rattle.board_call.specs.declared.Call.the-variants.{Reset, Wire, DomainRead, DomainWrite, PageRead}
 use Rattle.board_call.specs.declared.Call.the-variants.{PageWrite, Register, Top, Claim, Signals, Move}
@@ -39,7 +40,6 @@ use Rattle.claims_wired.specs.Kept.{none, sources, writes, writesIn, Spares, Cl
 use Rattle.claims_wired.proofs.Kept.{kept-same}
 use Rattle.claims_wired.proofs.KeptWired.{claim-155}
 use Rattle.claims_board.specs.Closure.{retargets, touches, touchesWire, Claim-150}
-use Rattle.claims_board.proofs.ClosureSent.{accepted-present}
 
 -- ---- a move: access 8 + i is that of source i
 

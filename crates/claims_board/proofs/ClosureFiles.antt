@@ -32,6 +32,7 @@ use Rattle.board_move_steps.specs.declared.Act.{Act}
 use Rattle.board_move_steps.specs.declared.Act.the-variants.{Save, Zero, Target, Put}
 use Rattle.board_move_steps.specs.Steps.{actOf}
 use Rattle.board_block.specs.Block.{Board}
+use Rattle.board_call.proofs.RefusalLaws.{accepted-present}
 use Rattle.board_call.specs.declared.Call.{Call}
 use Rattle.board_call.specs.declared.Call.the-variants.{Reset, Wire, DomainRead, DomainWrite, PageRead}
 use Rattle.board_call.specs.declared.Call.the-variants.{PageWrite, Register, Top, Claim, Signals, Move}
@@ -43,7 +44,7 @@ use Rattle.board_call_laws.specs.Fit.{Fit}
 use Rattle.board_move_laws.proofs.MoveEffects.{move-low, move-high}
 use Rattle.board_call_laws.proofs.FileCallEffects.{number-read}
 use Rattle.claims_board.specs.Closure.{oldAccess, newAccess, touchesFile, Claim-152, Claim-153}
-use Rattle.claims_board.proofs.ClosureSent.{Addressed, accepted-present, silent-step, Silent}
+use Rattle.claims_board.proofs.ClosureSent.{Addressed, silent-step, Silent}
 use Rattle.claims_board.proofs.ClosureSent.{step-addressed, generatedBy-addressed}
 
 -- ---- the file and the identity that a message names

@@ -39,8 +39,8 @@ use Rattle.board_block_laws.proofs.StartEffects.{start-sound}
 use Rattle.board_call.specs.declared.Call.{Call}
 use Rattle.board_call.specs.declared.Call.the-variants.{Reset, Wire, DomainRead, DomainWrite, PageRead}
 use Rattle.board_call.specs.declared.Call.the-variants.{PageWrite, Register, Top, Claim, Signals, Move}
-use Rattle.board_call.specs.Refusal.{present, nameRefusal, isMove}
-use Rattle.board_call.proofs.RefusalLaws.{refused-name}
+use Rattle.board_call.specs.Refusal.{present, isMove}
+use Rattle.board_call.proofs.RefusalLaws.{accepted-present}
 use Rattle.board_call.specs.Change.{change}
 use Rattle.board_call.specs.Outcome.{Stepped, thenSent, step}
 use Rattle.board_call_laws.specs.Fit.{Fit}
@@ -133,10 +133,6 @@ claim-151 call b s = let w = change call b s .board .wired in (
     ),
   ),
 )
-
--- what an accepted call names is there
-pub accepted-present : (c : Call) (b : Board) → nameRefusal c b ≡ 0 → present c b ≡ true
-accepted-present c b e = tested (present c b) (λ y. y) (λ n. absurd (omega (arith, refused-name c b n, e)))
 
 -- ---- what sends nothing
 

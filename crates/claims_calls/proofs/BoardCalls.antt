@@ -20,12 +20,12 @@ use Rattle.board_block.specs.Block.{Board, boardOf}
 use Rattle.board_block_laws.proofs.BlockBack.{block-back, board-back, length-blockOf}
 use Rattle.board_block_laws.proofs.StartEffects.{start-sound}
 use Rattle.board_call.specs.declared.Call.{Call}
-use Rattle.board_call.specs.Refusal.{testsRules, present, blockRefusal, nameRefusal, refusalOf}
+use Rattle.board_call.specs.Refusal.{testsRules, blockRefusal, nameRefusal, refusalOf}
 use Rattle.board_call.specs.declared.Call.the-variants.{Signals}
 use Rattle.board_call.specs.Change.{signalAt, signalsTo, change}
 use Rattle.board_call.specs.Outcome.{thenSent, step, outcome}
 use Rattle.board_call.proofs.RefusalLaws.{refused-state, refused-log, refused-rules, blocks-sound}
-use Rattle.board_call.proofs.RefusalLaws.{blocks-untested}
+use Rattle.board_call.proofs.RefusalLaws.{blocks-untested, accepted-present}
 use Rattle.board_call.proofs.RefusalLaws.{refused-name, refused-address, refused-select, numbers-name}
 use Rattle.board_call.proofs.RefusalLaws.{refused-blocks, refused-numbers, refused-none, passed-state}
 use Rattle.board_call_laws.proofs.GivesEffects.{gives-one}
@@ -97,16 +97,13 @@ claim-85 c l g s h = simp (ne-eqb (refusalOf c l g) 0 h)
 
 -- ---- what an accepted call leaves
 
-names : (c : Call) (b : Board) → nameRefusal c b ≡ 0 → present c b ≡ true
-names c b e = tested (present c b) (λ y. y) (λ n. absurd (omega (arith, refused-name c b n, e)))
-
 pub claim-86 : Claim-86
 unfolding Claim-86
 claim-86 l g s fit savedFit c small sound e =
     let passed = refused-none c l g e in
     let long = passed-state (testsRules c) l g (passed .0) in
     let kept = kept-step (boardOf l) (fit-block l long fit sound) s savedFit c
-    (names c (boardOf l) (passed .1))
+    (accepted-present c (boardOf l) (passed .1))
     small in
     (kept .fit .sound, kept .fit .shaped, kept .fit .files, kept .few, kept .saved)
 

@@ -17,11 +17,11 @@ use Rattle.file.specs.Top.{passes, qualifies, topIdentity, topOf, signals}
 use Rattle.file.specs.Register.{written}
 use Rattle.file.proofs.TopLaws.{qualifies-pending, qualifies-enabled, qualifies-passes, qualifies-standing}
 use Rattle.file.proofs.TopLaws.{topOf-zero-1, topOf-zero-2, claimed-none}
-use Rattle.file.proofs.RegisterLaws.{accessed-illegal}
+use Rattle.file.proofs.RegisterLaws.{written-illegal, accessed-illegal}
 use Rattle.file_laws.proofs.PageEffects.{arrived-pending, arrived-rest, arrived-delivery}
 use Rattle.file_laws.proofs.TopEffects.{top-zero-iff, top-is, top-qualifies, top-lowest, top-within}
 use Rattle.file_laws.proofs.TopEffects.{top-below-threshold, claimed-pending, claimed-rest}
-use Rattle.file_laws.proofs.RegisterEffects.{delivery-back, delivery-kept, threshold-back, pending-back}
+use Rattle.file_laws.proofs.RegisterEffects.{delivery-back, threshold-back, pending-back}
 use Rattle.file_laws.proofs.RegisterEffects.{enable-back, member-put, member-put-other}
 use Rattle.file_laws.proofs.Keeps.{rules-of, sound-of, page-rules, claimed-rules, accessed-rules}
 use Rattle.file_laws.proofs.Stored.{file-back, block-back, file-apart, loaded-shaped}
@@ -123,7 +123,7 @@ claim-26 = arrived-delivery
 
 pub claim-27 : Claim-27
 unfolding Claim-27
-claim-27 g f v = (delivery-back 255 g f v, delivery-kept 255 g f v, threshold-back 255 g f v)
+claim-27 g f v = (delivery-back 255 g f v, written-illegal 255 g f v, threshold-back 255 g f v)
 
 pub claim-28 : Claim-28
 unfolding Claim-28 written

@@ -63,7 +63,7 @@ module _ (w : Wired) where
   own-with true d = refl
   own-with false d = refl
 
-  wires-with : (c : Bool) (d : Domain) → withDomain w c d .wires ≡ w .wires
+  pub wires-with : (c : Bool) (d : Domain) → withDomain w c d .wires ≡ w .wires
   unfolding withDomain
   wires-with true d = refl
   wires-with false d = refl

@@ -47,6 +47,7 @@ use Rattle.wired_registers.specs.Wired.{claimedIn, partWritten, writtenAs, writ
 use Rattle.claims_registers.specs.Rules.{Long}
 use Rattle.claims_wired.specs.Kept.{Touch, none, sources, harts, whileDirect, writes, claims, reads}
 use Rattle.claims_wired.specs.Kept.{writesIn, readsIn, Spares, Claim-155}
+use Rattle.claims_wired.proofs.Accesses.{wires-with}
 use Rattle.claims_wired.proofs.Kept.{out, keep, pendingOf, enabledOf, targetOf, modeOf, kept-same}
 use Rattle.claims_wired.proofs.Kept.{kept-became, kept-pendings, kept-wholes, kept-pend, kept-clear}
 use Rattle.claims_wired.proofs.Kept.{kept-enable, kept-disable, kept-config, kept-generated}
@@ -211,11 +212,6 @@ module _ (w : Wired) (long : Long w) where
 
   -- ---- a register
 
-  wires-with : (c : Bool) (d : Domain) → withDomain w c d .wires ≡ w .wires
-  unfolding withDomain
-  wires-with true d = refl
-  wires-with false d = refl
-
   abbrev Stays : Bool → Word → ℕ → Bool → Wired → Type 0
   Stays c r v e w′ = Spares (writesIn w c r v e) (domainIn w e) (domainIn w′ e) × (w′ .wires ≡ w .wires)
 
@@ -252,7 +248,7 @@ module _ (w : Wired) (long : Long w) where
   kept-writtenIn c r q v e = at (roleOf r) refl
     where
       part : Stays c r v e (partWritten w c r v)
-      part = (kept-part c r q v e, wires-with c _)
+      part = (kept-part c r q v e, wires-with w c _)
 
       at : (x : Role) → roleOf r ≡ x → Stays c r v e (writtenAs w c r v x)
       at (Claims h) p = unfold writtenAs in part
@@ -281,5 +277,5 @@ unfolding Claim-155
 claim-155 w long e = (
   (λ i l h level. (kept-wire w long i l h level e, (λ j n. other-wire w long i j level n))),
   (λ c r q v. kept-writtenIn w long c r q v e),
-  (λ c r. (kept-claimedIn w long c r e, wires-with w long c _)),
+  (λ c r. (kept-claimedIn w long c r e, wires-with w c _)),
 )

@@ -9,6 +9,7 @@ use native.Mathlib.Omega.{arith}
 use lib.Dec.{eqb, leb, lit<}
 use lib.ListN.{take, drop}
 use borrow.Author.Tests.{eqb-true, leb-true, ltb-true, le-leb, le-ltb, lt-ltb, eq-eqb}
+use Rattle.words.proofs.BitsLaws.{bit-cases}
 use Rattle.words.proofs.TestsLaws.{and-first, and-second, and-both}
 use Rattle.domain_region.specs.declared.Word.{Word}
 use Rattle.domain_region.specs.declared.Word.the-variants.{Domaincfg, Sourcecfg, Setip, Setipnum}
@@ -159,31 +160,26 @@ target-at s l m =
     word-skip (0x3000 + 4 * s) (take 13 registers) (drop 13 registers) (omega arith)
     ∙ name-at (wordsFrom 0x3000 1 63 Target) (0x3000 + 4 * s) s _ (lit< tt) l m refl
 
-below-two : (P : ℕ → Type 0) → P 0 → P 1 → (k : ℕ) → k < 2 → P k
-below-two P a b zero h = a
-below-two P a b (suc zero) h = b
-below-two P a b (suc (suc k)) h = absurd (omega arith)
-
 below-four : (P : ℕ → Type 0) → P 0 → P 1 → P 2 → P 3 → (k : ℕ) → k < 4 → P k
 below-four P a b c d zero h = a
 below-four P a b c d (suc zero) h = b
-below-four P a b c d (suc (suc k)) h = below-two (λ (n : ℕ). P (suc (suc n))) c d k (omega arith)
+below-four P a b c d (suc (suc k)) h = bit-cases (λ (n : ℕ). P (suc (suc n))) c d k (omega arith)
 
 pub setip-at : (k : ℕ) → k < 2 → wordAt (0x1C00 + 4 * k) ≡ Setip k
 unfolding registers wordAt wordIn nameIn
-setip-at k h = below-two (λ (k : ℕ). wordAt (0x1C00 + 4 * k) ≡ Setip k) refl refl k h
+setip-at k h = bit-cases (λ (k : ℕ). wordAt (0x1C00 + 4 * k) ≡ Setip k) refl refl k h
 
 pub in-clrip-at : (k : ℕ) → k < 2 → wordAt (0x1D00 + 4 * k) ≡ InClrip k
 unfolding registers wordAt wordIn nameIn
-in-clrip-at k h = below-two (λ (k : ℕ). wordAt (0x1D00 + 4 * k) ≡ InClrip k) refl refl k h
+in-clrip-at k h = bit-cases (λ (k : ℕ). wordAt (0x1D00 + 4 * k) ≡ InClrip k) refl refl k h
 
 pub setie-at : (k : ℕ) → k < 2 → wordAt (0x1E00 + 4 * k) ≡ Setie k
 unfolding registers wordAt wordIn nameIn
-setie-at k h = below-two (λ (k : ℕ). wordAt (0x1E00 + 4 * k) ≡ Setie k) refl refl k h
+setie-at k h = bit-cases (λ (k : ℕ). wordAt (0x1E00 + 4 * k) ≡ Setie k) refl refl k h
 
 pub clrie-at : (k : ℕ) → k < 2 → wordAt (0x1F00 + 4 * k) ≡ Clrie k
 unfolding registers wordAt wordIn nameIn
-clrie-at k h = below-two (λ (k : ℕ). wordAt (0x1F00 + 4 * k) ≡ Clrie k) refl refl k h
+clrie-at k h = bit-cases (λ (k : ℕ). wordAt (0x1F00 + 4 * k) ≡ Clrie k) refl refl k h
 
 pub idelivery-at : (h : ℕ) → h < 4 → wordAt (0x4000 + 32 * h + 0x00) ≡ Idelivery h
 unfolding registers wordAt wordIn nameIn

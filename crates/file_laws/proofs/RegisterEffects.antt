@@ -24,7 +24,7 @@ use Rattle.file_select.specs.Deliveries.{deliveryLegal}
 use Rattle.file.specs.declared.File.{File}
 use Rattle.file.specs.declared.register.Access.the-variants.{Read}
 use Rattle.file.specs.Register.{held, written, accessedAt, accessed}
-use Rattle.file.proofs.RegisterLaws.{written-legal, written-illegal}
+use Rattle.file.proofs.RegisterLaws.{written-legal}
 
 -- ---- two words of a set
 
@@ -111,9 +111,6 @@ module _ (n : ℕ) (g : Bool) (f : File) (v : ℕ) where
   pub delivery-back : deliveryLegal g v ≡ true → held (written n g f Delivery v) Delivery ≡ v
   unfolding held
   delivery-back e = ap (λ (h : File). h .delivery) (written-legal n g f v e)
-
-  pub delivery-kept : deliveryLegal g v ≡ false → written n g f Delivery v ≡ f
-  delivery-kept = written-illegal n g f v
 
   pub threshold-back : held (written n g f Threshold v) Threshold ≡ v % (n + 1)
   unfolding held written

@@ -23,6 +23,7 @@ use Rattle.board_move_wired_laws.proofs.TargetNames.{names-other, renamed-other
 use Rattle.board_move_wired_laws.proofs.WireRelated.{wire-both}
 use Rattle.board_move_wired_laws.proofs.StepThree.{only-start}
 use Rattle.board_block.specs.Block.{Board}
+use Rattle.board_call.proofs.RefusalLaws.{accepted-present}
 use Rattle.board_call.specs.declared.Call.the-variants.{Wire}
 use Rattle.board_call.specs.Change.{signalsTo}
 use Rattle.board_call.specs.Refusal.{isWire, present, nameRefusal}
@@ -34,7 +35,7 @@ use Rattle.board_call_laws.proofs.StepEffects.{sound-quiet, step-wire}
 use Rattle.board_call_laws.proofs.WiredCallEffects.{wire-low, wire-high}
 use Rattle.board_runs.specs.Runs.{Lent, after}
 use Rattle.board_runs.specs.Ready.{boardIn, Ready}
-use Rattle.board_runs.proofs.RunsEffects.{after-refused, ready-refusal, accepted-named, after-board}
+use Rattle.board_runs.proofs.RunsEffects.{after-refused, ready-refusal, after-board}
 use Rattle.transfer_laws.specs.Shift.{Stations}
 use Rattle.transfer_laws.specs.Premises.{TwoGuests}
 use Rattle.transfer_laws.specs.Moved.{oldNumber, oldIn}
@@ -90,7 +91,8 @@ module _ (m : Stations) (g : TwoGuests m) where
       at : Dec (nameRefusal (Wire i level) (boardIn x) ≡ 0)
           → oldIn m (boardIn (after (Wire i level) x)) ≡ oldIn m (boardIn x)
       at (yes e) =
-          let there : isWire i level ≡ true = unfold present in accepted-named (Wire i level) x ready e in
+          let there : isWire i level ≡ true = unfold present in
+          accepted-present (Wire i level) (boardIn x) e in
           rw (after-board (Wire i level) x ready e tt, step-wire (boardIn x) i level (x .saved))
           (wire-apart (boardIn x) (ready .fit) left i (wire-low i level there) (wire-high i level there)
           (eqb level 1))

@@ -21,7 +21,7 @@ use Rattle.board_call.specs.declared.Call.the-variants.{Wire, PageWrite}
 use Rattle.board_call.specs.Outcome.{Outcome, step}
 use Rattle.board_call.specs.Refusal.{isWire, isFile, isPageAddress, isMove, present, addressed, selected}
 use Rattle.board_call.specs.Refusal.{firstFailed, nameTests, nameRefusal}
-use Rattle.board_call.proofs.RefusalLaws.{numbers-name}
+use Rattle.board_call.proofs.RefusalLaws.{numbers-name, accepted-present}
 use Rattle.board_call_laws.specs.Small.{Small}
 use Rattle.board_call_laws.proofs.FileCallEffects.{step-pageWrite}
 use Rattle.board_call_laws.proofs.FitEffects.{fit-block, fit-steady}
@@ -31,7 +31,7 @@ use Rattle.board_call_laws.proofs.StepEffects.{step-wire}
 use Rattle.board_call_laws.proofs.WiredCallEffects.{wire-low, wire-high}
 use Rattle.board_runs.specs.Runs.{Lent, outcomeOn, after, ran}
 use Rattle.board_runs.specs.Ready.{boardIn, Ready}
-use Rattle.board_runs.proofs.RunsEffects.{after-refused, ready-refusal, accepted-named, after-board}
+use Rattle.board_runs.proofs.RunsEffects.{after-refused, ready-refusal, after-board}
 use Rattle.board_runs.proofs.RunsEffects.{after-saved}
 use Rattle.board_runs.proofs.RunsEffects.{ready-after}
 use Rattle.transfer_laws.specs.Shift.{Stations, Event, accessOf, isOld, isNew, withMove, withoutMove}
@@ -97,8 +97,8 @@ module _ (m : Stations) (g : TwoGuests m) where
         wired : nameRefusal (Wire i level) (boardIn x) ≡ 0 → nameRefusal (Wire i level) (boardIn y) ≡ 0
             → Beside n (after (Wire i level) x) (after (Wire i level) y)
         wired e e′ =
-            let there : isWire i level ≡ true = unfold present in accepted-named (Wire i level) x (r .ready) e
-            in
+            let there : isWire i level ≡ true = unfold present in
+            accepted-present (Wire i level) (boardIn x) e in
             done n (Wire i level) (Wire i level) tt tt e e′
             (rw (step-wire (boardIn x) i level (x .saved), step-wire (boardIn y) i level (y .saved))
             (middle-wire m g n (boardIn x) (boardIn y) (x .saved) (r .ready .fit) (r .ready′ .fit)
@@ -137,9 +137,8 @@ module _ (m : Stations) (g : TwoGuests m) where
               → nameRefusal (PageWrite h′ f′ a v) (boardIn y) ≡ 0
               → Beside n (after (PageWrite h f a v) x) (after (PageWrite h′ f′ a v) y)
           written e e′ =
-              let there : isFile h f ≡ true = unfold present in accepted-named (PageWrite h f a v) x
-              (r .ready)
-              e in
+              let there : isFile h f ≡ true = unfold present in accepted-present (PageWrite h f a v)
+              (boardIn x) e in
               done n (PageWrite h f a v) (PageWrite h′ f′ a v) tt tt e e′
               (rw (
                 step-pageWrite (boardIn x) (r .ready .fit .sound) h f _ refl a v (x .saved),

@@ -201,7 +201,7 @@ pub hasBit-withoutBit-other : (w k j : ℕ) → j ≢ k → hasBit (withoutBit w
 hasBit-withoutBit-other w k j h = hasBit-bitOf (withoutBit w k) j w j (bitOf-withoutBit-other w k j h)
 
 -- a bit is 0 or 1
-bit-cases : (P : ℕ → Type 0) → P 0 → P 1 → (x : ℕ) → x < 2 → P x
+pub bit-cases : (P : ℕ → Type 0) → P 0 → P 1 → (x : ℕ) → x < 2 → P x
 bit-cases P p q zero h = p
 bit-cases P p q (suc zero) h = q
 bit-cases P p q (suc (suc x)) h = absurd (omega arith)
