@@ -8,7 +8,6 @@ use mathlib.Core.Logic.{_≢_, _⊎_, inl, inr, ⊎-elim}
 use native.Mathlib.Decide.{ℕ-discrete}
 use native.Mathlib.Omega.{arith}
 use lib.ListN.{set}
-use lib.Seq.{set-getD}
 use Rattle.words.specs.Parts.{fieldOf}
 use Rattle.words.specs.Sets.{member}
 use Rattle.words.proofs.TestsLaws.{tested}
@@ -21,8 +20,7 @@ use Rattle.source_laws.proofs.SteadyParts.{steady-inactive}
 use Rattle.domain_region.specs.declared.Word.the-variants.{Target}
 use Rattle.domain.specs.Domain.{Domain, byMessages, withTargets}
 use Rattle.domain.specs.Slot.{sourceAt, withSource}
-use Rattle.domain.proofs.DomainLaws.{domain-path}
-use Rattle.domain_laws.proofs.SetsBack.{put-back}
+use Rattle.domain_laws.proofs.SlotEffects.{withSource-target}
 use Rattle.domain_writes.specs.Writes.{targetWritten}
 use Rattle.domain_values.specs.Values.{registerValue}
 use Rattle.domain_registers.specs.Write.{registerWritten}
@@ -68,10 +66,9 @@ retargeted-is s c m v = tested (isActive (s .mode)) (λ t. rw t) (λ f. rw f)
 written-targets : (d : Domain) (i v : ℕ)
     → let t = retargeted (sourceAt d i) true (byMessages d) v .target in
     targetWritten true d i v ≡ withTargets d (set (d .target) i t)
-unfolding targetWritten sourceAt withSource
+unfolding targetWritten
 written-targets d i v =
-    ap (withSource d i) (retargeted-is (sourceAt d i) true (byMessages d) v)
-    ∙ domain-path (set-getD (d .source) i 0) refl (put-back (d .pending) i) (put-back (d .enable) i) refl
+    ap (withSource d i) (retargeted-is (sourceAt d i) true (byMessages d) v) ∙ sym (withSource-target d i _)
 
 -- a write to a target of the child
 written-only : (w : Wired) (i v : ℕ) → TargetsOnly (writtenIn w true (Target i) v) w

@@ -7,16 +7,14 @@ use mathlib.Core.Bool.{Bool, true, false, _&&_}
 use mathlib.Core.List.{List, [], _∷_}
 use mathlib.Core.Logic.{_⊎_, inl, inr, ⊎-elim}
 use lib.ListN.{getD}
-use lib.Seq.{set-getD}
 use Rattle.words.specs.Sets.{member, put}
 use Rattle.words.proofs.TestsLaws.{tested, and-first, and-second}
 use Rattle.source_target.specs.Target.{messageOf}
 use Rattle.source.specs.Pending.{settled, wireChanged}
 use Rattle.domain.specs.Domain.{Domain, configOf, isEnabled, byMessages, sends, withTargets, withPendings}
-use Rattle.domain.specs.Slot.{sourceAt, withSource}
+use Rattle.domain.specs.Slot.{sourceAt}
 use Rattle.domain.proofs.DomainLaws.{domain-path}
-use Rattle.domain_laws.proofs.SetsBack.{put-back}
-use Rattle.domain_laws.proofs.SlotEffects.{withSource-unpended}
+use Rattle.domain_laws.proofs.SlotEffects.{withSource-pending, withSource-unpended}
 use Rattle.wired_state.specs.Wires.{Wired, domainIn, sourceWired, wireSet}
 use Rattle.domain_sending.specs.Sending.{candidate, Sent, servedAt, sentFrom, sent}
 use Rattle.domain_sending.proofs.SendingLaws.{served-hit, served-miss, sent-on, sent-off}
@@ -55,9 +53,8 @@ only-messages r = ap byMessages (only-child r)
 wired-pending : (d : Domain) (i : ℕ) (was is : Bool)
     → let s = wireChanged (sourceAt d i) (byMessages d) was is in
     sourceWired d i was is ≡ withPendings d (put (d .pending) i (s .pending))
-unfolding sourceWired wireChanged settled sourceAt withSource
-wired-pending d i was is =
-    domain-path (set-getD (d .source) i 0) (set-getD (d .target) i 0) refl (put-back (d .enable) i) refl
+unfolding sourceWired wireChanged settled
+wired-pending d i was is = sym (withSource-pending d i _)
 
 wired-targets : (d : Domain) (ts : List ℕ) (i : ℕ) (was is : Bool)
     → sourceWired (withTargets d ts) i was is ≡ withTargets (sourceWired d i was is) ts

@@ -2,7 +2,9 @@
 -- nothing.
 --   sourceAt d i        source i: its sourcecfg and target words, its pending and enable bits
 --   withSource d i s    d with source i as s
+--   standing d i        source i is pending and enabled
 use Prim.Native.Nat.{ℕ}
+use mathlib.Core.Bool.{Bool, _&&_}
 use lib.ListN.{getD, set}
 use Rattle.words.specs.Sets.{member, put}
 use Rattle.source.specs.declared.Source.{Source}
@@ -26,3 +28,6 @@ withSource d i s =
       enable = put (d .enable) i (s .enabled);
       delivery = d .delivery;
     }
+
+unfoldable pub standing : Domain → ℕ → Bool
+standing d i = sourceAt d i .pending && sourceAt d i .enabled

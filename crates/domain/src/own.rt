@@ -1,15 +1,18 @@
 // A domain's own words: domaincfg, genmsi, and the pending and enable words.
 ghost use mathlib.Core.Path.{_≡_};
-ghost use Prim.Native.Nat.{_<_};
+ghost use Prim.Native.Nat.{ℕ, _<_};
 ghost use lib.ListN.{length, getD};
-ghost use Rattle.sizes.specs.Sizes.{sourceSetSize, domainSize};
+ghost use Rattle.sizes.specs.Sizes.{sourceSetSize, slotCount, domainSize};
+ghost use Rattle.words.specs.Bits.{hasBit};
 ghost use Rattle.domain.specs.Domain.{domainOf, configOf, generatedAt, isEnabled, byMessages};
 ghost use Rattle.domain.specs.Domain.{withConfig, withGenerated};
+ghost use Rattle.domain.specs.Slot.{standing};
 use super::DM_BIT;
 use super::IE_BIT;
 use sizes::ENABLES_PLACE;
 use sizes::PENDINGS_PLACE;
 use sizes::TARGETS_PLACE;
+use words::joined64;
 
 pub fn config(part: &[u32]) -> u32
     requires { ⌜ length (now part) ≡ domainSize ⌝ }
@@ -67,4 +70,14 @@ pub fn enable_word(part: &[u32], k: usize) -> u32
     ensures { λ r. ⌜ r ≡ getD (domainOf (now (part .entry)) .enable) k 0 ⌝ }
 {
     part[ENABLES_PLACE + k]
+}
+
+// The sources that are pending and enabled, as bits. Usually there are none.
+pub fn standing(part: &[u32]) -> u64
+    requires { ⌜ length (now part) ≡ domainSize ⌝ }
+    ensures { λ r. ⌜ ((i : ℕ) → i < slotCount → hasBit r i ≡ standing (domainOf (now (part .entry))) i) ⌝ }
+{
+    let low = pending_word(part, 0) & enable_word(part, 0);
+    let high = pending_word(part, 1) & enable_word(part, 1);
+    joined64(low, high)
 }

@@ -3,14 +3,13 @@
 --                     it is a level source, else its target alone
 --   redelivered-..    the loop over the sources
 --   mode-..           whether DM changed
-use Prim.Native.Nat.{ℕ, suc, _+_, _-_, _/_, _%_, _≤_, _<_}
+use Prim.Native.Nat.{ℕ, suc, _+_, _-_, _≤_, _<_}
 use mathlib.Core.Path.{_≡_, sym, ap, ap₂, _∙_}
 use mathlib.Core.Bool.{Bool, Bool·beq, true, false, or-false}
 use mathlib.Core.List.{List}
 use native.Mathlib.Omega.{arith}
-use lib.ListN.{getD, set}
-use Rattle.words.specs.Bits.{putBit}
-use Rattle.words.specs.Sets.{member}
+use lib.ListN.{set}
+use Rattle.words.specs.Sets.{member, put}
 use Rattle.words.proofs.TestsLaws.{tested}
 use Rattle.source_mode.specs.Mode.{isActive, isLevel, isRectified}
 use Rattle.source_target.specs.Target.{startTarget}
@@ -18,10 +17,9 @@ use Rattle.source.specs.declared.Source.{Source}
 use Rattle.source.specs.Pending.{withPending, withTarget, redelivered}
 use Rattle.source.proofs.PendingLaws.{settled-messages, settled-direct, settled-other}
 use Rattle.source.proofs.PendingLaws.{redelivered-inactive, redelivered-active}
-use Rattle.domain.specs.Domain.{Domain, domainOf, byMessages, withGenerated}
+use Rattle.domain.specs.Domain.{Domain, byMessages, withTargets, withPendings, withGenerated}
 use Rattle.domain.specs.Slot.{sourceAt, withSource}
-use Rattle.domain_laws.proofs.SlotEffects.{withSource-back}
-use Rattle.domain_laws.proofs.PartEffects.{target-stored, target-pending-stored}
+use Rattle.domain_laws.proofs.SlotEffects.{withSource-back, withSource-target, withSource-target-pending}
 use Rattle.domain_laws.proofs.OwnEffects.{byMessages-withSource}
 use Rattle.domain_config.specs.Config.{redeliveredAt, redeliveredFrom, modeSettled}
 
@@ -54,33 +52,31 @@ module _ (s : Source) (m wire : Bool) (active : isActive (s .mode) ≡ true) whe
       tested m (λ t. two-parts settled _ (act ∙ settled-messages started m false high l t))
       (λ f. two-parts settled _ (act ∙ settled-direct started m false high l f))
 
-module _ (l ws : List ℕ) (i : ℕ) where
-  abbrev d : Domain
-  d = domainOf l
-
+module _ (d : Domain) (ws : List ℕ) (i : ℕ) where
   pub source-inactive : isActive (sourceAt d i .mode) ≡ false → d ≡ redeliveredAt d ws i
   unfolding redeliveredAt
   source-inactive a =
       sym (ap (withSource d i) (redelivered-inactive _ (byMessages d) (member ws i) a) ∙ withSource-back d i)
 
-  module _ (h : i < 64) (active : isActive (sourceAt d i .mode) ≡ true) where
-    pub source-level : isLevel (sourceAt d i .mode) ≡ true → (t : Source) (p : ℕ)
+  module _ (active : isActive (sourceAt d i .mode) ≡ true) where
+    -- e is the domain after its target, and e′ after its pending bit too
+    pub source-level : isLevel (sourceAt d i .mode) ≡ true → (t : Source)
         → t ≡ redelivered (sourceAt d i) (byMessages d) (member ws i)
-        → p ≡ putBit (getD l (128 + i / 32) 0) (i % 32) (t .pending)
-        → domainOf (set (set l (64 + i) (t .target)) (128 + i / 32) p) ≡ redeliveredAt d ws i
+        → (e e′ : Domain) → e ≡ withTargets d (set (d .target) i (t .target))
+        → e′ ≡ withPendings e (put (e .pending) i (t .pending)) → e′ ≡ redeliveredAt d ws i
     unfolding redeliveredAt
-    source-level v t p e q =
-        ap (λ (w : ℕ). domainOf (set (set l (64 + i) (t .target)) (128 + i / 32) w)) q
-        ∙ target-pending-stored l i h (t .target) (t .pending)
+    source-level v t q e e′ he he′ =
+        he′ ∙ ap (λ (x : Domain). withPendings x (put (x .pending) i (t .pending))) he
+        ∙ withSource-target-pending d i (t .target) (t .pending)
         ∙ ap (withSource d i)
-        (ap (λ (x : Source). withPending (withTarget (sourceAt d i) (x .target)) (x .pending)) e
+        (ap (λ (x : Source). withPending (withTarget (sourceAt d i) (x .target)) (x .pending)) q
         ∙ sym (level-parts (sourceAt d i) (byMessages d) (member ws i) active v))
 
     pub source-other : isLevel (sourceAt d i .mode) ≡ false → (v : ℕ) → v ≡ startTarget (byMessages d)
-        → domainOf (set l (64 + i) v) ≡ redeliveredAt d ws i
+        → withTargets d (set (d .target) i v) ≡ redeliveredAt d ws i
     unfolding redeliveredAt
     source-other f v e =
-        target-stored l i h v
+        withSource-target d i v
         ∙ ap (λ (x : ℕ). withSource d i (withTarget (sourceAt d i) x)) e
         ∙ ap (withSource d i) (sym (other-started (sourceAt d i) (byMessages d) (member ws i) active f))
 

@@ -7,10 +7,8 @@ ghost use Rattle.domain.specs.Domain.{domainOf, byMessages};
 ghost use Rattle.domain_config.specs.Config.{keptConfig, redeliveredAt, redeliveredFrom, configWritten};
 use domain::DM_BIT;
 use domain::IE_BIT;
-use sizes::PENDINGS_PLACE;
 use sizes::SLOT_COUNT;
 use sizes::SOURCE_SET_SIZE;
-use sizes::TARGETS_PLACE;
 use source_mode::active;
 use source_mode::level;
 use source_target::start_target;
@@ -37,12 +35,11 @@ fn redeliver_source(part: &mut [u32], wires: [u32; SOURCE_SET_SIZE], messages: b
     }
     if level(s.mode) {
         let t = s.redelivered(messages, wire_at(wires, i));
-        let pending = words::put_bit(part[PENDINGS_PLACE + i / 32], (i % 32) as u32, t.pending);
-        part[TARGETS_PLACE + i] = t.target;
-        part[PENDINGS_PLACE + i / 32] = pending;
+        domain::put_target(part, i, t.target);
+        domain::put_pending(part, i, t.pending);
         return;
     }
-    part[TARGETS_PLACE + i] = start_target(messages);
+    domain::put_target(part, i, start_target(messages));
 }
 
 fn redeliver(part: &mut [u32], wires: [u32; SOURCE_SET_SIZE])

@@ -1,4 +1,3 @@
 -- The laws of sending, of the sources that wait, and of the pass as the code makes it. Assumes nothing.
 pub mod SendingLaws
-pub mod WaitingLaws
 pub mod PassLaws

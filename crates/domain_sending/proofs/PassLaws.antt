@@ -1,28 +1,30 @@
 -- The pass as the code makes it: what holds before each source's turn. No contract cites this file. Assumes
 -- nothing.
---   turn-unpended                        one word stored is a source that lost its pending bit
 --   turn-miss, turn-hit                  one turn, of a source that is not to be sent and of one that is
+--   walk-served                          after it the rest still has those that are pending and enabled
 --   SoFar c d₀ l₀ d l i n                the pass over d₀, with the log l₀, has come to source i: the domain
 --                                        is d, and the n messages sent stand first in the log l
 --   pass-start                           it holds at the start
 --   pass-next                            and after the turn of a source, if none before it was to be sent
 --   pass-end                             what it says if none is left to be sent
-use Prim.Native.Nat.{ℕ, _+_, _-_, _/_, _%_, _≤_, _<_}
+use Prim.Native.Nat.{ℕ, _+_, _-_, _/_, _^_, _≤_, _<_}
 use mathlib.Core.Path.{_≡_, refl, sym, ap, _∙_}
 use mathlib.Core.Bool.{Bool, true, false}
 use mathlib.Core.List.{List, _++_, append-assoc, append-nil}
+use mathlib.Core.Logic.{_≢_}
 use native.Mathlib.Omega.{arith}
-use lib.ListN.{length, take, drop, getD, set, length-append, length-take}
+use lib.Count.{trailingZeros}
+use lib.ListN.{length, take, drop, set, length-append, length-take}
 use lib.Seq.{sets, sets-eq, length-sets, take-at, drop-at, drop-drop}
-use Rattle.words.specs.Bits.{withoutBit}
-use Rattle.words.proofs.SetsLaws.{remove-word}
+use Rattle.words.specs.Sets.{put}
+use Rattle.words.proofs.TestsLaws.{tested}
+use Rattle.words.proofs.WalkLaws.{Walk, walk-next}
 use Rattle.source_target.specs.Target.{messageOf}
 use Rattle.source.specs.declared.Source.{Source}
-use Rattle.source.specs.Pending.{withPending}
-use Rattle.domain.specs.Domain.{Domain, domainOf, withPendings}
-use Rattle.domain.specs.Slot.{sourceAt, withSource}
-use Rattle.domain.proofs.DomainLaws.{read-pending, store-pending}
-use Rattle.domain_laws.proofs.SlotEffects.{withSource-unpended}
+use Rattle.domain.specs.Domain.{Domain, withPendings}
+use Rattle.domain.specs.Slot.{sourceAt, standing}
+use Rattle.domain_laws.proofs.SlotEffects.{standing-withSource-other, candidate-unstanding}
+use Rattle.domain_laws.proofs.SlotEffects.{withSource-pending}
 use Rattle.domain_sending.specs.Sending.{candidate, servedAt, messagesAt, sentFrom, logged}
 use Rattle.domain_sending.proofs.SendingLaws.{served-hit, served-miss, messages-hit, messages-miss}
 use Rattle.domain_sending.proofs.SendingLaws.{messages-le, from-zero, from-domain, from-messages}
@@ -45,16 +47,6 @@ module _ (l ms : List ℕ) (n : ℕ) (h : n + length ms ≤ length l) where
 
 -- ---- one turn, as the code makes it
 
-pub turn-unpended : (l : List ℕ) (i w : ℕ) → i < 64 → w ≡ withoutBit (getD l (128 + i / 32) 0) (i % 32)
-    → domainOf (set l (128 + i / 32) w)
-    ≡ withSource (domainOf l) i (withPending (sourceAt (domainOf l) i) false)
-turn-unpended l i w h e =
-    let d = domainOf l in
-    let read = e ∙ ap (λ (x : ℕ). withoutBit x (i % 32)) (read-pending l (i / 32) (omega arith)) in
-    store-pending l (i / 32) w (omega arith)
-    ∙ ap (withPendings d) (ap (set (d .pending) (i / 32)) read ∙ remove-word (d .pending) i)
-    ∙ sym (withSource-unpended d i)
-
 module _ (c : Bool) (d : Domain) (l : List ℕ) (i n : ℕ) (s : Source) (e : s ≡ sourceAt d i) where
   abbrev Turned : Domain → List ℕ → ℕ → Type 0
   Turned d′ l′ n′ =
@@ -69,14 +61,28 @@ module _ (c : Bool) (d : Domain) (l : List ℕ) (i n : ℕ) (s : Source) (e : s 
       )
 
   pub turn-hit : candidate s ≡ true → (d′ : Domain) (m : ℕ)
-      → d′ ≡ withSource d i (withPending (sourceAt d i) false)
+      → d′ ≡ withPendings d (put (d .pending) i false)
       → m ≡ messageOf c (s .target) → Turned d′ (set l n m) (n + 1)
   turn-hit t d′ m ed em =
       let hit = ap candidate (sym e) ∙ t in (
-        ed ∙ sym (served-hit d i hit),
+        ed ∙ withSource-pending d i false ∙ sym (served-hit d i hit),
         rw (messages-hit c d i hit) (ap (set l n) (em ∙ ap (λ (x : Source). messageOf c (x .target)) e)),
         omega (arith, ap length (messages-hit c d i hit)),
       )
+
+-- the turn of a source leaves which others stand
+standing-served : (d : Domain) (i j : ℕ) → j ≢ i → standing d j ≡ standing (servedAt d i) j
+standing-served d i j n =
+    tested (candidate (sourceAt d i))
+    (λ t. sym (ap (λ (e : Domain). standing e j) (served-hit d i t) ∙ standing-withSource-other d i _ j n))
+    (λ f. sym (ap (λ (e : Domain). standing e j) (served-miss d i f)))
+
+pub walk-served : (d : Domain) {all rest i : ℕ} → Walk (standing d) all rest i → rest ≢ 0 → (d′ : Domain)
+    → d′ ≡ servedAt d (i + trailingZeros 64 rest)
+    → Walk (standing d′) all (rest / 2 ^ trailingZeros 64 rest / 2) (i + trailingZeros 64 rest + 1)
+walk-served d w some d′ e =
+    walk-next w some (standing d′)
+    (λ j n. standing-served d _ j (λ q. omega arith) ∙ ap (λ (x : Domain). standing x j) (sym e))
 
 -- ---- one turn, as the code counts
 
@@ -94,10 +100,11 @@ module _ (c : Bool) (d : Domain) (i : ℕ) (h : i < 64) where
 
 -- sources that are not to be sent, as the code counts
 skipped : (c : Bool) (d : Domain) (i k : ℕ) → i ≤ k → k ≤ 64
-    → ((j : ℕ) → i ≤ j → j < k → candidate (sourceAt d j) ≡ false)
+    → ((j : ℕ) → i ≤ j → j < k → standing d j ≡ false)
     → sentFrom c d i (64 - i) ≡ sentFrom c d k (64 - k)
 skipped c d i k lo hi none =
-    ap (sentFrom c d i) (omega arith) ∙ from-skip c d i (k - i) (64 - k) (λ j l h. none j l (omega arith))
+    ap (sentFrom c d i) (omega arith) ∙ from-skip c d i (k - i) (64 - k)
+    (λ j l h. candidate-unstanding d j (none j l (omega arith)))
     ∙ ap (λ (j : ℕ). sentFrom c d j (64 - k)) (omega arith)
 
 -- ---- the pass
@@ -125,7 +132,7 @@ pass-start c d l e =
 
 -- past sources that are not to be sent
 skip : (c : Bool) (d₀ : Domain) (l₀ : List ℕ) (d : Domain) (l : List ℕ) (i n : ℕ) → SoFar c d₀ l₀ d l i n
-    → (k : ℕ) → i ≤ k → k ≤ 64 → ((j : ℕ) → i ≤ j → j < k → candidate (sourceAt d j) ≡ false)
+    → (k : ℕ) → i ≤ k → k ≤ 64 → ((j : ℕ) → i ≤ j → j < k → standing d j ≡ false)
     → SoFar c d₀ l₀ d l k n
 skip c d₀ l₀ d l i n s k lo hi none =
     let same = skipped c d i k lo hi none in
@@ -184,13 +191,13 @@ module _ (c : Bool) (d₀ : Domain) (l₀ : List ℕ) (d : Domain) (l : List ℕ
 module _ (c : Bool) (d₀ : Domain) (l₀ : List ℕ) (d : Domain) (l : List ℕ) (i n : ℕ)
     (s : SoFar c d₀ l₀ d l i n) where
   pub pass-next : (k : ℕ) → i ≤ k → k < 64
-      → ((j : ℕ) → i ≤ j → j < k → candidate (sourceAt d j) ≡ false)
+      → ((j : ℕ) → i ≤ j → j < k → standing d j ≡ false)
       → (d′ : Domain) (l′ : List ℕ) (n′ : ℕ) → d′ ≡ servedAt d k → l′ ≡ sets l n (messagesAt c d k)
       → n′ ≡ n + length (messagesAt c d k) → SoFar c d₀ l₀ d′ l′ (k + 1) n′
   pass-next k lo hi none d′ l′ n′ ed el en =
       rw (ed, el, en) (next c d₀ l₀ d l k n (skip c d₀ l₀ d l i n s k lo (omega arith) none) hi)
 
-  pub pass-end : ((j : ℕ) → i ≤ j → j < 64 → candidate (sourceAt d j) ≡ false)
+  pub pass-end : ((j : ℕ) → i ≤ j → j < 64 → standing d j ≡ false)
       → (d ≡ sentFrom c d₀ 1 63 .domain) × (l ≡ logged l₀ (sentFrom c d₀ 1 63 .messages))
       × (n ≡ length (sentFrom c d₀ 1 63 .messages))
   pass-end none = end c d₀ l₀ d l n (skip c d₀ l₀ d l i n s 64 (s .high) (omega arith) none)

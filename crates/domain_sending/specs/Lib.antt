@@ -1,3 +1,2 @@
 -- What a domain sends by messages. Assumes nothing.
 pub mod Sending
-pub mod Waiting

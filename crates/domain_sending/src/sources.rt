@@ -1,29 +1,23 @@
 // The pass over a domain's sources: each that is active, pending and enabled is sent, lowest first.
 ghost use mathlib.Core.Path.{_≡_};
-ghost use mathlib.Core.Bool.{false};
 ghost use Prim.Native.Nat.{_+_, _<_};
 ghost use lib.ListN.{length};
 ghost use lib.Seq.{sets};
 ghost use Rattle.sizes.specs.Sizes.{sourceCount, slotCount, domainSize, logSize};
-ghost use Rattle.source.specs.Pending.{withPending};
-ghost use Rattle.domain.specs.Domain.{domainOf};
-ghost use Rattle.domain.specs.Slot.{sourceAt, withSource};
+ghost use Rattle.domain.specs.Domain.{domainOf, sends};
 ghost use Rattle.domain_sending.specs.Sending.{servedAt, messagesAt, sentFrom, sent, logged};
-use super::waiting::sends;
-use super::waiting::waiting;
+use domain::by_messages;
+use domain::enabled;
 use domain::load;
-use sizes::PENDINGS_PLACE;
+use domain::put_pending;
+use domain::standing;
 use source_target::message;
 
-// Source `i` is no longer pending.
-fn unpend(part: &mut [u32], i: usize)
-    requires { ⌜ (length (now part) ≡ domainSize) × (i < slotCount) ⌝ }
-    ensures { λ r. ⌜ domainOf (now (part .exit))
-        ≡ withSource (domainOf (now (part .entry))) i
-        (withPending (sourceAt (domainOf (now (part .entry))) i) false) ⌝ }
+fn sends(part: &[u32]) -> bool
+    requires { ⌜ length (now part) ≡ domainSize ⌝ }
+    ensures { λ r. ⌜ r ≡ sends (domainOf (now (part .entry))) ⌝ }
 {
-    let k = (i % 32) as u32;
-    part[PENDINGS_PLACE + i / 32] = words::without_bit(part[PENDINGS_PLACE + i / 32], k);
+    enabled(part) & by_messages(part)
 }
 
 // The turn of source `i`, with `n` messages in the log. Answers how many there are then.
@@ -40,7 +34,7 @@ fn serve(part: &mut [u32], child: bool, log: &mut [u32], i: usize, n: usize) -> 
         return n;
     }
     log[n] = message(child, s.target);
-    unpend(part, i);
+    put_pending(part, i, false);
     n + 1
 }
 
@@ -53,7 +47,7 @@ fn pass(part: &mut [u32], child: bool, log: &mut [u32]) -> usize
         ≡ logged (now (log .entry)) (sentFrom child (domainOf (now (part .entry))) 1 sourceCount .messages))
         × (r ≡ length (sentFrom child (domainOf (now (part .entry))) 1 sourceCount .messages)) ⌝ }
 {
-    let all = waiting(part);
+    let all = standing(part);
     let mut rest = all >> 1;
     let mut i: usize = 1;
     let mut n: usize = 0;

@@ -1,6 +1,6 @@
 -- The top of a hart in a domain with direct delivery: topi. 01, "Direct delivery and signals"; the standard
 -- 4.8.1.4.
---   standing d i              source i is pending and enabled
+--   standing d i              source i is pending and enabled: Rattle.domain
 --   eligible d h i            source i counts for hart h: it is pending and enabled, its target names h, and
 --                             the threshold of h lets its priority through (4.8.1.3, 4.8.1.4)
 --   precedes d i b            source i goes before b: there is no b (0), or i has the lesser priority number
@@ -18,9 +18,7 @@ use Rattle.domain_delivery.specs.Delivery.{lets}
 use Rattle.domain.specs.Domain.{Domain, byMessages}
 use Rattle.domain.specs.Slot.{sourceAt}
 use Rattle.domain.specs.Structure.{structureAt}
-
-unfoldable pub standing : Domain → ℕ → Bool
-standing d i = sourceAt d i .pending && sourceAt d i .enabled
+unfoldable pub use Rattle.domain.specs.Slot.{standing}
 
 -- [01 S6]
 unfoldable pub eligible : Domain → ℕ → ℕ → Bool

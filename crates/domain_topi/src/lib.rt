@@ -2,35 +2,22 @@
 // among equals.
 ghost use mathlib.Core.Path.{_≡_};
 ghost use mathlib.Core.Bool.{true, cond, _&&_};
-ghost use Prim.Native.Nat.{ℕ, _+_, _*_, _<_};
+ghost use Prim.Native.Nat.{_+_, _*_, _<_};
 ghost use lib.Dec.{eqb};
 ghost use lib.ListN.{length};
 ghost use Rattle.sizes.specs.Sizes.{hartCount, slotCount, domainSize};
-ghost use Rattle.words.specs.Bits.{hasBit};
 ghost use Rattle.source_target.specs.Target.{numberOf};
 ghost use Rattle.domain.specs.Domain.{domainOf};
 ghost use Rattle.domain.specs.Slot.{sourceAt};
 ghost use Rattle.domain.specs.Structure.{structureAt};
 ghost use Rattle.domain_topi.specs.Top.{standing, eligible, precedes, topSource, topiOf};
 use domain::by_messages;
-use domain::enable_word;
 use domain::load;
 use domain::load_structure;
-use domain::pending_word;
+use domain::standing;
 use domain_delivery::Delivery;
 use source_target::hart_of;
 use source_target::number_of;
-use words::joined64;
-
-// The sources that are pending and enabled, as bits.
-fn standing(part: &[u32]) -> u64
-    requires { ⌜ length (now part) ≡ domainSize ⌝ }
-    ensures { λ r. ⌜ ((i : ℕ) → i < slotCount → hasBit r i ≡ standing (domainOf (now (part .entry))) i) ⌝ }
-{
-    let pending = joined64(pending_word(part, 0), pending_word(part, 1));
-    let enable = joined64(enable_word(part, 0), enable_word(part, 1));
-    pending & enable
-}
 
 // Source `i`, which is pending and enabled, counts for hart `h`, whose structure is `x`.
 fn eligible(part: &[u32], h: usize, x: Delivery, i: usize) -> bool

@@ -9,15 +9,16 @@ use native.Mathlib.Omega.{arith}
 use lib.Pow.{pow-pos}
 use borrow.Author.Tests.{eq-eqb, ne-eqb, le-leb, lt-leb}
 use Rattle.words.specs.Bits.{hasBit}
-use Rattle.words.specs.Sets.{member}
+use Rattle.words.specs.Sets.{member, put}
 use Rattle.words.proofs.BitsLaws.{hasBit-none}
 use Rattle.words.proofs.ZerosLaws.{bitOf-high}
 use Rattle.source.specs.declared.Source.{Source}
 use Rattle.source.specs.declared.Change.{Change}
 use Rattle.source.specs.declared.Change.the-variants.{Pend, Clear, Enable, Disable}
 use Rattle.source.specs.Pending.{withPending, pended, cleared, switched}
-use Rattle.domain.specs.Domain.{Domain, byMessages}
+use Rattle.domain.specs.Domain.{Domain, byMessages, withPendings}
 use Rattle.domain.specs.Slot.{sourceAt, withSource}
+use Rattle.domain_laws.proofs.SlotEffects.{withSource-pending}
 use Rattle.domain_laws.proofs.PartEffects.{changed-pend, changed-clear, changed-enable, changed-disable}
 use Rattle.domain_laws.proofs.PartEffects.{pended-part, cleared-part}
 use Rattle.domain_writes.specs.Writes.{changedAt, changedBit, changedFrom, wordChanged, numberChanged}
@@ -32,19 +33,21 @@ module _ (d : Domain) (ws : List ℕ) (i : ℕ) (c : Change) where
   told k e = ap (λ (x : Change). changedAt d ws x i) e
 
   pub pend-at : c ≡ Pend → (t : Source) → t ≡ pended s (byMessages d) (member ws i)
-      → withSource d i (withPending s (t .pending)) ≡ changedAt d ws c i
+      → withPendings d (put (d .pending) i (t .pending)) ≡ changedAt d ws c i
   unfolding changedAt
   pend-at e t q =
-      ap (withSource d i)
+      withSource-pending d i (t .pending)
+      ∙ ap (withSource d i)
       (ap (λ (x : Source). withPending s (x .pending)) q ∙ sym (pended-part s (byMessages d) (member ws i))
       ∙ sym (changed-pend s (byMessages d) (member ws i)))
       ∙ sym (told Pend e)
 
   pub clear-at : c ≡ Clear → (t : Source) → t ≡ cleared s (byMessages d)
-      → withSource d i (withPending s (t .pending)) ≡ changedAt d ws c i
+      → withPendings d (put (d .pending) i (t .pending)) ≡ changedAt d ws c i
   unfolding changedAt
   clear-at e t q =
-      ap (withSource d i)
+      withSource-pending d i (t .pending)
+      ∙ ap (withSource d i)
       (ap (λ (x : Source). withPending s (x .pending)) q ∙ sym (cleared-part s (byMessages d) (member ws i))
       ∙ sym (changed-clear s (byMessages d) (member ws i)))
       ∙ sym (told Clear e)

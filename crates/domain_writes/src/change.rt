@@ -3,29 +3,17 @@ ghost use mathlib.Core.Path.{_≡_};
 ghost use Prim.Native.Nat.{_+_, _-_, _*_, _/_, _≤_, _<_};
 ghost use lib.ListN.{length};
 ghost use Rattle.sizes.specs.Sizes.{slotCount, domainSize};
-ghost use Rattle.source.specs.Pending.{withPending, switched};
+ghost use Rattle.source.specs.Pending.{switched};
 ghost use Rattle.domain.specs.Domain.{domainOf};
 ghost use Rattle.domain.specs.Slot.{sourceAt, withSource};
 ghost use Rattle.domain_writes.specs.Writes.{changedAt, changedBit, changedFrom, wordChanged};
 ghost use Rattle.domain_writes.specs.Writes.{numberChanged, targetWritten};
-use sizes::ENABLES_PLACE;
-use sizes::PENDINGS_PLACE;
 use sizes::SLOT_COUNT;
 use sizes::SOURCE_COUNT;
 use sizes::SOURCE_SET_SIZE;
 use source::Change;
 use source_mode::active;
 use source_wire::wire_at;
-
-// The pending bit of source `i` alone.
-fn store_pending(part: &mut [u32], i: usize, pending: bool)
-    requires { ⌜ (length (now part) ≡ domainSize) × (i < slotCount) ⌝ }
-    ensures { λ r. ⌜ domainOf (now (part .exit)) ≡ withSource (domainOf (now (part .entry))) i
-        (withPending (sourceAt (domainOf (now (part .entry))) i) pending) ⌝ }
-{
-    let word = words::put_bit(part[PENDINGS_PLACE + i / 32], (i % 32) as u32, pending);
-    part[PENDINGS_PLACE + i / 32] = word;
-}
 
 // The enable bit of source `i`, if the source is active.
 fn switch_source(part: &mut [u32], i: usize, on: bool)
@@ -35,8 +23,7 @@ fn switch_source(part: &mut [u32], i: usize, on: bool)
 {
     let s = domain::load(part, i);
     if active(s.mode) {
-        let word = words::put_bit(part[ENABLES_PLACE + i / 32], (i % 32) as u32, on);
-        part[ENABLES_PLACE + i / 32] = word;
+        domain::put_enabled(part, i, on);
     }
 }
 
@@ -50,11 +37,11 @@ fn change_source(part: &mut [u32], wires: [u32; SOURCE_SET_SIZE], change: Change
     match change {
         Change::Pend => {
             let t = s.pended(messages, wire_at(wires, i));
-            store_pending(part, i, t.pending);
+            domain::put_pending(part, i, t.pending);
         }
         Change::Clear => {
             let t = s.cleared(messages);
-            store_pending(part, i, t.pending);
+            domain::put_pending(part, i, t.pending);
         }
         Change::Enable => switch_source(part, i, true),
         Change::Disable => switch_source(part, i, false),

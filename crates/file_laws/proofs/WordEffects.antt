@@ -4,15 +4,17 @@ use Prim.Native.Nat.{ℕ, _+_, _*_, _/_, _%_, _<_}
 use mathlib.Core.Path.{_≡_, sym, ap, ap₂, _∙_}
 use mathlib.Core.Bool.{cond, _&&_, and-true, and-false}
 use mathlib.Core.List.{List}
-use native.Mathlib.Decide.{ℕ-discrete, decLt}
+use native.Mathlib.Decide.{ℕ-discrete}
+use native.Mathlib.Nat.{add-zero}
 use native.Mathlib.Omega.{arith}
 use lib.Dec.{eqb, leb}
 use lib.ListN.{length, getD}
 use borrow.Author.Tests.{eq-eqb, ne-eqb, le-leb, lt-leb}
 use Rattle.words.specs.Bits.{hasBit, withoutBit}
+use Rattle.words.specs.Parts.{joined}
 use Rattle.words.specs.Sets.{member, WordsFit}
 use Rattle.words.proofs.BitsLaws.{hasBit-withoutBit-same}
-use Rattle.words.proofs.PartsLaws.{hasBit-joined-low, hasBit-joined-high}
+use Rattle.words.proofs.PartsLaws.{hasBit-joined}
 use Rattle.file_select.specs.Halves.{doubleword, putDoubleword}
 use Rattle.file_laws.proofs.RegisterEffects.{member-halves, member-put, member-put-other}
 
@@ -20,21 +22,10 @@ use Rattle.file_laws.proofs.RegisterEffects.{member-halves, member-put,
 pub hasBit-doubleword : (ws : List ℕ) (k i : ℕ) → WordsFit ws → i / 64 ≡ k
     → hasBit (doubleword ws k) (i % 64) ≡ member ws i
 unfolding doubleword member WordsFit
-hasBit-doubleword ws k i fit e = at (decLt (i % 64) 32)
-  where
-    lo : ℕ
-    lo = getD ws (2 * k) 0
-
-    hi : ℕ
-    hi = getD ws (2 * k + 1) 0
-
-    at : Dec (i % 64 < 32) → hasBit (doubleword ws k) (i % 64) ≡ hasBit (getD ws (i / 32) 0) (i % 32)
-    at (yes l) =
-        hasBit-joined-low lo hi (i % 64) (fit (2 * k)) l
-        ∙ ap₂ (λ (a b : ℕ). hasBit (getD ws a 0) b) (omega arith) (omega arith)
-    at (no l) =
-        ap (hasBit (doubleword ws k)) (omega arith) ∙ hasBit-joined-high lo hi (i % 32) (fit (2 * k))
-        ∙ ap (λ (a : ℕ). hasBit (getD ws a 0) (i % 32)) (omega arith)
+hasBit-doubleword ws k i fit e =
+    ap (λ (a : ℕ). hasBit (joined (getD ws a 0) (getD ws (2 * k + 1) 0)) (i % 64)) (sym (add-zero (2 * k)))
+    ∙ hasBit-joined (λ (a : ℕ). getD ws (2 * k + a) 0) (fit (2 * k + 0)) (i % 64) (omega arith)
+    ∙ ap₂ (λ (a b : ℕ). hasBit (getD ws a 0) b) (omega arith) (omega arith)
 
 -- identity i after v was written to word k: bit i mod 64 of v where that is its word, but that 0 stays out
 pub member-putDoubleword : (ws : List ℕ) (k v i : ℕ) → 2 * k + 1 < length ws

@@ -7,3 +7,4 @@ pub mod SetsLaws
 pub mod TestsLaws
 pub mod ThresholdLaws
 pub mod ZerosLaws
+pub mod WalkLaws

@@ -2,7 +2,8 @@
 -- No contract cites this file.
 -- Assumes nothing.
 use Prim.Native.Nat.{ℕ, _+_, _-_, _*_, _/_, _%_, _^_, _≤_, _<_}
-use mathlib.Core.Path.{_≡_, refl, sym, ap, _∙_}
+use mathlib.Core.Path.{_≡_, refl, sym, ap, ap₂, _∙_}
+use native.Mathlib.Decide.{decLt}
 use native.Mathlib.Nat.{mod-lt, one-mul, mod-eq-of-lt}
 use native.Mathlib.Omega.{arith}
 use lib.Dec.{lit<, lit≤}
@@ -164,3 +165,17 @@ hasBit-joined-low lo hi k hlo hk =
 pub hasBit-joined-high : (lo hi k : ℕ) → lo < 2 ^ 32 → hasBit (joined lo hi) (32 + k) ≡ hasBit hi k
 hasBit-joined-high lo hi k hlo =
     sym (hasBit-high (joined lo hi) k) ∙ ap (λ (x : ℕ). hasBit x k) (high-joined lo hi hlo)
+
+-- two words as one, each of them by its number
+pub hasBit-joined : (word : ℕ → ℕ) → word 0 < 2 ^ 32 → (i : ℕ) → i < 64
+    → hasBit (joined (word 0) (word 1)) i ≡ hasBit (word (i / 32)) (i % 32)
+hasBit-joined word low i h = at (decLt i 32)
+  where
+    at : Dec (i < 32) → hasBit (joined (word 0) (word 1)) i ≡ hasBit (word (i / 32)) (i % 32)
+    at (yes l) =
+        hasBit-joined-low (word 0) (word 1) i low l
+        ∙ ap₂ (λ (k b : ℕ). hasBit (word k) b) (omega arith) (omega arith)
+    at (no l) =
+        ap (hasBit (joined (word 0) (word 1))) (omega arith)
+        ∙ hasBit-joined-high (word 0) (word 1) (i - 32) low
+        ∙ ap₂ (λ (k b : ℕ). hasBit (word k) b) (omega arith) (omega arith)

@@ -1,12 +1,12 @@
 -- Laws of specs/Masks.antt: which bits a gathered word has, and a word with no bits is 0. No contract cites
 -- this file. Assumes nothing.
-use Prim.Native.Nat.{ℕ, zero, suc, _+_, _-_, _/_, _%_, _^_, _≤_, _<_}
-use mathlib.Core.Path.{_≡_, refl, sym, ap, _∙_}
+use Prim.Native.Nat.{ℕ, zero, suc, _+_, _^_, _≤_, _<_}
+use mathlib.Core.Path.{_≡_, refl, sym, _∙_}
 use mathlib.Core.Bool.{Bool, true, false, not, _&&_, _||_, cond, true≢false, false≢true}
 use mathlib.Core.List.{List}
 use mathlib.Core.Logic.{_≢_}
 use native.Mathlib.Nat.{lt-of-le-of-lt, pow-suc}
-use native.Mathlib.Decide.{ℕ-discrete, decLt}
+use native.Mathlib.Decide.{ℕ-discrete}
 use native.Mathlib.Omega.{arith}
 use lib.Bits.{bitAnd, bitOr, or-add-and, and-le-l, and-le-r, or-zero-l}
 use lib.Dec.{eqb, lit<}
@@ -20,7 +20,7 @@ use Rattle.words.specs.Every.{every}
 use Rattle.words.proofs.BitsLaws.{hasBit-and, hasBit-nothing, hasBit-withBit-same, hasBit-withBit-other}
 use Rattle.words.proofs.BitsLaws.{hasBit-ext, hasBit-none, withBit-lt}
 use Rattle.words.proofs.ZerosLaws.{bitOf-high}
-use Rattle.words.proofs.PartsLaws.{hasBit-joined-low, hasBit-joined-high}
+use Rattle.words.proofs.PartsLaws.{hasBit-joined}
 use Rattle.words.proofs.SetsLaws.{member-word}
 use Rattle.words.proofs.EveryLaws.{every-each, every-of}
 use Rattle.words.proofs.TestsLaws.{tested, same-truth, and-first, and-second, and-both}
@@ -104,18 +104,4 @@ or-none w v =
 
 pub hasBit-set : (ws : List ℕ) (j : ℕ) → getD ws 0 0 < 2 ^ 32 → j < 64
     → hasBit (joined (getD ws 0 0) (getD ws 1 0)) j ≡ member ws j
-hasBit-set ws j h l = at (decLt j 32)
-  where
-    at : Dec (j < 32) → hasBit (joined (getD ws 0 0) (getD ws 1 0)) j ≡ member ws j
-    at (yes s) =
-        let q : 0 ≡ j / 32 = omega arith in
-        let r : j ≡ j % 32 = omega arith in
-        hasBit-joined-low (getD ws 0 0) (getD ws 1 0) j h s ∙ (λ k. hasBit (getD ws (q k) 0) (r k))
-        ∙ member-word ws j
-    at (no s) =
-        let e : j ≡ 32 + (j - 32) = omega arith in
-        let q : 1 ≡ j / 32 = omega arith in
-        let r : j - 32 ≡ j % 32 = omega arith in
-        ap (hasBit (joined (getD ws 0 0) (getD ws 1 0))) e
-        ∙ hasBit-joined-high (getD ws 0 0) (getD ws 1 0) (j - 32) h ∙ (λ k. hasBit (getD ws (q k) 0) (r k))
-        ∙ member-word ws j
+hasBit-set ws j h l = hasBit-joined (λ (k : ℕ). getD ws k 0) h j l ∙ member-word ws j

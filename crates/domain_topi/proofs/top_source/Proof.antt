@@ -3,9 +3,9 @@
 use Prim.Native.Nat.{_-_}
 use mathlib.Core.Path.{sym}
 use native.Mathlib.Omega.{arith}
+use Rattle.words.proofs.WalkLaws.{walk-lt, walk-on}
 use Rattle.domain.specs.Domain.{domainOf}
-use Rattle.domain_topi.proofs.StandingLaws.{Left, left-start, left-lt, left-standing, left-next}
-use Rattle.domain_topi.proofs.StandingLaws.{left-end}
+use Rattle.domain_topi.proofs.StandingLaws.{Left, left-start, left-next, left-end}
 use borrow.Author.Needs.{needs}
 use Rattle.domain_topi.proofs.top_source.Statement.{statement}
 use Rattle.domain_topi.proofs.top_source.Tie as tie
@@ -26,10 +26,10 @@ loop-holds : tie.Need-loop-holds Inv-loop μ-loop
 loop-holds c = left-start _ _ _ (omega arith) (c .standing .ensures)
 
 cast-i : tie.Need-cast-i Inv-loop μ-loop
-cast-i c = let low = left-lt _ _ _ _ _ _ (c .before .loop .inv) (c .loop-test .taken) in omega arith
+cast-i c = let low = walk-lt (c .before .loop .inv .walk) (c .loop-test .taken) in omega arith
 
 add-i : tie.Need-add-i Inv-loop μ-loop
-add-i c = let low = left-lt _ _ _ _ _ _ (c .before .loop .inv) (c .loop-test .taken) in omega arith
+add-i c = let low = walk-lt (c .before .loop .inv .walk) (c .loop-test .taken) in omega arith
 
 better-requires : tie.Need-better-requires Inv-loop μ-loop
 better-requires c κs =
@@ -37,34 +37,34 @@ better-requires c κs =
     let some = c .loop-test .taken in
     let at-load = c .before .before .before in (
       at-load .before .before .pre .0,
-      left-lt _ _ _ _ _ _ left some,
+      walk-lt (left .walk) some,
       left .found,
       at-load .load-structure .ensures,
-      left-standing _ _ _ _ _ _ left some,
+      walk-on (left .walk) some,
     )
 
 cast-rest : tie.Need-cast-rest Inv-loop μ-loop
 cast-rest c =
-    let low = left-lt _ _ _ _ _ _ (c .before .before .loop .inv) (c .before .loop-test .taken) in omega arith
+    let low = walk-lt (c .before .before .loop .inv .walk) (c .before .loop-test .taken) in omega arith
 
 shr-rest : tie.Need-shr-rest Inv-loop μ-loop
 shr-rest c =
-    let low = left-lt _ _ _ _ _ _ (c .before .before .loop .inv) (c .before .loop-test .taken) in omega arith
+    let low = walk-lt (c .before .before .loop .inv .walk) (c .before .loop-test .taken) in omega arith
 
 add-i-2 : tie.Need-add-i-2 Inv-loop μ-loop
 add-i-2 c =
-    let low = left-lt _ _ _ _ _ _ (c .before .before .loop .inv) (c .before .loop-test .taken) in omega arith
+    let low = walk-lt (c .before .before .loop .inv .walk) (c .before .loop-test .taken) in omega arith
 
 loop-less : tie.Need-loop-less Inv-loop μ-loop
 loop-less c =
-    let low = left-lt _ _ _ _ _ _ (c .before .before .loop .inv) (c .before .loop-test .taken) in omega arith
+    let low = walk-lt (c .before .before .loop .inv .walk) (c .before .loop-test .taken) in omega arith
 
 loop-again : tie.Need-loop-again Inv-loop μ-loop
 loop-again c =
-    left-next _ _ _ _ _ _ (c .before .before .loop .inv) (c .before .loop-test .taken) _ (c .better .ensures)
+    left-next (c .before .before .loop .inv) (c .before .loop-test .taken) _ (c .better .ensures)
 
 returns : tie.Need-returns Inv-loop μ-loop
-returns c = sym (left-end _ _ _ _ _ _ (c .before .loop .inv) (c .loop-test .left))
+returns c = sym (left-end (c .before .loop .inv) (c .loop-test .left))
 
 pub top-source-spec : {M : Type 1} → statement M
 top-source-spec =

@@ -34,8 +34,8 @@ mul-log c = search needs
 slice-write-log : tie.Need-slice-write-log
 slice-write-log c = search needs
 
-unpend-requires : tie.Need-unpend-requires
-unpend-requires c κs = search needs
+put-pending-requires : tie.Need-put-pending-requires
+put-pending-requires c κs = search needs
 
 add-result : tie.Need-add-result
 add-result c = search needs
@@ -55,7 +55,7 @@ returns-2 c =
     let args = loaded .before .before .before .before .args in
     turn-hit (args .child) (domainOf (args .part .now)) (args .log .now) (args .i) (args .n) _
     (loaded .load .ensures) (sym (tried .before .candidate .ensures) ∙ not-false _ (tried .if1 .left))
-    (domainOf (unpended .unpend .last .0)) _ (unpended .unpend .ensures) (sent .message .ensures)
+    (domainOf (unpended .put-pending .last .0)) _ (unpended .put-pending .ensures) (sent .message .ensures)
 
 pub serve-spec : {M : Type 1} → statement M
 serve-spec =
@@ -68,7 +68,7 @@ serve-spec =
     message-requires
     mul-log
     slice-write-log
-    unpend-requires
+    put-pending-requires
     add-result
     same-length-2
     same-length-3

@@ -1,6 +1,7 @@
 -- `domain_writes::change::change_source` meets its contract: family by family. Over 110 lines, since each
 -- of the four families has its own needs of a line each. Assumes nothing.
 use mathlib.Core.Path.{_∙_}
+use Rattle.domain.specs.Domain.{domainOf}
 use Rattle.domain_writes.proofs.WritesLaws.{pend-at, clear-at, enable-at, disable-at}
 use borrow.Author.Needs.{needs}
 use Rattle.domain_writes.proofs.change.change_source.Statement.{statement}
@@ -21,8 +22,8 @@ wire-at-requires c κs = search needs
 pended-requires : tie.Need-pended-requires
 pended-requires c κs = search needs
 
-store-pending-requires : tie.Need-store-pending-requires
-store-pending-requires c κs = search needs
+put-pending-requires : tie.Need-put-pending-requires
+put-pending-requires c κs = search needs
 
 enum-told-2 : tie.Need-enum-told-2
 enum-told-2 c = search needs
@@ -30,8 +31,8 @@ enum-told-2 c = search needs
 cleared-requires : tie.Need-cleared-requires
 cleared-requires c κs = search needs
 
-store-pending-requires-2 : tie.Need-store-pending-requires-2
-store-pending-requires-2 c κs = search needs
+put-pending-requires-2 : tie.Need-put-pending-requires-2
+put-pending-requires-2 c κs = search needs
 
 enum-told-3 : tie.Need-enum-told-3
 enum-told-3 c = search needs
@@ -54,8 +55,9 @@ returns c =
     let at-value = at-store .before .before in
     let at-told = at-value .before .before in
     let args = at-told .before .before .before .before .before .before .before .args in
-    at-store .store-pending .ensures
-    ∙ pend-at _ (args .wires) (args .i) (args .change) (at-told .enum-told .given .1)
+    at-store .put-pending .ensures
+    ∙ pend-at (domainOf (args .part .now)) (args .wires) (args .i) (args .change)
+    (at-told .enum-told .given .1)
     (at-value .pended .result) (at-value .pended .ensures ∙ cc)
 
 same-length-2 : tie.Need-same-length-2
@@ -67,8 +69,9 @@ returns-2 c =
     let at-value = at-store .before .before in
     let at-told = at-value .before in
     let args = at-told .before .before .before .before .before .before .before .args in
-    at-store .store-pending2 .ensures
-    ∙ clear-at _ (args .wires) (args .i) (args .change) (at-told .enum-told2 .given .1)
+    at-store .put-pending2 .ensures
+    ∙ clear-at (domainOf (args .part .now)) (args .wires) (args .i) (args .change)
+    (at-told .enum-told2 .given .1)
     (at-value .cleared .result) (at-value .cleared .ensures ∙ cc)
 
 same-length-3 : tie.Need-same-length-3
@@ -102,10 +105,10 @@ change-source-spec =
     enum-told
     wire-at-requires
     pended-requires
-    store-pending-requires
+    put-pending-requires
     enum-told-2
     cleared-requires
-    store-pending-requires-2
+    put-pending-requires-2
     enum-told-3
     switch-source-requires
     enum-told-4

@@ -1,12 +1,8 @@
--- `domain_writes::change::store_pending` meets its contract: one bit of one word. Assumes nothing.
-use Prim.Native.Nat.{ℕ, _+_, _/_}
-use mathlib.Core.Path.{ap, _∙_}
-use lib.ListN.{set}
-use Rattle.domain.specs.Domain.{domainOf}
-use Rattle.domain_laws.proofs.PartEffects.{pending-stored}
+-- `domain::slot::put_enabled` meets its contract: one bit of one word. Assumes nothing.
+use Rattle.domain.proofs.SlotLaws.{enabled-stored}
 use borrow.Author.Needs.{needs}
-use Rattle.domain_writes.proofs.change.store_pending.Statement.{statement}
-use Rattle.domain_writes.proofs.change.store_pending.Tie as tie
+use Rattle.domain.proofs.slot.put_enabled.Statement.{statement}
+use Rattle.domain.proofs.slot.put_enabled.Tie as tie
 
 add-put-bit : tie.Need-add-put-bit
 add-put-bit c = search needs
@@ -38,13 +34,11 @@ same-length c = search needs
 returns : tie.Need-returns
 returns c =
     let start = c .before .before .before in
-    let l = start .args .part .now in
-    let i = start .args .i in
-    ap (λ (w : ℕ). domainOf (set l (128 + i / 32) w)) (c .put-bit .ensures)
-    ∙ pending-stored l i (start .pre .1) (start .args .pending)
+    enabled-stored (start .args .part .now) (start .args .i) (start .pre .1) _ (start .args .enabled)
+    (c .put-bit .ensures)
 
-pub store-pending-spec : {M : Type 1} → statement M
-store-pending-spec =
+pub put-enabled-spec : {M : Type 1} → statement M
+put-enabled-spec =
     tie.close
     (tie.spec
     add-put-bit

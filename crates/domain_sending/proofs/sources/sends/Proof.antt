@@ -1,9 +1,9 @@
--- `domain_sending::waiting::sends` meets its contract: both bits of domaincfg. Assumes nothing.
+-- `domain_sending::sources::sends` meets its contract: both bits of domaincfg. Assumes nothing.
 use mathlib.Core.Path.{ap₂}
 use mathlib.Core.Bool.{_&&_}
 use borrow.Author.Needs.{needs}
-use Rattle.domain_sending.proofs.waiting.sends.Statement.{statement}
-use Rattle.domain_sending.proofs.waiting.sends.Tie as tie
+use Rattle.domain_sending.proofs.sources.sends.Statement.{statement}
+use Rattle.domain_sending.proofs.sources.sends.Tie as tie
 
 enabled-requires : tie.Need-enabled-requires
 enabled-requires c κs = search needs

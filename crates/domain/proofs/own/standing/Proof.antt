@@ -1,14 +1,13 @@
--- `domain_sending::waiting::waiting` meets its contract: bit i of both words, two words as one. Assumes
--- nothing.
+-- `domain::own::standing` meets its contract: bit i of both words, two words as one. Assumes nothing.
 use Prim.Native.Nat.{ℕ}
 use mathlib.Core.Path.{ap, _∙_}
 use native.Mathlib.Omega.{arith}
 use Rattle.words.specs.Bits.{hasBit}
 use Rattle.domain.specs.Domain.{domainOf}
-use Rattle.domain_sending.proofs.WaitingLaws.{waits-bit}
+use Rattle.domain.proofs.SlotLaws.{standing-bit}
 use borrow.Author.Needs.{needs}
-use Rattle.domain_sending.proofs.waiting.waiting.Statement.{statement}
-use Rattle.domain_sending.proofs.waiting.waiting.Tie as tie
+use Rattle.domain.proofs.own.standing.Statement.{statement}
+use Rattle.domain.proofs.own.standing.Tie as tie
 
 pending-word-requires : tie.Need-pending-word-requires
 pending-word-requires c κs = search needs
@@ -30,11 +29,11 @@ returns c i h =
     let at-low = c .before .before .before in
     let d = domainOf (at-low .before .before .before .args .part .now) in
     ap (λ (w : ℕ). hasBit w i) (c .joined64 .ensures)
-    ∙ waits-bit d _ _ _ _ (at-low .before .pending-word .ensures) (at-low .enable-word .ensures)
+    ∙ standing-bit d _ _ _ _ (at-low .before .pending-word .ensures) (at-low .enable-word .ensures)
     (c .before .before .pending-word2 .ensures) (c .before .enable-word2 .ensures) (omega arith) i h
 
-pub waiting-spec : {M : Type 1} → statement M
-waiting-spec =
+pub standing-spec : {M : Type 1} → statement M
+standing-spec =
     tie.close
     (tie.spec
     pending-word-requires
