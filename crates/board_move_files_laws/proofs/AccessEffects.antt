@@ -1,31 +1,31 @@
 -- What each access of a move makes of the two files and the record is related to the file with no move, a law
 -- for each line of the table. No contract cites this file. Assumes nothing.
-use Prim.Native.Nat.{ℕ, suc, _+_, _-_, _%_, _≤_, _<_}
-use mathlib.Core.Path.{_≡_, refl, ap}
+use Prim.Native.Nat.{ℕ, suc, _+_, _-_, _*_, _%_, _≤_, _<_}
+use mathlib.Core.Path.{_≡_, refl, sym, ap, _∙_}
 use mathlib.Core.Bool.{true}
 use mathlib.Core.List.{List}
 use mathlib.Core.Logic.{_≢_}
 use native.Mathlib.Omega.{arith}
 use lib.ListN.{getD, set}
-use Rattle.words.specs.Bits.{union}
-use Rattle.file_select.specs.declared.Register.the-variants.{Pending, Enable}
-use Rattle.sizes.specs.Sizes.{identities}
-use Rattle.file_select.specs.Halves.{doubleword}
+use Rattle.words.specs.Bits.{hasBit}
+use Rattle.words.specs.Sets.{member}
+use Rattle.file_select.specs.Select.{eip0, eie0}
 use Rattle.file.specs.declared.File.{File}
+use Rattle.file.specs.declared.register.Access.the-variants.{Read, Write, Set}
+use Rattle.file.specs.Reply.{replyValue}
 use Rattle.file.specs.Shape.{Shaped}
 use Rattle.file.specs.Parts.{withDelivery, withThreshold}
-use Rattle.file.specs.Register.{written}
 use Rattle.file_laws.proofs.Keeps.{Rules}
 use Rattle.board_move_steps.specs.Steps.{deliveryAt, thresholdAt, pendingAt, enableAt, actOf}
-use Rattle.board_move_files_laws.specs.Related.{Three, actedOn, Untouched, Shared, Noted, Restored}
-use Rattle.board_move_files_laws.specs.Related.{Related}
+use Rattle.board_move_files_laws.specs.Related.{Three, guestAccess, actedOn, Untouched, Shared}
+use Rattle.board_move_files_laws.specs.Related.{Noted, Restored, Related}
 use Rattle.board_move_files_laws.proofs.ActedLaws.{withNew, acted-delivery, acted-threshold}
 use Rattle.board_move_files_laws.proofs.ActedLaws.{acted-silence}
 use Rattle.board_move_files_laws.proofs.ActedLaws.{acted-hold, acted-clear, acted-target}
 use Rattle.board_move_files_laws.proofs.ActedLaws.{acted-pending}
 use Rattle.board_move_files_laws.proofs.ActedLaws.{acted-enable, acted-set, acted-write, acted-shut}
 use Rattle.board_move_files_laws.proofs.ActedLaws.{acted-open}
-use Rattle.board_move_files_laws.proofs.WrittenEffects.{member-stays}
+use Rattle.board_move_files_laws.proofs.WrittenEffects.{Sized, clear-in, word-only, held-word}
 use Rattle.board_move_files_laws.proofs.SharedEffects.{shared-later, shared-clear, shared-set}
 use Rattle.board_move_files_laws.proofs.NotedEffects.{noted-later, noted-delivery, noted-threshold}
 use Rattle.board_move_files_laws.proofs.NotedEffects.{noted-pending, noted-enable}
@@ -33,9 +33,9 @@ use Rattle.board_move_files_laws.proofs.RestoredEffects.{restored-early
 use Rattle.board_move_files_laws.proofs.RestoredEffects.{restored-threshold}
 use Rattle.board_move_files_laws.proofs.RestoredEffects.{restored-delivery}
 
-module _ (n : ℕ) (x : Three) (c : File) (r : Related n x c) where
+module _ (n m : ℕ) (x : Three) (c : File) (sized : Sized n) (r : Related n m x c) where
   -- an access that leaves the old file, as all but the third do
-  untouched-later : n ≢ 2 → Untouched (suc n) (x .old) c
+  untouched-later : m ≢ 2 → Untouched (suc m) (x .old) c
   untouched-later d =
       record {
         threshold = r .untouched .threshold;
@@ -45,29 +45,29 @@ module _ (n : ℕ) (x : Three) (c : File) (r : Related n x c) where
       }
 
   -- an access that concerns no pending set, and one that saves nothing
-  shared-idle : ((k : ℕ) → k < 4 → (k + 5 ≢ suc n) × (k + 80 ≢ suc n))
-      → Shared (suc n) (x .old .pending) (x .new .pending) (c .pending)
-  shared-idle idle = shared-later n (x .old .pending) (x .new .pending) (c .pending) idle (r .shared)
+  shared-idle : ((k : ℕ) → k < 4 → (k + 5 ≢ suc m) × (k + 80 ≢ suc m))
+      → Shared n (suc m) (x .old .pending) (x .new .pending) (c .pending)
+  shared-idle idle = shared-later n m (x .old .pending) (x .new .pending) (c .pending) sized idle (r .shared)
 
-  noted-idle : 2 ≤ n → ((k : ℕ) → k < 8 → k + 72 ≢ suc n) → Noted (suc n) (x .numbers) (x .old .pending) c
-  noted-idle = noted-later n (x .numbers) (x .old .pending) c (r .noted)
+  noted-idle : 2 ≤ m → ((k : ℕ) → k < 8 → k + 72 ≢ suc m) → Noted n (suc m) (x .numbers) (x .old .pending) c
+  noted-idle = noted-later n m (x .numbers) (x .old .pending) c sized (r .noted)
 
   -- an access that only saves
-  saves : (s : List ℕ) → n ≢ 2 → n < 79 → ((k : ℕ) → k < 4 → (k + 5 ≢ suc n) × (k + 80 ≢ suc n))
-      → Noted (suc n) s (x .old .pending) c
-      → Related (suc n) (record { old = x .old; new = x .new; numbers = s }) c
+  saves : (s : List ℕ) → m ≢ 2 → m < 79 → ((k : ℕ) → k < 4 → (k + 5 ≢ suc m) × (k + 80 ≢ suc m))
+      → Noted n (suc m) s (x .old .pending) c
+      → Related n (suc m) (record { old = x .old; new = x .new; numbers = s }) c
   saves s d h idle noted =
       record {
         untouched = untouched-later d;
         shared = shared-idle idle;
         noted = noted;
-        restored = restored-early (suc n) (x .new) c (omega arith);
+        restored = restored-early n (suc m) (x .new) c (omega arith);
       }
 
   -- an access that only changes the new file
-  changes : (f : File) → 3 ≤ n → ((k : ℕ) → k < 8 → k + 72 ≢ suc n)
-      → Shared (suc n) (x .old .pending) (f .pending) (c .pending) → Restored (suc n) f c
-      → Related (suc n) (withNew x f) c
+  changes : (f : File) → 3 ≤ m → ((k : ℕ) → k < 8 → k + 72 ≢ suc m)
+      → Shared n (suc m) (x .old .pending) (f .pending) (c .pending) → Restored n (suc m) f c
+      → Related n (suc m) (withNew x f) c
   changes f l idle shared restored =
       record {
         untouched = untouched-later (omega arith);
@@ -77,25 +77,25 @@ module _ (n : ℕ) (x : Three) (c : File) (r : Related n x c) where
       }
 
   abbrev After : Type 0
-  After = Related (suc n) (actedOn (actOf (suc n)) x) c
+  After = Related n (suc m) (actedOn n (actOf (suc m)) x) c
 
-  pub delivery-saved : n ≡ 0 → After
+  pub delivery-saved : m ≡ 0 → After
   delivery-saved e =
-      rw (acted-delivery (suc n) x (ap suc e))
+      rw (acted-delivery n (suc m) x (ap suc e))
       (saves (set (x .numbers) deliveryAt (x .old .delivery)) (omega arith) (omega arith) (omega arith)
-      (noted-delivery n (x .numbers) (x .old .pending) c (r .noted) (x .old .delivery) e
+      (noted-delivery n m (x .numbers) (x .old .pending) c sized (r .noted) (x .old .delivery) e
       (r .untouched .delivery (omega arith))))
 
-  pub threshold-saved : n ≡ 1 → After
+  pub threshold-saved : m ≡ 1 → After
   threshold-saved e =
-      rw (acted-threshold (suc n) x (ap suc e))
+      rw (acted-threshold n (suc m) x (ap suc e))
       (saves (set (x .numbers) thresholdAt (x .old .threshold)) (omega arith) (omega arith) (omega arith)
-      (noted-threshold n (x .numbers) (x .old .pending) c (r .noted) (x .old .threshold) e
+      (noted-threshold n m (x .numbers) (x .old .pending) c sized (r .noted) (x .old .threshold) e
       (r .untouched .threshold)))
 
-  pub old-silenced : n ≡ 2 → After
+  pub old-silenced : m ≡ 2 → After
   old-silenced e =
-      rw (acted-silence (suc n) x (ap suc e))
+      rw (acted-silence n (suc m) x (ap suc e))
       (record {
         untouched = record {
           threshold = r .untouched .threshold;
@@ -105,86 +105,96 @@ module _ (n : ℕ) (x : Three) (c : File) (r : Related n x c) where
         };
         shared = shared-idle (omega arith);
         noted = noted-idle (omega arith) (omega arith);
-        restored = restored-early (suc n) (x .new) c (omega arith);
+        restored = restored-early n (suc m) (x .new) c (omega arith);
       })
 
-  pub new-held : n ≡ 3 → After
+  pub new-held : m ≡ 3 → After
   new-held e =
-      rw (acted-hold (suc n) x (ap suc e))
+      rw (acted-hold n (suc m) x (ap suc e))
       (changes (withDelivery (x .new) 0) (omega arith) (omega arith)
       (shared-idle (omega arith))
-      (restored-early (suc n) (withDelivery (x .new) 0) c (omega arith)))
+      (restored-early n (suc m) (withDelivery (x .new) 0) c (omega arith)))
 
-  pub new-cleared : 4 ≤ n → n < 8 → Shaped (x .new) → After
+  pub new-cleared : 4 ≤ m → m < 8 → Shaped (x .new) → After
   new-cleared l h sn =
-      let k = suc n - 5 in
-      let f = written identities true (x .new) (Pending k) 0 in
-      rw (acted-clear (suc n) x (omega arith) (omega arith))
+      let k = suc m - 5 in
+      let f = guestAccess n (x .new) Write (eip0 + 2 * k) 0 .file in
+      rw (acted-clear n (suc m) x (omega arith) (omega arith))
       (changes f (omega arith) (omega arith)
-      (shared-clear n (x .old .pending) (c .pending) (x .new) sn (r .shared) k (omega arith) (omega arith))
-      (restored-early (suc n) f c (omega arith)))
+      (shared-clear n m (x .old .pending) (c .pending) (x .new) sized sn (r .shared) k (omega arith)
+      (omega arith))
+      (restored-early n (suc m) f c (omega arith)))
 
-  pub target-rewritten : 8 ≤ n → n < 71 → After
+  pub target-rewritten : 8 ≤ m → m < 71 → After
   target-rewritten l h =
-      rw (acted-target (suc n) x (omega arith) (omega arith))
+      rw (acted-target n (suc m) x (omega arith) (omega arith))
       (changes (x .new) (omega arith) (omega arith)
       (shared-idle (omega arith))
-      (restored-early (suc n) (x .new) c (omega arith)))
+      (restored-early n (suc m) (x .new) c (omega arith)))
 
-  pub pending-saved : 71 ≤ n → n < 75 → After
-  pending-saved l h =
-      let k = suc n - 72 in
-      let v = doubleword (x .old .pending) k in
-      rw (acted-pending (suc n) x (omega arith) (omega arith))
+  pub pending-saved : 71 ≤ m → m < 75 → Shaped (x .old) → After
+  pending-saved l h so =
+      let k = suc m - 72 in
+      let low : k < 4 = omega arith in
+      let v = replyValue (guestAccess n (x .old) Read (eip0 + 2 * k) 0 .answer) in
+      rw (acted-pending n (suc m) x (omega arith) (omega arith))
       (saves (set (x .numbers) (pendingAt k) v) (omega arith) (omega arith) (omega arith)
-      (noted-pending n (x .numbers) (x .old .pending) c (r .noted) v k (omega arith) (omega arith) refl))
+      (noted-pending n m (x .numbers) (x .old .pending) c sized (r .noted) v k low (omega arith)
+      (λ i w e. held-word n true (x .old) k low so i (λ q. clear-in n (x .old) i w) e .0)))
 
-  pub enable-saved : 75 ≤ n → n < 79 → After
-  enable-saved l h =
-      let k = suc n - 76 in
-      let v = doubleword (x .old .enable) k in
-      rw (acted-enable (suc n) x (omega arith) (omega arith))
+  pub enable-saved : 75 ≤ m → m < 79 → Shaped (x .old) → After
+  enable-saved l h so =
+      let k = suc m - 76 in
+      let low : k < 4 = omega arith in
+      let v = replyValue (guestAccess n (x .old) Read (eie0 + 2 * k) 0 .answer) in
+      rw (acted-enable n (suc m) x (omega arith) (omega arith))
       (saves (set (x .numbers) (enableAt k) v) (omega arith) (omega arith) (omega arith)
-      (noted-enable n (x .numbers) (x .old .pending) c (r .noted) v k (omega arith) (omega arith)
-      (ap (λ (ws : List ℕ). doubleword ws k) (r .untouched .enable))))
+      (noted-enable n m (x .numbers) (x .old .pending) c sized (r .noted) v k low (omega arith)
+      (λ i w e. held-word n true (x .old) k low so i (λ q. clear-in n (x .old) i w) e .1
+      ∙ ap (λ (ws : List ℕ). member ws i) (r .untouched .enable))))
 
-  pub pending-set : 79 ≤ n → n < 83 → Shaped (x .old) → Shaped (x .new) → Rules identities true c → After
-  pending-set l h so sn rc =
-      let k = suc n - 80 in
-      let o = x .old .pending in
-      let f = written identities true (x .new) (Pending k)
-      (union (doubleword (x .new .pending) k) (doubleword o k)) in
-      rw (acted-set (suc n) x (omega arith) (omega arith), r .noted .pending k (omega arith) (omega arith))
+  pub pending-set : 79 ≤ m → m < 83 → Shaped (x .new) → After
+  pending-set l h sn =
+      let k = suc m - 80 in
+      let v = getD (x .numbers) (pendingAt k) 0 in
+      let f = guestAccess n (x .new) Set (eip0 + 2 * k) v .file in
+      rw (acted-set n (suc m) x (omega arith) (omega arith))
       (changes f (omega arith) (omega arith)
-      (shared-set n o (c .pending) (x .new) sn (r .shared) k (omega arith) (omega arith) (so .pendingFit)
-      (λ i. member-stays true c rc i .0))
-      (restored-early (suc n) f c (omega arith)))
+      (shared-set n m (x .old .pending) (c .pending) (x .new) sized sn (r .shared) k (omega arith)
+      (omega arith) v
+      (λ i w e. ap (λ (a : ℕ). hasBit (getD (x .numbers) (pendingAt a) 0) (i % 64)) (sym e)
+      ∙ r .noted .pending i w (omega arith)))
+      (restored-early n (suc m) f c (omega arith)))
 
-  pub enable-written : 83 ≤ n → n < 87 → Shaped (x .new) → Shaped c → Rules identities true c → After
-  unfolding written
-  enable-written l h sn sc rc =
-      let k = suc n - 84 in
-      let f = written identities true (x .new) (Enable k) (doubleword (c .enable) k) in
-      rw (acted-write (suc n) x (omega arith) (omega arith), r .noted .enable k (omega arith) (omega arith))
+  pub enable-written : 83 ≤ m → m < 87 → Shaped (x .new) → After
+  enable-written l h sn =
+      let k = suc m - 84 in
+      let low : k < 4 = omega arith in
+      let v = getD (x .numbers) (enableAt k) 0 in
+      let f = guestAccess n (x .new) Write (eie0 + 2 * k) v .file in
+      let same : f .pending ≡ x .new .pending = ap (λ (y : File). y .pending) (word-only n true (x .new) k low
+      v .1) in
+      rw (acted-write n (suc m) x (omega arith) (omega arith))
       (changes f (omega arith) (omega arith)
-      (shared-idle (omega arith))
-      (restored-enable n (x .new) c (r .restored) k (omega arith) (omega arith) sn (sc .enableFit)
-      (λ i. member-stays true c rc i .1)))
+      (rw same (shared-idle (omega arith)))
+      (restored-enable n m (x .new) c (r .restored) k low (omega arith) sized sn v
+      (λ i w e. ap (λ (a : ℕ). hasBit (getD (x .numbers) (enableAt a) 0) (i % 64)) (sym e)
+      ∙ r .noted .enable i w (omega arith))))
 
-  pub threshold-written : n ≡ 87 → Rules identities true c → After
+  pub threshold-written : m ≡ 87 → Rules n true c → After
   threshold-written e rc =
       let v = getD (x .numbers) thresholdAt 0 in
-      rw (acted-shut (suc n) x (ap suc e))
-      (changes (withThreshold (x .new) (v % 256)) (omega arith) (omega arith)
+      rw (acted-shut n (suc m) x (ap suc e))
+      (changes (withThreshold (x .new) (v % (n + 1))) (omega arith) (omega arith)
       (shared-idle (omega arith))
-      (restored-threshold n (x .new) c (r .restored) v e (r .noted .threshold (omega arith))
-      (omega (arith, rc .below))))
+      (restored-threshold n m (x .new) c (r .restored) v e sized (r .noted .threshold (omega arith))
+      (rc .below)))
 
-  pub delivery-written : n ≡ 88 → Rules identities true c → After
+  pub delivery-written : m ≡ 88 → Rules n true c → After
   delivery-written e rc =
       let v = getD (x .numbers) deliveryAt 0 in
       let same : v ≡ c .delivery = r .noted .delivery (omega arith) in
-      rw (acted-open (suc n) x (omega arith) (rw same (rc .legal)))
+      rw (acted-open n (suc m) x (omega arith) (rw same (rc .legal)))
       (changes (withDelivery (x .new) v) (omega arith) (omega arith)
       (shared-idle (omega arith))
-      (restored-delivery n (x .new) c (r .restored) v e same))
+      (restored-delivery n m (x .new) c (r .restored) v e sized same))

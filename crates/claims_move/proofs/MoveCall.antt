@@ -1,6 +1,6 @@
 -- Claims 100 to 103, by the laws of the accesses of a move, line by line of its table. Assumes nothing.
-use Prim.Native.Nat.{ℕ, _+_, _-_, _≤_, _<_}
-use mathlib.Core.Path.{_≡_, refl, sym, ap, _∙_}
+use Prim.Native.Nat.{ℕ, _+_, _-_, _*_, _/_, _≤_, _<_}
+use mathlib.Core.Path.{_≡_, ap, _∙_}
 use mathlib.Core.Bool.{true, not, _&&_}
 use mathlib.Core.List.{List}
 use mathlib.Core.Logic.{_≢_, _⊎_, inl, inr, ⊎-elim}
@@ -9,20 +9,18 @@ use native.Mathlib.Omega.{arith}
 use lib.Dec.{eqb}
 use lib.ListN.{getD}
 use borrow.Author.Tests.{eqb-true, eq-eqb, lt-ltb, le-leb, not-true}
-use Rattle.words.specs.Bits.{union}
-use Rattle.words.specs.Sets.{member}
 use Rattle.words.proofs.TestsLaws.{tested, and-first, and-second, and-both, not-same}
-use Rattle.file_select.specs.declared.Register.the-variants.{Delivery, Pending, Enable}
 use Rattle.sizes.specs.Sizes.{identities}
+use Rattle.file_select.specs.Select.{eip0, eie0}
 use Rattle.file_select.specs.Halves.{doubleword}
 use Rattle.file_select.proofs.DeliveriesLaws.{legal-switch, legal-other}
-use Rattle.file_select.proofs.SelectLaws.{legal-named, register-delivery}
 use Rattle.file.specs.declared.File.{File}
 use Rattle.file.specs.Parts.{withDelivery}
-use Rattle.file.specs.declared.register.Access.the-variants.{Write}
-use Rattle.file.specs.Register.{written, accessedAt}
+use Rattle.file.specs.declared.register.Access.the-variants.{Read, Write, Set}
+use Rattle.file.specs.Reply.{replyValue}
+use Rattle.file.specs.Register.{accessedAt}
 use Rattle.file.specs.Shape.{Shaped}
-use Rattle.file.proofs.RegisterLaws.{accessed-kind, written-illegal}
+use Rattle.file.proofs.RegisterLaws.{written-illegal}
 use Rattle.source_target.specs.Target.{hartOf, guestOf}
 use Rattle.source.specs.declared.Source.{Source}
 use Rattle.domain.specs.Domain.{byMessages, generatedAt}
@@ -33,14 +31,14 @@ use Rattle.board_move_steps.specs.Names.{namesFile}
 use Rattle.board_move_steps.specs.Steps.{actOf}
 use Rattle.board_move_steps.proofs.StepsLaws.{act-target, act-open}
 use Rattle.board_move_files_laws.proofs.TableLaws.{act-else}
-use Rattle.board_move_files_laws.specs.Related.{Three, actedOn}
+use Rattle.board_move_files_laws.specs.Related.{Three, guestAccess, actedOn}
+use Rattle.board_move_files_laws.proofs.SelectEffects.{delivery-access}
 use Rattle.board_move_files_laws.proofs.ActedLaws.{withNew, withNumber, acted-delivery, acted-threshold}
 use Rattle.board_move_files_laws.proofs.ActedLaws.{acted-silence, acted-hold, acted-clear, acted-pending}
 use Rattle.board_move_files_laws.proofs.ActedLaws.{acted-enable, acted-set, acted-write, acted-shut}
 use Rattle.board_move_files_laws.proofs.ActedLaws.{acted-open}
 use Rattle.board_move_files_laws.proofs.ActedLaws as files
-use Rattle.board_move_files_laws.proofs.WrittenEffects.{stays}
-use Rattle.board_move_files_laws.proofs.WrittenEffects.{member-stays}
+use Rattle.board_move_files_laws.proofs.WrittenEffects.{large-within, Clear, clear-rules}
 use Rattle.board_move_wired_laws.specs.Retargeted.{TargetsOnly}
 use Rattle.board_move_wired_laws.proofs.TargetNames.{names-number, number-names}
 use Rattle.board_move_wired_laws.proofs.StepThree.{only-start, next-miss, retargeted-only}
@@ -60,8 +58,9 @@ use Rattle.transfer_laws.proofs.ActedEffects.{acted-three, acted-others, acted-
 use Rattle.transfer_laws.proofs.ActedEffects as board
 use Rattle.claims_move.specs.MoveCall.{Renamed}
 use Rattle.claims_move.specs.MoveCall.{Claim-100, Claim-101, Claim-102, Claim-103}
-use Rattle.claims_move.proofs.MoveParts.{word-of, became-cleared, became-set, became-written, renames}
-use Rattle.claims_move.proofs.MoveParts.{next-other, next-generated, next-own}
+use Rattle.claims_move.proofs.MoveParts.{word-of, word-read, became-cleared, became-set}
+use Rattle.claims_move.proofs.MoveParts.{became-written, renames, next-other, next-generated}
+use Rattle.claims_move.proofs.MoveParts.{next-own}
 
 pub claim-100 : Claim-100
 unfolding Claim-100
@@ -168,7 +167,7 @@ module _ (b : Board) (fit : Fit b) (oh of nh nf n : ℕ) (there : isMove oh of n
       (theFile (x .board .files) old ≡ y .old) × (theFile (x .board .files) new ≡ y .new)
       × (x .saved ≡ y .numbers)
 
-  leaves : (y : Three) → actedOn (actOf n) before ≡ y → Leaves y
+  leaves : (y : Three) → actedOn identities (actOf n) before ≡ y → Leaves y
   leaves y e =
       let all =
       ap (λ (z : Stepped). three old new (z .board .files) (z .saved)) is-after
@@ -180,46 +179,51 @@ module _ (b : Board) (fit : Fit b) (oh of nh nf n : ℕ) (there : isMove oh of n
 
   -- accesses 5 to 8, 72 to 75, 76 to 79, 80 to 83, 84 to 87
   cleared : (k : ℕ) → k < 4 → n ≡ 5 + k
-      → Leaves (withNew before (written identities true f (Pending k) 0))
+      → Leaves (withNew before (guestAccess identities f Write (eip0 + 2 * k) 0 .file))
   cleared k h e =
       leaves _
-      (acted-clear n before (omega arith) (omega arith)
-      ∙ ap (λ (j : ℕ). withNew before (written identities true f (Pending j) 0)) (omega arith))
+      (acted-clear identities n before (omega arith) (omega arith)
+      ∙ ap (λ (j : ℕ). withNew before (guestAccess identities f Write (eip0 + 2 * j) 0 .file)) (omega arith))
 
   read-pending : (k : ℕ) → k < 4 → n ≡ 72 + k
       → Leaves (withNumber before (2 + k) (doubleword (o .pending) k))
   read-pending k h e =
       leaves _
-      (acted-pending n before (omega arith) (omega arith)
-      ∙ ap (λ (j : ℕ). withNumber before (2 + j) (doubleword (o .pending) j)) (omega arith))
+      (acted-pending identities n before (omega arith) (omega arith)
+      ∙ ap (λ (j : ℕ). withNumber before (2 + j) (replyValue (guestAccess identities o Read (eip0 + 2 * j)
+      0 .answer))) (omega arith)
+      ∙ ap (withNumber before (2 + k)) (word-read o k h .0))
 
   read-enable : (k : ℕ) → k < 4 → n ≡ 76 + k
       → Leaves (withNumber before (6 + k) (doubleword (o .enable) k))
   read-enable k h e =
       leaves _
-      (acted-enable n before (omega arith) (omega arith)
-      ∙ ap (λ (j : ℕ). withNumber before (6 + j) (doubleword (o .enable) j)) (omega arith))
+      (acted-enable identities n before (omega arith) (omega arith)
+      ∙ ap (λ (j : ℕ). withNumber before (6 + j) (replyValue (guestAccess identities o Read (eie0 + 2 * j)
+      0 .answer))) (omega arith)
+      ∙ ap (withNumber before (6 + k)) (word-read o k h .1))
 
   set-pending : (k : ℕ) → k < 4 → n ≡ 80 + k
-      → Leaves (withNew before (written identities true f (Pending k)
-      (union (doubleword (f .pending) k) (getD s (2 + k) 0))))
+      → Leaves (withNew before (guestAccess identities f Set (eip0 + 2 * k) (getD s (2 + k) 0) .file))
   set-pending k h e =
       leaves _
-      (acted-set n before (omega arith) (omega arith)
-      ∙ ap (λ (j : ℕ). withNew before (written identities true f (Pending j)
-      (union (doubleword (f .pending) j) (getD s (2 + j) 0)))) (omega arith))
+      (acted-set identities n before (omega arith) (omega arith)
+      ∙ ap (λ (j : ℕ). withNew before (guestAccess identities f Set (eip0 + 2 * j) (getD s (2 + j) 0) .file))
+      (omega arith))
 
   write-enable : (k : ℕ) → k < 4 → n ≡ 84 + k
-      → Leaves (withNew before (written identities true f (Enable k) (getD s (6 + k) 0)))
+      → Leaves (withNew before (guestAccess identities f Write (eie0 + 2 * k) (getD s (6 + k) 0) .file))
   write-enable k h e =
       leaves _
-      (acted-write n before (omega arith) (omega arith)
-      ∙ ap (λ (j : ℕ). withNew before (written identities true f (Enable j) (getD s (6 + j) 0)))
-      (omega arith))
+      (acted-write identities n before (omega arith) (omega arith)
+      ∙ ap (λ (j : ℕ). withNew before (guestAccess identities f Write (eie0 + 2 * j) (getD s (6 + j)
+      0) .file)) (omega arith))
 
   -- access 89
   opened : n ≡ 89 → getD s 0 0 ≤ 1 → Leaves (withNew before (withDelivery f (getD s 0 0)))
-  opened e h = leaves _ (acted-open n before (omega arith) (legal-switch true (getD s 0 0) (omega arith)))
+  opened e h =
+      leaves _
+      (acted-open identities n before (omega arith) (legal-switch true (getD s 0 0) (omega arith)))
 
   shut : n ≡ 89 → 2 ≤ getD s 0 0 → Leaves before
   unfolding actedOn accessedAt
@@ -228,9 +232,7 @@ module _ (b : Board) (fit : Fit b) (oh of nh nf n : ℕ) (there : isMove oh of n
       leaves _
       (rw (
         act-open n (omega arith),
-        accessed-kind identities true f Write 0x70 v Delivery Write
-            (legal-named 0x70 (omega arith) (omega arith)) (sym (register-delivery identities 0x70 refl))
-            refl,
+        delivery-access identities true f Write v,
         written-illegal identities true f v (legal-other true v h),
       ))
 
@@ -333,24 +335,24 @@ claim-102 b fit oh of nh nf n there s =
     let so = shaped-old b fit oh of nh nf n there s in
     let sn = shaped-new b fit oh of nh nf n there s in
     let rules = fit-rules b fit (fileNumber nh nf) (guest-number nh nf (move-new oh of nh nf n there)) in
-    let kept : (i : ℕ) → (member (f .pending) i && stays i) ≡ member (f .pending) i = λ i.
-    member-stays _ f rules i .0 in (
-      (λ e. ends _ (acted-delivery n y e)),
-      (λ e. ends _ (acted-threshold n y e)),
-      (λ e. ends _ (acted-silence n y e)),
-      (λ e. ends _ (acted-hold n y e)),
+    let clear : (k : ℕ) → k < 4 → (i : ℕ) → i / 64 ≡ k → Clear identities f i = λ k h i e.
+    clear-rules identities _ f rules (large-within f) i (omega arith) in (
+      (λ e. ends _ (acted-delivery identities n y e)),
+      (λ e. ends _ (acted-threshold identities n y e)),
+      (λ e. ends _ (acted-silence identities n y e)),
+      (λ e. ends _ (acted-hold identities n y e)),
       (λ k h e. let r = cleared b fit oh of nh nf n there s k h e in
-          (r .0, rw (r .1) (became-cleared f k 0 sn h), r .2)),
-      (λ i l h e. ends _ (files.acted-target n y (omega arith) (omega arith))),
+          (r .0, rw (r .1) (became-cleared f k h 0 sn (clear k h)), r .2)),
+      (λ i l h e. ends _ (files.acted-target identities n y (omega arith) (omega arith))),
       (λ k h e. let r = read-pending b fit oh of nh nf n there s k h e in
           (word-of (o .pending) k (so .pendingFit), r .0, r .1, r .2)),
       (λ k h e. let r = read-enable b fit oh of nh nf n there s k h e in
           (word-of (o .enable) k (so .enableFit), r .0, r .1, r .2)),
       (λ k h e. let r = set-pending b fit oh of nh nf n there s k h e in
-          (r .0, rw (r .1) (became-set f k (getD s (2 + k) 0) sn h kept), r .2)),
+          (r .0, rw (r .1) (became-set f k h (getD s (2 + k) 0) sn (clear k h)), r .2)),
       (λ k h e. let r = write-enable b fit oh of nh nf n there s k h e in
-          (r .0, rw (r .1) (became-written f k (getD s (6 + k) 0) sn h), r .2)),
-      (λ e. ends _ (acted-shut n y e)),
+          (r .0, rw (r .1) (became-written f k h (getD s (6 + k) 0) sn (clear k h)), r .2)),
+      (λ e. ends _ (acted-shut identities n y e)),
       (λ e. (
         switched b fit oh of nh nf n there s e .0,
         (λ h. opened b fit oh of nh nf n there s e h .1),

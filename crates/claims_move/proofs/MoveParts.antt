@@ -2,25 +2,28 @@
 -- target that is rewritten. Assumes nothing.
 use Prim.Native.Nat.{ℕ, _+_, _*_, _/_, _%_, _≤_, _<_}
 use mathlib.Core.Path.{_≡_, refl, ap, _∙_}
-use mathlib.Core.Bool.{Bool, true, false, cond, not, _&&_, _||_, and-true, and-false, or-false}
+use mathlib.Core.Bool.{Bool, true, false, cond, not, _&&_, _||_, and-true, and-false}
 use mathlib.Core.List.{List}
 use mathlib.Core.Logic.{_≢_}
 use native.Mathlib.Decide.{ℕ-discrete}
 use native.Mathlib.Omega.{arith}
 use lib.Dec.{eqb, leb}
 use lib.ListN.{getD}
-use borrow.Author.Tests.{eq-eqb, ne-eqb}
-use Rattle.words.specs.Bits.{hasBit, union}
+use borrow.Author.Tests.{eq-eqb, ne-eqb, le-leb}
+use Rattle.words.specs.Bits.{hasBit}
 use Rattle.words.specs.Parts.{fieldOf, packed}
 use Rattle.words.specs.Sets.{member, WordsFit}
-use Rattle.words.proofs.BitsLaws.{hasBit-nothing, hasBit-union}
+use Rattle.words.proofs.BitsLaws.{hasBit-nothing}
 use Rattle.words.proofs.PartsLaws.{joined-lt}
 use Rattle.words.proofs.TestsLaws.{tested}
-use Rattle.file_select.specs.declared.Register.the-variants.{Pending, Enable}
-use Rattle.sizes.specs.Sizes.{identities}
+use Rattle.sizes.specs.Sizes.{identities, fileSetSize}
+use Rattle.file_select.specs.Select.{eip0, eie0}
 use Rattle.file_select.specs.Halves.{doubleword}
 use Rattle.file.specs.declared.File.{File}
-use Rattle.file.specs.Register.{written}
+use Rattle.file.specs.declared.register.Access.the-variants.{Read, Write, Set}
+use Rattle.file.specs.Parts.{withPendingSet, withEnable}
+use Rattle.file.specs.Register.{held, accessedAt, accessed}
+use Rattle.file.specs.Reply.{replyValue}
 use Rattle.file.specs.Shape.{Shaped}
 use Rattle.source_mode.specs.Mode.{isActive}
 use Rattle.source_target.specs.Target.{hartOf, guestOf, numberOf, keptTarget}
@@ -34,7 +37,9 @@ use Rattle.wired_state.specs.Wires.{Wired, domainIn}
 use Rattle.wired_rules_laws.specs.Steady.{WiredSteady}
 use Rattle.wired_laws.proofs.TargetEffects.{target-own, target-other}
 use Rattle.board_move_steps.specs.Names.{namesFile, renamed}
-use Rattle.board_move_files_laws.proofs.WrittenEffects.{stays, keptOf, kept-same, kept-other, member-written}
+use Rattle.board_move_files_laws.proofs.SelectEffects.{pending-there, enable-there, set-writes}
+use Rattle.board_move_files_laws.proofs.WrittenEffects.{large-sized, stays, keptOf, kept-same, kept-other}
+use Rattle.board_move_files_laws.proofs.WrittenEffects.{Clear, word-only, member-accessed, member-set}
 use Rattle.file_laws.proofs.WordEffects.{hasBit-doubleword}
 use Rattle.board_move_wired_laws.proofs.TargetNames.{names-number, hartOf-renamed, guestOf-renamed}
 use Rattle.board_move_wired_laws.proofs.TargetNames.{numberOf-renamed, kept-renamed}
@@ -53,65 +58,85 @@ word-of ws k fit =
       small = joined-lt (getD ws (2 * k) 0) (getD ws (2 * k + 1) 0) (fit (2 * k)) (fit (2 * k + 1));
     }
 
-or-kept : (a b c : Bool) → (a && c) ≡ a → ((a || b) && c) ≡ (a || (b && c))
-or-kept true b c e = e
-or-kept false b c e = refl
+-- a file that is f but for its pending set, or but for its enable set
+pending-became : (f y : File) (ws : List ℕ) (p : ℕ → Bool) → y ≡ withPendingSet f ws
+    → ((i : ℕ) → member (y .pending) i ≡ p i) → PendingBecame f y p
+pending-became f y ws p e same =
+    record {
+      delivery = ap (λ (z : File). z .delivery) e;
+      threshold = ap (λ (z : File). z .threshold) e;
+      enable = ap (λ (z : File). z .enable) e;
+      pending = same;
+    }
 
-module _ (f : File) (k v : ℕ) (s : Shaped f) (h : k < 4) where
-  -- word k cleared, the bits of v set in it, or v written to it
-  pub became-cleared : PendingBecame f (written identities true f (Pending k) 0)
-      (λ i. member (f .pending) i && not (eqb (i / 64) k))
-  unfolding written
-  became-cleared =
-      record {
-        delivery = refl;
-        threshold = refl;
-        enable = refl;
-        pending = λ i. member-written true f k 0 s h i .0 ∙ at i (ℕ-discrete (i / 64) k);
-      }
-    where
-      at : (i : ℕ) → Dec (i / 64 ≡ k)
-          → keptOf (f .pending) k 0 i ≡ (member (f .pending) i && not (eqb (i / 64) k))
-      at i (yes e) = kept-same (f .pending) k 0 i e ∙ simp (hasBit-nothing, eq-eqb (i / 64) k e, and-false)
-      at i (no d) = kept-other (f .pending) k 0 i d ∙ simp (ne-eqb (i / 64) k d, and-true)
+enable-became : (f y : File) (ws : List ℕ) (p : ℕ → Bool) → y ≡ withEnable f ws
+    → ((i : ℕ) → member (y .enable) i ≡ p i) → EnableBecame f y p
+enable-became f y ws p e same =
+    record {
+      delivery = ap (λ (z : File). z .delivery) e;
+      threshold = ap (λ (z : File). z .threshold) e;
+      pending = ap (λ (z : File). z .pending) e;
+      enable = same;
+    }
 
-  pub became-set : ((i : ℕ) → (member (f .pending) i && stays i) ≡ member (f .pending) i)
-      → PendingBecame f (written identities true f (Pending k) (union (doubleword (f .pending) k) v))
-      (λ i. member (f .pending) i || (eqb (i / 64) k && hasBit v (i % 64) && leb 1 i))
-  unfolding written stays
-  became-set kept =
-      record {
-        delivery = refl;
-        threshold = refl;
-        enable = refl;
-        pending = λ i. member-written true f k u s h i .0 ∙ at i (ℕ-discrete (i / 64) k);
-      }
-    where
-      u : ℕ
-      u = union (doubleword (f .pending) k) v
+-- of the identities in a file's sets all but 0 are kept
+stays-large : (i : ℕ) → i < 32 * fileSetSize → stays identities i ≡ leb 1 i
+unfolding stays
+stays-large i h = simp (le-leb i identities (omega arith), and-true)
 
-      at : (i : ℕ) → Dec (i / 64 ≡ k)
-          → keptOf (f .pending) k u i
-          ≡ (member (f .pending) i || (eqb (i / 64) k && hasBit v (i % 64) && leb 1 i))
-      at i (yes e) =
-          kept-same (f .pending) k u i e
-          ∙ ap (λ (t : Bool). t && stays i)
-          (hasBit-union (doubleword (f .pending) k) v (i % 64)
-          ∙ ap (λ (t : Bool). t || hasBit v (i % 64)) (hasBit-doubleword (f .pending) k i (s .pendingFit) e))
-          ∙ or-kept (member (f .pending) i) (hasBit v (i % 64)) (stays i) (kept i)
-          ∙ simp (eq-eqb (i / 64) k e)
-      at i (no d) = kept-other (f .pending) k u i d ∙ simp (ne-eqb (i / 64) k d, or-false)
+module _ (f : File) (k : ℕ) (h : k < 4) where
+  pub word-read : (replyValue (accessed identities true f Read (eip0 + 2 * k) 0 .answer)
+      ≡ doubleword (f .pending) k)
+      × (replyValue (accessed identities true f Read (eie0 + 2 * k) 0 .answer) ≡ doubleword (f .enable) k)
+  unfolding accessedAt held
+  word-read = (
+    rw (pending-there identities true f Read 0 k h (omega arith)),
+    rw (enable-there identities true f Read 0 k h (omega arith)),
+  )
 
-  pub became-written : EnableBecame f (written identities true f (Enable k) v)
-      (λ i. cond (eqb (i / 64) k) (hasBit v (i % 64) && leb 1 i) (member (f .enable) i))
-  unfolding written keptOf stays
-  became-written =
-      record {
-        delivery = refl;
-        threshold = refl;
-        pending = refl;
-        enable = λ i. member-written true f k v s h i .1;
-      }
+  module _ (v : ℕ) (s : Shaped f) (clear : (i : ℕ) → i / 64 ≡ k → Clear identities f i) where
+    -- word k cleared, the bits of v set in it, or v written to it
+    pub became-cleared : PendingBecame f (accessed identities true f Write (eip0 + 2 * k) 0 .file)
+        (λ i. member (f .pending) i && not (eqb (i / 64) k))
+    became-cleared =
+        pending-became f _ _ _ (word-only identities true f k h 0 .0)
+        (λ i. member-accessed identities true f k h s i (clear i) large-sized 0 .0
+        ∙ at i (ℕ-discrete (i / 64) k))
+      where
+        at : (i : ℕ) → Dec (i / 64 ≡ k)
+            → keptOf identities (f .pending) k 0 i ≡ (member (f .pending) i && not (eqb (i / 64) k))
+        at i (yes e) =
+            kept-same identities (f .pending) k 0 i e
+            ∙ simp (hasBit-nothing, eq-eqb (i / 64) k e, and-false)
+        at i (no d) = kept-other identities (f .pending) k 0 i d ∙ simp (ne-eqb (i / 64) k d, and-true)
+
+    pub became-set : PendingBecame f (accessed identities true f Set (eip0 + 2 * k) v .file)
+        (λ i. member (f .pending) i || (eqb (i / 64) k && hasBit v (i % 64) && leb 1 i))
+    became-set =
+        pending-became f _ _ _
+        (set-writes identities true f (eip0 + 2 * k) v ∙ word-only identities true f k h _ .0)
+        (λ i. member-set identities true f k h s i (clear i) large-sized v ∙ at i (ℕ-discrete (i / 64) k))
+      where
+        at : (i : ℕ) → Dec (i / 64 ≡ k)
+            → (member (f .pending) i || (eqb (i / 64) k && hasBit v (i % 64) && stays identities i))
+            ≡ (member (f .pending) i || (eqb (i / 64) k && hasBit v (i % 64) && leb 1 i))
+        at i (yes e) = rw (stays-large i (omega arith))
+        at i (no d) = simp (ne-eqb (i / 64) k d)
+
+    pub became-written : EnableBecame f (accessed identities true f Write (eie0 + 2 * k) v .file)
+        (λ i. cond (eqb (i / 64) k) (hasBit v (i % 64) && leb 1 i) (member (f .enable) i))
+    became-written =
+        enable-became f _ _ _ (word-only identities true f k h v .1)
+        (λ i. member-accessed identities true f k h s i (clear i) large-sized v .1
+        ∙ at i (ℕ-discrete (i / 64) k))
+      where
+        at : (i : ℕ) → Dec (i / 64 ≡ k)
+            → keptOf identities (f .enable) k v i
+            ≡ cond (eqb (i / 64) k) (hasBit v (i % 64) && leb 1 i) (member (f .enable) i)
+        at i (yes e) =
+            kept-same identities (f .enable) k v i e
+            ∙ simp (stays-large i (omega arith), eq-eqb (i / 64) k e)
+        at i (no d) = kept-other identities (f .enable) k v i d ∙ simp (ne-eqb (i / 64) k d)
 
 -- ---- a target
 

@@ -1,7 +1,7 @@
 -- What one access of a move does to the files and the record, as the laws of the files have it, and to the
 -- wired controller. No contract cites this file. Assumes nothing.
 use Prim.Native.Nat.{ℕ}
-use mathlib.Core.Path.{_≡_, refl, sym, ap, _∙_}
+use mathlib.Core.Path.{_≡_, refl, sym, ap, subst, _∙_}
 use mathlib.Core.Bool.{Bool, true, false, true≢false}
 use mathlib.Core.List.{List}
 use mathlib.Core.Logic.{_≢_}
@@ -15,16 +15,21 @@ use Rattle.file.specs.declared.register.Access.the-variants.{Read, Write}
 use Rattle.file.specs.declared.register.Accessed.{Accessed}
 use Rattle.file.specs.Reply.{replyValue}
 use Rattle.file.specs.Register.{accessed}
+use Rattle.file_laws.proofs.Keeps.{Rules}
 use Rattle.files.specs.Files.{fileNumber, isGuest, theFile, withFile}
 use Rattle.files.proofs.FilesLaws.{theFile-withFile-same, theFile-withFile-other}
 use Rattle.board_move_steps.specs.declared.Act.{Act}
 use Rattle.board_move_steps.specs.declared.Act.the-variants.{Save, Zero, Target, Put}
 use Rattle.board_move_files_laws.proofs.TableLaws.{isTarget}
 use Rattle.board_move_files_laws.specs.Related.{Three, guestAccess, actedOn}
+use Rattle.board_move_files_laws.proofs.WrittenEffects.{large-within}
+use Rattle.board_move_files_laws.proofs.RelatedEffects.{Whole}
 use Rattle.board_block.specs.Block.{Board}
 use Rattle.board_call.specs.Move.{registerOn, retargetedIn, Acted, acted}
 use Rattle.board_call.specs.Refusal.{isGuestFile}
+use Rattle.board_call_laws.specs.Fit.{Fit}
 use Rattle.board_call_laws.proofs.FileCallEffects.{guest-file}
+use Rattle.board_call_laws.proofs.FitEffects.{fit-rules}
 use Rattle.board_move_laws.proofs.MoveCallEffects.{guest-there}
 use Rattle.board_move_laws.proofs.MoveEffects.{guest-low, guest-number}
 use Rattle.transfer_laws.proofs.ArrivalEffects.{three}
@@ -32,13 +37,24 @@ use Rattle.transfer_laws.proofs.ArrivalEffects.{three}
 three-path : {x y : Three} → x .old ≡ y .old → x .new ≡ y .new → x .numbers ≡ y .numbers → x ≡ y
 three-path o f s k = record { old = o k; new = f k; numbers = s k }
 
--- a register of a guest's file
+-- a guest's file: it keeps the rules, and what an access to a register of it is
 module _ (h f : ℕ) (there : isGuestFile h f ≡ true) where
   pub guest-is : isGuest (fileNumber h f) ≡ true
   guest-is = sym (guest-file h f (guest-there h f there)) ∙ le-leb 2 f (guest-low h f there)
 
+  pub guest-whole : (b : Board) → Fit b → Whole identities (theFile (b .files) (fileNumber h f))
+  guest-whole b fit =
+      let k = fileNumber h f in
+      let lt = guest-number h f there in
+      record {
+        shaped = fit .files k lt;
+        rules = subst (λ (g : Bool). Rules identities g (theFile (b .files) k)) guest-is
+            (fit-rules b fit k lt);
+        within = large-within (theFile (b .files) k);
+      }
+
   register-guest : (b : Board) (k : Access) (s v : ℕ)
-      → registerOn b h f k s v ≡ guestAccess (theFile (b .files) (fileNumber h f)) k s v
+      → registerOn b h f k s v ≡ guestAccess identities (theFile (b .files) (fileNumber h f)) k s v
   register-guest b k s v =
       ap (λ (g : Bool). accessed identities g (theFile (b .files) (fileNumber h f)) k s v) guest-is
 
@@ -68,7 +84,8 @@ module _ (oh of nh nf : ℕ) (oldThere : isGuestFile oh of ≡ true) (newThere :
       (theFile-withFile-other (b .files) old x new different) refl
 
   pub acted-three : (a : Act)
-      → three old new (left a .board .files) (left a .saved) ≡ actedOn a (three old new (b .files) s)
+      → three old new (left a .board .files) (left a .saved)
+      ≡ actedOn identities a (three old new (b .files) s)
   unfolding acted actedOn
   acted-three (Save select place) =
       three-path refl refl
@@ -78,7 +95,7 @@ module _ (oh of nh nf : ℕ) (oldThere : isGuestFile oh of ≡ true) (newThere :
     where
       at : (c : Bool)
           → three old new (left (Zero c select) .board .files) s
-          ≡ actedOn (Zero c select) (three old new (b .files) s)
+          ≡ actedOn identities (Zero c select) (three old new (b .files) s)
       at true =
           unfold acted actedOn in
           put-new _ ∙ three-path refl (ap (λ (x : Accessed). x .file) (register-guest nh nf newThere b Write

@@ -22,6 +22,7 @@ use Rattle.file_laws.proofs.PageEffects.{arrived-ignored}
 use Rattle.files.specs.Files.{theFile, withFile}
 use Rattle.files.proofs.FilesLaws.{theFile-withFile-same, theFile-withFile-other}
 use Rattle.board_move_files_laws.specs.Related.{Three, Related}
+use Rattle.board_move_files_laws.proofs.WrittenEffects.{large-sized}
 use Rattle.board_move_files_laws.proofs.RelatedEffects.{related-both, related-new}
 use Rattle.words.proofs.TestsLaws.{tested}
 
@@ -45,7 +46,7 @@ module _ (old new : ℕ) where
   three fs s = record { old = theFile fs old; new = theFile fs new; numbers = s }
 
   pub record FilesMoved (n : ℕ) (fs gs : List File) (s : List ℕ) : Type 0 where
-    pub related : Related n (three fs s) (theFile gs old)
+    pub related : Related identities n (three fs s) (theFile gs old)
     pub others : (k : ℕ) → k < fileCount → k ≢ old → k ≢ new → theFile fs k ≡ theFile gs k
 
   module _ (n : ℕ) (fs gs : List File) (s : List ℕ)
@@ -63,8 +64,8 @@ module _ (old new : ℕ) where
                 theFile-withFile-other fs old (arrived identities (theFile fs old) i) new different,
                 theFile-withFile-same gs old (arrived identities (theFile gs old) i) (omega arith),
               )
-              (related-both n (three fs s) (theFile gs old) i h (shaped old oldLt) (shaped′ old oldLt)
-              (r .related));
+              (related-both identities n (three fs s) (theFile gs old) (r .related) i large-sized
+              (shaped′ old oldLt) h (shaped old oldLt));
           others = λ k l a b. theFile-withFile-other fs old _ k a ∙ r .others k l a b
               ∙ sym (theFile-withFile-other gs old _ k a);
         }
@@ -80,8 +81,8 @@ module _ (old new : ℕ) where
                 theFile-withFile-same fs new (arrived identities (theFile fs new) i) (omega arith),
                 theFile-withFile-same gs old (arrived identities (theFile gs old) i) (omega arith),
               )
-              (related-new n (three fs s) (theFile gs old) i h (shaped new newLt) (shaped′ old oldLt)
-              (r .related));
+              (related-new identities n (three fs s) (theFile gs old) (r .related) i large-sized
+              (shaped′ old oldLt) h (shaped new newLt));
           others = λ k l a b. theFile-withFile-other fs new _ k b ∙ r .others k l a b
               ∙ sym (theFile-withFile-other gs old _ k a);
         }

@@ -18,7 +18,6 @@ use Rattle.words.proofs.TestsLaws.{tested, and-first, and-second, and-both, not
 use Rattle.sizes.specs.Sizes.{identities, fileCount}
 use Rattle.file.specs.declared.File.{File}
 use Rattle.file.specs.Page.{pageWritten}
-use Rattle.file_laws.proofs.Keeps.{Rules}
 use Rattle.files.specs.Files.{fileNumber, theFile, reached, allReached}
 use Rattle.source_target.specs.Target.{hartOf, guestOf, numberOf, messageOf}
 use Rattle.source_target.proofs.TargetLaws.{hartOf-lt, guestOf-lt}
@@ -31,6 +30,7 @@ use Rattle.board_move_steps.specs.declared.Act.{Act}
 use Rattle.board_move_steps.proofs.StepsLaws.{act-target}
 use Rattle.board_move_files_laws.proofs.TableLaws.{act-else}
 use Rattle.board_move_files_laws.specs.Related.{Three, Related}
+use Rattle.board_move_files_laws.proofs.WrittenEffects.{large-sized}
 use Rattle.board_move_files_laws.proofs.RelatedEffects.{related-act}
 use Rattle.board_move_wired_laws.specs.Retargeted.{TargetsOnly, Same, Rewritten, TargetsMoved}
 use Rattle.board_move_wired_laws.proofs.TargetNames.{names-number, names-other, numberOf-renamed}
@@ -44,7 +44,7 @@ use Rattle.board_call.specs.Move.{Acted, acted}
 use Rattle.board_call.specs.Refusal.{isFile, isGuestFile, isMove}
 use Rattle.board_call_laws.proofs.FileCallEffects.{onlyFile, file-lt, number-lt, number-read}
 use Rattle.board_call_laws.specs.Fit.{Fit}
-use Rattle.board_call_laws.proofs.FitEffects.{fit-steady, fit-rules}
+use Rattle.board_call_laws.proofs.FitEffects.{fit-steady}
 use Rattle.board_call_laws.proofs.StepEffects.{sound-quiet, wiredStep}
 use Rattle.board_move_laws.proofs.MoveEffects.{guest-hart, guest-low, guest-high, guest-number}
 use Rattle.transfer_laws.specs.Shift.{Stations, isOld, isNew}
@@ -52,7 +52,7 @@ use Rattle.transfer_laws.specs.Premises.{TwoGuests}
 use Rattle.transfer_laws.specs.Moved.{oldNumber, newNumber}
 use Rattle.transfer_laws.proofs.ArrivalEffects.{FilesMoved, arrivedAt, pageNumber, page-arrives}
 use Rattle.transfer_laws.proofs.ArrivalEffects.{arrival-same, arrival-new}
-use Rattle.transfer_laws.proofs.ActedEffects.{guest-is, acted-three, acted-others, acted-wired}
+use Rattle.transfer_laws.proofs.ActedEffects.{guest-whole, acted-three, acted-others, acted-wired}
 
 -- ---- the two stations
 
@@ -251,15 +251,13 @@ module _ (m : Stations) (g : TwoGuests m) where
       next-files =
           record {
             related =
-                subst (λ (x : Three). Related (suc n) x (theFile (b′ .files) (oldNumber m)))
+                subst (λ (x : Three). Related identities (suc n) x (theFile (b′ .files) (oldNumber m)))
                 (sym (acted-three (m .oldHart) (m .oldFile) (m .newHart) (m .newFile) (g .old) (g .new)
                 different b
                 (fit .shaped .many) s next))
-                (related-act n _ _ more (fit .files (oldNumber m) old-lt) (fit .files (newNumber m) new-lt)
-                (fit′ .files (oldNumber m) old-lt)
-                (subst (λ (c : Bool). Rules identities c (theFile (b′ .files) (oldNumber m)))
-                (guest-is (m .oldHart) (m .oldFile) (g .old)) (fit-rules b′ fit′ (oldNumber m) old-lt))
-                (r .files .related));
+                (related-act identities n _ _ large-sized more (fit .files (oldNumber m) old-lt)
+                (fit .files (newNumber m) new-lt)
+                (guest-whole (m .oldHart) (m .oldFile) (g .old) b′ fit′ .rules) (r .files .related));
             others = λ k h o w. acted-others (m .oldHart) (m .oldFile) (m .newHart) (m .newFile) (g .old)
                 (g .new)
                 different b (fit .shaped .many) s next k o w ∙ r .files .others k h o w;

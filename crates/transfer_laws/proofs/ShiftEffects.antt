@@ -10,9 +10,11 @@ use native.Mathlib.Decide.{ℕ-discrete}
 use native.Mathlib.Omega.{arith}
 use lib.Dec.{eqb}
 use Rattle.words.proofs.TestsLaws.{tested, and-both, not-same}
+use Rattle.sizes.specs.Sizes.{identities}
 use Rattle.domain.specs.Domain.{Domain}
 use Rattle.wired_state.specs.Wires.{Wired, domainIn}
 use Rattle.board_move_steps.specs.Steps.{accesses}
+use Rattle.board_move_files_laws.proofs.WrittenEffects.{large-sized}
 use Rattle.board_move_files_laws.proofs.RelatedEffects.{related-start, related-end}
 use Rattle.board_move_wired_laws.proofs.WireRelated.{only-messages}
 use Rattle.board_move_wired_laws.proofs.StepThree.{named-active, only-start, moved-start}
@@ -38,9 +40,10 @@ use Rattle.transfer_laws.specs.Shift.{Stations, Event, accessOf, isOld, 
 use Rattle.transfer_laws.specs.Premises.{Started, TwoGuests, ByMessages, NoneNamesNew, accessesIn}
 use Rattle.transfer_laws.specs.Premises.{AllAccesses}
 use Rattle.transfer_laws.specs.Premises.{PagesKept, Premises}
-use Rattle.transfer_laws.specs.Moved.{oldNumber, newNumber, Moved, MoveKeeps, AccessesDone, MoveDone}
+use Rattle.transfer_laws.specs.Moved.{Moved, MoveKeeps, AccessesDone, MoveDone}
 use Rattle.board_move_laws.proofs.MoveCallEffects.{guest-there}
-use Rattle.transfer_laws.proofs.Invariant.{old-lt, new-lt, new-parts, move-there, Middle, middle-page}
+use Rattle.transfer_laws.proofs.ActedEffects.{guest-whole}
+use Rattle.transfer_laws.proofs.Invariant.{new-parts, move-there, Middle, middle-page}
 use Rattle.transfer_laws.proofs.Invariant.{middle-wire}
 use Rattle.transfer_laws.proofs.Invariant.{middle-access}
 
@@ -231,8 +234,9 @@ module _ (m : Stations) (g : TwoGuests m) where
       let u = boardIn y .wired in
       record {
         station =
-            related-end _ _ (r .ready .fit .files (newNumber m) (new-lt m g))
-            (r .ready′ .fit .files (oldNumber m) (old-lt m g)) (files .related);
+            related-end identities _ _ large-sized
+            (guest-whole (m .newHart) (m .newFile) (g .new) (boardIn x) (r .ready .fit))
+            (guest-whole (m .oldHart) (m .oldFile) (g .old) (boardIn y) (r .ready′ .fit)) (files .related);
         others = files .others;
         wires = only .wires;
         pending = each (λ d. d .pending) w u (ap (λ (d : Domain). d .pending) (only .root)) (only .pending);
@@ -264,7 +268,7 @@ beside-start m x es p =
           record {
             files =
                 record {
-                  related = related-start _ _ (x .saved) (p .started .record-long);
+                  related = related-start identities _ _ (x .saved) (p .started .record-long);
                   others = λ k h o w. refl;
                 };
             only = only-start (boardIn x .wired);
