@@ -1,6 +1,7 @@
 -- Two files that are the same answer the same to every call, and stay the same: so the station's shift goes
 -- on after the move. No contract cites this file. Assumes nothing.
---   leaves c x, answers c x    what the call c leaves of a guest's file x, and what it answers
+--   leaves n c x, answers n c x    what the call c leaves of a guest's file x of n identities, and what it
+--                                  answers
 use Prim.Native.Nat.{ℕ}
 use mathlib.Core.Path.{_≡_, refl, sym, ap, ap₂, _∙_}
 use mathlib.Core.Bool.{Bool, true, cond}
@@ -46,19 +47,19 @@ use Rattle.transfer_laws.proofs.ActedEffects.{guest-is}
 
 -- ---- one call on a guest's file
 
-abbrev leaves : FileCall → File → File
-leaves (FileCall.pageRead a) x = x
-leaves (FileCall.pageWrite a v) x = pageWritten identities x a v
-leaves (FileCall.register k s v) x = accessed identities true x (kindOf k) s v .file
-leaves FileCall.top x = x
-leaves FileCall.claim x = claimed identities x
+abbrev leaves : ℕ → FileCall → File → File
+leaves n (FileCall.pageRead a) x = x
+leaves n (FileCall.pageWrite a v) x = pageWritten n x a v
+leaves n (FileCall.register k s v) x = accessed n true x (kindOf k) s v .file
+leaves n FileCall.top x = x
+leaves n FileCall.claim x = claimed n x
 
-abbrev answers : FileCall → File → ℕ
-answers (FileCall.pageRead a) x = pageRead x a
-answers (FileCall.pageWrite a v) x = 0
-answers (FileCall.register k s v) x = replyValue (accessed identities true x (kindOf k) s v .answer)
-answers FileCall.top x = topOf identities x
-answers FileCall.claim x = topOf identities x
+abbrev answers : ℕ → FileCall → File → ℕ
+answers n (FileCall.pageRead a) x = pageRead x a
+answers n (FileCall.pageWrite a v) x = 0
+answers n (FileCall.register k s v) x = replyValue (accessed n true x (kindOf k) s v .answer)
+answers n FileCall.top x = topOf n x
+answers n FileCall.claim x = topOf n x
 
 -- the refusal of a call on a file that is there
 abbrev refusalIn : FileCall → ℕ
@@ -96,7 +97,8 @@ module _ (h f : ℕ) (there : isGuestFile h f ≡ true) where
     unmoved = ap (withFiles b) (sym (withFile-theFile (b .files) k))
 
     step-on : (c : FileCall) (u : List ℕ)
-        → step (callOn h f c) b u ≡ quiet (onlyFile b k (leaves c here)) (answers c here) u
+        → step (callOn h f c) b u
+        ≡ quiet (onlyFile b k (leaves identities c here)) (answers identities c here) u
     step-on (FileCall.pageRead a) u =
         step-pageRead b (fit .sound) h f here refl a u ∙ ap (λ (d : Board). quiet d (pageRead here a) u)
         unmoved
@@ -109,11 +111,11 @@ module _ (h f : ℕ) (there : isGuestFile h f ≡ true) where
         ∙ ap (λ (d : Board). quiet d (topOf identities here) u) unmoved
     step-on FileCall.claim u = step-claim b (fit .sound) h f here refl u
 
-    pub left-on : (c : FileCall) (u : List ℕ) → theFile (step (callOn h f c) b u .board .files) k ≡ leaves c
-        here
+    pub left-on : (c : FileCall) (u : List ℕ)
+        → theFile (step (callOn h f c) b u .board .files) k ≡ leaves identities c here
     left-on c u =
         ap (λ (s : Stepped). theFile (s .board .files) k) (step-on c u)
-        ∙ theFile-withFile-same (b .files) k (leaves c here)
+        ∙ theFile-withFile-same (b .files) k (leaves identities c here)
         (omega (arith, fit .shaped .many, guest-number h f there))
 
   -- what the call answers, and the file after it
@@ -122,7 +124,8 @@ module _ (h f : ℕ) (there : isGuestFile h f ≡ true) where
     file = theFile (boardIn x .files) (fileNumber h f)
 
     said-done : refusalIn c ≡ 0
-        → saidOf (outcomeOn (callOn h f c) x) ≡ record { number = 0; value = answers c file; count = 0 }
+        → saidOf (outcomeOn (callOn h f c) x)
+        ≡ record { number = 0; value = answers identities c file; count = 0 }
     said-done e =
         ap saidOf (outcome-done (callOn h f c) (x .block) (x .log) (x .saved)
         (ready-refusal (callOn h f c) x ready ∙ refusal-on (boardIn x) c ∙ e))
@@ -135,7 +138,7 @@ module _ (h f : ℕ) (there : isGuestFile h f ≡ true) where
         (ready-refusal (callOn h f c) x ready ∙ refusal-on (boardIn x) c) d)
 
     file-done : Small (callOn 0 0 c) → refusalIn c ≡ 0
-        → theFile (boardIn (after (callOn h f c) x) .files) (fileNumber h f) ≡ leaves c file
+        → theFile (boardIn (after (callOn h f c) x) .files) (fileNumber h f) ≡ leaves identities c file
     file-done small e =
         ap (λ (b : Board). theFile (b .files) (fileNumber h f))
         (after-board (callOn h f c) x ready (refusal-on (boardIn x) c ∙ e) (small-on c small))
@@ -166,7 +169,7 @@ module _ (m : Stations) (g : TwoGuests m) where
         at : Dec (refusalIn c ≡ 0) → saidOf (outcomeOn (onNew c) x) ≡ saidOf (outcomeOn (onOld c) y)
         at (yes e) =
             said-done (m .newHart) (m .newFile) (g .new) x ready c e
-            ∙ ap (λ (z : File). record { number = 0; value = answers c z; count = 0 }) same
+            ∙ ap (λ (z : File). record { number = 0; value = answers identities c z; count = 0 }) same
             ∙ sym (said-done (m .oldHart) (m .oldFile) (g .old) y ready′ c e)
         at (no d) =
             said-refused (m .newHart) (m .newFile) (g .new) x ready c d
@@ -178,7 +181,7 @@ module _ (m : Stations) (g : TwoGuests m) where
         at : Dec (refusalIn c ≡ 0) → newIn m (boardIn (after (onNew c) x)) ≡ oldIn m
             (boardIn (after (onOld c) y))
         at (yes e) =
-            file-done (m .newHart) (m .newFile) (g .new) x ready c small e ∙ ap (leaves c) same
+            file-done (m .newHart) (m .newFile) (g .new) x ready c small e ∙ ap (leaves identities c) same
             ∙ sym (file-done (m .oldHart) (m .oldFile) (g .old) y ready′ c small e)
         at (no d) =
             file-refused (m .newHart) (m .newFile) (g .new) x ready c d ∙ same

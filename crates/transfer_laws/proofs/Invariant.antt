@@ -4,7 +4,7 @@
 --                        it: the files as FilesMoved has them, the controllers equal but for the targets of
 --                        the child, these as TargetsMoved has them, and the child in message mode
 use Prim.Native.Nat.{ℕ, suc, _+_, _-_, _≤_, _<_}
-use mathlib.Core.Path.{_≡_, sym, ap, ap₂, subst, _∙_}
+use mathlib.Core.Path.{_≡_, refl, sym, ap, ap₂, subst, _∙_}
 use mathlib.Core.Bool.{Bool, true, false, cond}
 use mathlib.Core.List.{List}
 use mathlib.Core.Logic.{_≢_, _⊎_, inl, inr, ⊎-elim}
@@ -53,6 +53,10 @@ use Rattle.transfer_laws.specs.Moved.{oldNumber, newNumber}
 use Rattle.transfer_laws.proofs.ArrivalEffects.{FilesMoved, arrivedAt, pageNumber, page-arrives}
 use Rattle.transfer_laws.proofs.ArrivalEffects.{arrival-same, arrival-new}
 use Rattle.transfer_laws.proofs.ActedEffects.{guest-whole, acted-three, acted-others, acted-wired}
+
+-- how many identities each file has
+abbrev identitiesAt : ℕ → ℕ
+identitiesAt k = identities
 
 -- ---- the two stations
 
@@ -108,8 +112,11 @@ module _ (m : Stations) (g : TwoGuests m) where
   different e =
       not-same _ (is-new (m .oldHart) (m .oldFile) (guest-high _ _ (g .old)) (sym e)) (g .different)
 
+  abbrev Files : ℕ → List File → List File → List ℕ → Type 0
+  Files = FilesMoved identitiesAt (oldNumber m) (newNumber m)
+
   pub record Middle (n : ℕ) (b b′ : Board) (s : List ℕ) : Type 0 where
-    pub files : FilesMoved (oldNumber m) (newNumber m) n (b .files) (b′ .files) s
+    pub files : Files n (b .files) (b′ .files) s
     pub only : TargetsOnly (b .wired) (b′ .wired)
     pub targets : TargetsMoved (m .oldHart) (m .oldFile) (m .newHart) (m .newFile) n (b .wired) (b′ .wired)
     pub messages : byMessages (b′ .wired .child) ≡ true
@@ -119,18 +126,20 @@ module _ (m : Stations) (g : TwoGuests m) where
 
     -- at new here and at old there
     come-new : (i : ℕ) → 8 ≤ n
-        → FilesMoved (oldNumber m) (newNumber m) n (arrivedAt (b .files) (newNumber m) i)
-        (arrivedAt (b′ .files) (oldNumber m) i) s
+        → Files n (arrivedAt identitiesAt (b .files) (newNumber m) i)
+        (arrivedAt identitiesAt (b′ .files) (oldNumber m) i) s
     come-new i h =
-        arrival-new (oldNumber m) (newNumber m) n (b .files) (b′ .files) s (fit .shaped .many)
-        (fit′ .shaped .many) (fit .files) (fit′ .files) (r .files) different old-lt new-lt i h
+        arrival-new identitiesAt (oldNumber m) (newNumber m) refl large-sized n (b .files) (b′ .files) s
+        (fit .shaped .many) (fit′ .shaped .many) (fit .files) (fit′ .files) (r .files) different old-lt
+        new-lt i h
 
     -- at one file of both
     come-same : (k i : ℕ) → k < fileCount → k ≢ newNumber m → (k ≡ oldNumber m → n < 72)
-        → FilesMoved (oldNumber m) (newNumber m) n (arrivedAt (b .files) k i) (arrivedAt (b′ .files) k i) s
+        → Files n (arrivedAt identitiesAt (b .files) k i) (arrivedAt identitiesAt (b′ .files) k i) s
     come-same k i h notNew still =
-        arrival-same (oldNumber m) (newNumber m) n (b .files) (b′ .files) s (fit .shaped .many)
-        (fit′ .shaped .many) (fit .files) (fit′ .files) (r .files) different old-lt new-lt i k h notNew still
+        arrival-same identitiesAt (oldNumber m) (newNumber m) refl large-sized n (b .files) (b′ .files) s
+        (fit .shaped .many) (fit′ .shaped .many) (fit .files) (fit′ .files) (r .files) different old-lt
+        new-lt i k h notNew still
 
     -- ---- a page write
 
@@ -144,14 +153,12 @@ module _ (m : Stations) (g : TwoGuests m) where
         record {
           files =
               rw (
-                page-arrives (theFile (b .files) (fileNumber h f)) a v,
-                page-arrives
-                    (theFile (b′ .files) _) a v,
+                page-arrives identities (theFile (b .files) (fileNumber h f)) a v,
+                page-arrives identities (theFile (b′ .files) _) a v,
               )
               (tested (isNew m h f)
-              (λ t. rw t (subst (λ (k : ℕ). FilesMoved (oldNumber m) (newNumber m) n
-              (arrivedAt (b .files) k (pageNumber a v)) (arrivedAt (b′ .files) (oldNumber m) (pageNumber a
-              v)) s)
+              (λ t. rw t (subst (λ (k : ℕ). Files n (arrivedAt identitiesAt (b .files) k (pageNumber a v))
+              (arrivedAt identitiesAt (b′ .files) (oldNumber m) (pageNumber a v)) s)
               (sym (new-number h f t)) (come-new (pageNumber a v) (toNew t))))
               (λ u. rw u (come-same (fileNumber h f) (pageNumber a v)
               (omega (arith, number-read h f, number-lt h f there))
@@ -164,12 +171,9 @@ module _ (m : Stations) (g : TwoGuests m) where
 
     -- ---- a wire
 
-    abbrev Files : List File → List File → Type 0
-    Files fs gs = FilesMoved (oldNumber m) (newNumber m) n fs gs s
-
     -- the message of the machine domain goes to a machine file, which is neither old nor new
-    machine-comes : (t : ℕ) → Files (reached (b .files) (messageOf false t))
-        (reached (b′ .files) (messageOf false t))
+    machine-comes : (t : ℕ) → Files n (reached (b .files) (messageOf false t))
+        (reached (b′ .files) (messageOf false t)) s
     machine-comes t =
         let k = fileNumber (hartOf t) 0 in
         rw (message-reaches false t (b .files), message-reaches false t (b′ .files))
@@ -181,7 +185,7 @@ module _ (m : Stations) (g : TwoGuests m) where
     child-comes : (i t t′ : ℕ) → 1 ≤ i → i < 64
         → Same (m .oldHart) (m .oldFile) (m .newHart) (m .newFile) n i t t′
         ⊎ Rewritten (m .oldHart) (m .oldFile) (m .newHart) (m .newFile) n i t t′
-        → Files (reached (b .files) (messageOf true t)) (reached (b′ .files) (messageOf true t′))
+        → Files n (reached (b .files) (messageOf true t)) (reached (b′ .files) (messageOf true t′)) s
     child-comes i t t′ l h (inl q) =
         rw (q .same, message-reaches true t′ (b .files), message-reaches true t′ (b′ .files))
         (come-same (fileNumber (hartOf t′) (guestOf t′ + 1)) (numberOf t′)
@@ -212,8 +216,8 @@ module _ (m : Stations) (g : TwoGuests m) where
         (come-new (numberOf t′) (omega (arith, q .passed)))
 
     module _ (i : ℕ) (l : 1 ≤ i) (h : i < 64) (level : Bool) where
-      wire-files : Files (allReached (b .files) (wireCall (b .wired) i level .messages))
-          (allReached (b′ .files) (wireCall (b′ .wired) i level .messages))
+      wire-files : Files n (allReached (b .files) (wireCall (b .wired) i level .messages))
+          (allReached (b′ .files) (wireCall (b′ .wired) i level .messages)) s
       unfolding allReached
       wire-files =
           ⊎-elim (λ q. rw (q .0, q .1) (r .files))
@@ -246,8 +250,7 @@ module _ (m : Stations) (g : TwoGuests m) where
       abbrev moved : Acted
       moved = acted next (m .oldHart) (m .oldFile) (m .newHart) (m .newFile) b s
 
-      next-files : FilesMoved (oldNumber m) (newNumber m) (suc n) (moved .board .files) (b′ .files)
-          (moved .saved)
+      next-files : Files (suc n) (moved .board .files) (b′ .files) (moved .saved)
       next-files =
           record {
             related =
