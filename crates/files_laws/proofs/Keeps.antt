@@ -45,7 +45,7 @@ module _ (l : List ℕ) (many : length l ≡ filesSize) (k : ℕ) (h : k < fileC
 
 module _ (ms : List ℕ) (fs : List File) (k : ℕ) where
   pub allReached-long : Long (theFile fs k) → Long (theFile (allReached fs ms) k)
-  allReached-long = allReached-keeps Long arrived-long ms fs k
+  allReached-long = allReached-keeps Long (arrived-long identities) ms fs k
 
   pub allReached-shaped : Shaped (theFile fs k) → Shaped (theFile (allReached fs ms) k)
   allReached-shaped = allReached-keeps Shaped (λ f i. arrived-shaped identities f i) ms fs k

@@ -28,45 +28,44 @@ use Rattle.files_laws.proofs.AnyLaws.{or-first, or-second}
 
 -- ---- one message
 
--- an identity that comes is one of 1 to 255 unless it is 0
-came : (i j : ℕ) → 1 ≤ i → j < 256 → (eqb i j && (leb 1 j && leb j identities)) ≡ eqb j i
-came i j l h = at (ℕ-discrete j i)
+-- what comes to a file of n identities is one of 1 to n unless it is 0
+came : (n i j : ℕ) → 1 ≤ i → j ≤ n → (eqb i j && (leb 1 j && leb j n)) ≡ eqb j i
+came n i j l h = at (ℕ-discrete j i)
   where
-    at : Dec (j ≡ i) → (eqb i j && (leb 1 j && leb j identities)) ≡ eqb j i
-    at (yes e) =
-        simp (eq-eqb j i e, eq-eqb i j (sym e), le-leb 1 j (omega arith), le-leb j 255 (omega arith))
-    at (no n) = simp (ne-eqb j i n, ne-eqb i j (λ e. n (sym e)))
+    at : Dec (j ≡ i) → (eqb i j && (leb 1 j && leb j n)) ≡ eqb j i
+    at (yes e) = simp (eq-eqb j i e, eq-eqb i j (sym e), le-leb 1 j (omega arith), le-leb j n h)
+    at (no d) = simp (ne-eqb j i d, ne-eqb i j (λ e. d (sym e)))
 
-pub arrived-long : (f : File) (i : ℕ) → Long f → Long (arrived identities f i)
-arrived-long f i s =
-    record {
-      pendingLong = arrived-length identities f i ∙ s .pendingLong;
-      enableLong = ap length (arrived-rest identities f i .2) ∙ s .enableLong;
-    }
+module _ (n : ℕ) (f : File) (i : ℕ) where
+  pub arrived-long : Long f → Long (arrived n f i)
+  arrived-long s =
+      record {
+        pendingLong = arrived-length n f i ∙ s .pendingLong;
+        enableLong = ap length (arrived-rest n f i .2) ∙ s .enableLong;
+      }
 
--- identity 0 changes nothing
-pub arrived-zero : (f : File) (i : ℕ) → i ≡ 0 → arrived identities f i ≡ f
-arrived-zero f i e = arrived-ignored identities f i (rw e)
+  -- identity 0 changes nothing
+  pub arrived-zero : i ≡ 0 → arrived n f i ≡ f
+  arrived-zero e = arrived-ignored n f i (rw e)
 
-zero-keeps : {b : Bool} (f : File) (i : ℕ) → member (f .pending) 0 ≡ b
-    → member (arrived identities f i .pending) 0 ≡ b
-unfolding arrived
-zero-keeps {b} f i e = at (ℕ-discrete 0 i)
-  where
-    at : Dec (0 ≡ i) → member (arrived identities f i .pending) 0 ≡ b
-    at (yes z) = ap (λ (g : File). member (g .pending) 0) (arrived-zero f i (sym z)) ∙ e
-    at (no n) =
-        tested (leb 1 i && leb i identities) (λ t. simp t (member-insert-other (f .pending) i 0 n ∙ e))
-        (λ u. simp u e)
+  zero-keeps : {b : Bool} → member (f .pending) 0 ≡ b → member (arrived n f i .pending) 0 ≡ b
+  unfolding arrived
+  zero-keeps {b} e = at (ℕ-discrete 0 i)
+    where
+      at : Dec (0 ≡ i) → member (arrived n f i .pending) 0 ≡ b
+      at (yes z) = ap (λ (g : File). member (g .pending) 0) (arrived-zero (sym z)) ∙ e
+      at (no d) =
+          tested (leb 1 i && leb i n) (λ t. simp t (member-insert-other (f .pending) i 0 d ∙ e))
+          (λ u. simp u e)
 
-rest-keeps : {f₀ : File} (f : File) (i : ℕ) → PendingOnly f₀ f → PendingOnly f₀ (arrived identities f i)
-rest-keeps f i r =
-    let same = arrived-rest identities f i in
-    record {
-      delivery = same .0 ∙ r .delivery;
-      threshold = same .1 ∙ r .threshold;
-      enable = same .2 ∙ r .enable;
-    }
+  rest-keeps : {f₀ : File} → PendingOnly f₀ f → PendingOnly f₀ (arrived n f i)
+  rest-keeps r =
+      let same = arrived-rest n f i in
+      record {
+        delivery = same .0 ∙ r .delivery;
+        threshold = same .1 ∙ r .threshold;
+        enable = same .2 ∙ r .enable;
+      }
 
 -- a file put where it stands changes nothing, and so does one put past the last
 pub withFile-theFile : (fs : List File) (k : ℕ) → withFile fs k (theFile fs k) ≡ fs
@@ -89,7 +88,7 @@ module _ (fs : List File) (m : ℕ) where
   pub reached-zero : identityIn m ≡ 0 → reached fs m ≡ fs
   unfolding reached
   reached-zero e =
-      ap (withFile fs (namedBy m)) (arrived-zero (theFile fs (namedBy m)) (identityIn m) e)
+      ap (withFile fs (namedBy m)) (arrived-zero identities (theFile fs (namedBy m)) (identityIn m) e)
       ∙ withFile-theFile fs (namedBy m)
 
   -- one that names no file here changes nothing either
@@ -117,7 +116,7 @@ module _ (fs : List File) (m : ℕ) where
       at (yes e) (no h) =
           subst P (sym (ap (λ (gs : List File). theFile gs k) (reached-past (omega arith)))) p
 
-  -- the identity of 1 to 255 that came is pending, and every other is as it was
+  -- the identity that came is pending, and every other is as it was
   pub pending-reached : (k i : ℕ) → k < length fs → Long (theFile fs k) → 1 ≤ i
       → member (theFile (reached fs m) k .pending) i ≡ (member (theFile fs k .pending) i || brings k i m)
   unfolding brings names
@@ -133,16 +132,18 @@ module _ (fs : List File) (m : ℕ) where
           ap (λ (f : File). member (f .pending) i) (theFile-reached-same k e h)
           ∙ arrived-pending identities (theFile fs k) (identityIn m) i (omega (arith, long .pendingLong))
           ∙ ap (λ (b : Bool). member (theFile fs k .pending) i || b)
-          (came i (identityIn m) l (identityIn-lt m) ∙ sym (simp (eq-eqb (namedBy m) k (sym e))))
+          (came identities i (identityIn m) l (omega (arith, identityIn-lt m))
+          ∙ sym (simp (eq-eqb (namedBy m) k (sym e))))
 
   pub pending-reached-zero : (k : ℕ)
       → member (theFile (reached fs m) k .pending) 0 ≡ member (theFile fs k .pending) 0
   pending-reached-zero k =
-      reached-keeps (λ f. member (f .pending) 0 ≡ member (theFile fs k .pending) 0) zero-keeps k refl
+      reached-keeps (λ f. member (f .pending) 0 ≡ member (theFile fs k .pending) 0)
+      (λ f i. zero-keeps identities f i) k refl
 
   pub rest-reached : (k : ℕ) → PendingOnly (theFile fs k) (theFile (reached fs m) k)
   rest-reached k =
-      reached-keeps (PendingOnly (theFile fs k)) rest-keeps k
+      reached-keeps (PendingOnly (theFile fs k)) (λ f i. rest-keeps identities f i) k
       (record { delivery = refl; threshold = refl; enable = refl })
 
 -- ---- messages in order
@@ -179,7 +180,7 @@ unfolding allReached anyOf
 pending-allReached [] fs k i h long l = sym (or-false (member (theFile fs k .pending) i))
 pending-allReached (m ∷ ms) fs k i h long l =
     pending-allReached ms (reached fs m) k i (omega (arith, length-reached fs m))
-    (reached-keeps fs m Long arrived-long k long) l
+    (reached-keeps fs m Long (arrived-long identities) k long) l
     ∙ ap (λ (b : Bool). b || anyOf (brings k i) ms) (pending-reached fs m k i h long l)
     ∙ or-assoc (member (theFile fs k .pending) i) (brings k i m) (anyOf (brings k i) ms)
 
@@ -187,9 +188,10 @@ module _ (ms : List ℕ) (fs : List File) (k : ℕ) where
   pub pending-allReached-zero :
       member (theFile (allReached fs ms) k .pending) 0 ≡ member (theFile fs k .pending) 0
   pending-allReached-zero =
-      allReached-keeps (λ f. member (f .pending) 0 ≡ member (theFile fs k .pending) 0) zero-keeps ms fs k refl
+      allReached-keeps (λ f. member (f .pending) 0 ≡ member (theFile fs k .pending) 0)
+      (λ f i. zero-keeps identities f i) ms fs k refl
 
   pub rest-allReached : PendingOnly (theFile fs k) (theFile (allReached fs ms) k)
   rest-allReached =
-      allReached-keeps (PendingOnly (theFile fs k)) rest-keeps ms fs k
+      allReached-keeps (PendingOnly (theFile fs k)) (λ f i. rest-keeps identities f i) ms fs k
       (record { delivery = refl; threshold = refl; enable = refl })
