@@ -13,11 +13,10 @@ use borrow.Author.Tests.{eq-eqb, ne-eqb, not-true}
 use Rattle.words.proofs.TestsLaws.{tested, and-first, and-second, or-right}
 use Rattle.board_block.specs.Block.{Board, boardOf, boardSound}
 use Rattle.board_call.specs.declared.Answer.{Answer}
-use Rattle.board_call.specs.declared.Call.{Call}
 use Rattle.board_call.specs.Answer.{Refuses}
-use Rattle.board_call.specs.Refusal.{testsRules, present, addressed, selected, Test, firstFailed}
-use Rattle.board_call.specs.Refusal.{blockTests}
-use Rattle.board_call.specs.Refusal.{nameTests, blockRefusal, nameRefusal, refusalOf}
+use Rattle.board_call.specs.Calls.{Tests}
+use Rattle.board_call.specs.Refusal.{Test, firstFailed, blockTests, nameTests, blockRefusal}
+use Rattle.board_call.specs.Refusal.{nameRefusalBy, refusalBy}
 use Rattle.board_call.proofs.AnswerLaws.{NotDone, refused-case}
 use Rattle.sizes.specs.Sizes.{blockSize}
 
@@ -101,51 +100,51 @@ module _ (t : Bool) (l g : List ℕ) (z : blockRefusal t l g ≡ 0) where
 
 -- ---- of the numbers
 
-module _ (c : Call) (b : Board) where
-  pub refused-name : present c b ≡ false → nameRefusal c b ≡ 4
-  unfolding nameRefusal nameTests firstFailed
+module _ (t : Tests) (b : Board) where
+  pub refused-name : t .names b ≡ false → nameRefusalBy t b ≡ 4
+  unfolding nameRefusalBy nameTests firstFailed
   refused-name n = simp n
 
   -- an accepted call named what is there
-  pub accepted-present : nameRefusal c b ≡ 0 → present c b ≡ true
-  accepted-present e = tested (present c b) (λ y. y) (λ n. absurd (omega (arith, refused-name n, e)))
+  pub accepted-present : nameRefusalBy t b ≡ 0 → t .names b ≡ true
+  accepted-present e = tested (t .names b) (λ y. y) (λ n. absurd (omega (arith, refused-name n, e)))
 
-  module _ (n : present c b ≡ true) where
-    pub refused-address : addressed c ≡ false → nameRefusal c b ≡ 5
-    unfolding nameRefusal nameTests firstFailed
+  module _ (n : t .names b ≡ true) where
+    pub refused-address : t .address ≡ false → nameRefusalBy t b ≡ 5
+    unfolding nameRefusalBy nameTests firstFailed
     refused-address a = simp (n, a)
 
-    module _ (a : addressed c ≡ true) where
-      pub refused-select : selected c ≡ false → nameRefusal c b ≡ 6
-      unfolding nameRefusal nameTests firstFailed
+    module _ (a : t .address ≡ true) where
+      pub refused-select : t .select ≡ false → nameRefusalBy t b ≡ 6
+      unfolding nameRefusalBy nameTests firstFailed
       refused-select s = simp (n, a, s)
 
-      pub numbers-name : selected c ≡ true → nameRefusal c b ≡ 0
-      unfolding nameRefusal nameTests firstFailed
+      pub numbers-name : t .select ≡ true → nameRefusalBy t b ≡ 0
+      unfolding nameRefusalBy nameTests firstFailed
       numbers-name s = simp (n, a, s)
 
 -- ---- of both
 
-module _ (c : Call) (l g : List ℕ) where
-  refusal-append : refusalOf c l g
-      ≡ cond (eqb (blockRefusal (testsRules c) l g) 0) (nameRefusal c (boardOf l))
-      (blockRefusal (testsRules c) l g)
-  unfolding refusalOf blockRefusal nameRefusal blockTests numbered
-  refusal-append = first-append (blockTests (testsRules c) l g) (nameTests c (boardOf l)) refl
+module _ (t : Tests) (l g : List ℕ) where
+  refusal-append : refusalBy t l g
+      ≡ cond (eqb (blockRefusal (t .rules) l g) 0) (nameRefusalBy t (boardOf l))
+      (blockRefusal (t .rules) l g)
+  unfolding refusalBy blockRefusal nameRefusalBy blockTests numbered
+  refusal-append = first-append (blockTests (t .rules) l g) (nameTests t (boardOf l)) refl
 
-  pub refused-blocks : (k : ℕ) → k ≡ blockRefusal (testsRules c) l g → k ≢ 0 → refusalOf c l g ≡ k
+  pub refused-blocks : (k : ℕ) → k ≡ blockRefusal (t .rules) l g → k ≢ 0 → refusalBy t l g ≡ k
   refused-blocks k e h =
-      refusal-append ∙ simp (ne-eqb (blockRefusal (testsRules c) l g) 0 (λ z. h (e ∙ z))) (sym e)
+      refusal-append ∙ simp (ne-eqb (blockRefusal (t .rules) l g) 0 (λ z. h (e ∙ z))) (sym e)
 
-  pub refused-numbers : blockRefusal (testsRules c) l g ≡ 0 → refusalOf c l g ≡ nameRefusal c (boardOf l)
-  refused-numbers z = refusal-append ∙ simp (eq-eqb (blockRefusal (testsRules c) l g) 0 z)
+  pub refused-numbers : blockRefusal (t .rules) l g ≡ 0 → refusalBy t l g ≡ nameRefusalBy t (boardOf l)
+  refused-numbers z = refusal-append ∙ simp (eq-eqb (blockRefusal (t .rules) l g) 0 z)
 
   -- an accepted call passed every test
-  pub refused-none : refusalOf c l g ≡ 0
-      → (blockRefusal (testsRules c) l g ≡ 0) × (nameRefusal c (boardOf l) ≡ 0)
-  refused-none e = at (ℕ-discrete (blockRefusal (testsRules c) l g) 0)
+  pub refused-none : refusalBy t l g ≡ 0
+      → (blockRefusal (t .rules) l g ≡ 0) × (nameRefusalBy t (boardOf l) ≡ 0)
+  refused-none e = at (ℕ-discrete (blockRefusal (t .rules) l g) 0)
     where
-      at : Dec (blockRefusal (testsRules c) l g ≡ 0)
-          → (blockRefusal (testsRules c) l g ≡ 0) × (nameRefusal c (boardOf l) ≡ 0)
+      at : Dec (blockRefusal (t .rules) l g ≡ 0)
+          → (blockRefusal (t .rules) l g ≡ 0) × (nameRefusalBy t (boardOf l) ≡ 0)
       at (yes z) = (z, sym (refused-numbers z) ∙ e)
       at (no n) = absurd (n (sym (refused-blocks _ refl n) ∙ e))

@@ -1,6 +1,6 @@
 // Which numbers name something.
 ghost use mathlib.Core.Path.{_≡_};
-ghost use Rattle.board_call.specs.Refusal.{isWire, isFile, isGuestFile, isMove, isPageAddress};
+ghost use Rattle.board_call.specs.Numbers.{isWire, isFile, isGuestFile, isMove, isPageAddress};
 ghost use Rattle.board_call.specs.Change.{kindOf};
 use board_move_steps::ACCESSES;
 use file::Access;

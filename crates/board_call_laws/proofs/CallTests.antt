@@ -1,6 +1,6 @@
 -- What a call gives that tests the state rules: refused by its blocks, by a number that names nothing, by its
 -- address or its select number; or done, with nothing sent. No contract cites this file. Assumes nothing.
---   Tests c n a s    the call c tests the rules, and then n of the board, a and s: what it names, its
+--   Tested c n a s   the call c tests the rules, and then n of the board, a and s: what it names, its
 --                    address, its select number
 --   quiet b v s      what a call does that leaves the board b and the record s, answers v and sends nothing
 use Prim.Native.Nat.{ℕ}
@@ -16,7 +16,9 @@ use Rattle.board_call.specs.declared.Answer.{Answer}
 use Rattle.board_call.specs.declared.Answer.the-variants.{Done, NoSuch, BadAddress, IllegalSelect}
 use Rattle.board_call.specs.declared.Call.{Call}
 use Rattle.board_call.specs.Answer.{Refuses}
-use Rattle.board_call.specs.Refusal.{testsRules, present, addressed, selected, blockRefusal, nameRefusal}
+use Rattle.board_call.specs.Calls.{Tests, testsRules, present, addressed, selected, rowOf}
+use Rattle.board_call.specs.Calls.{rowOf}
+use Rattle.board_call.specs.Refusal.{blockRefusal, nameRefusal}
 use Rattle.board_call.specs.Outcome.{Stepped, step, outcome, Gives, Does}
 use Rattle.board_call.proofs.AnswerLaws.{NotDone}
 use Rattle.board_call.proofs.RefusalLaws.{passed-state, passed-rules, numbers-name}
@@ -26,11 +28,8 @@ use Rattle.board_call_laws.proofs.OutcomeEffects.{gives-done}
 use Rattle.board_call_laws.proofs.StepEffects.{wiredStep}
 use Rattle.sizes.specs.Sizes.{blockSize}
 
-pub record Tests (c : Call) (n : Board → Bool) (a s : Bool) : Type 0 where
-  pub rules : testsRules c ≡ true
-  pub names : (b : Board) → present c b ≡ n b
-  pub addresses : addressed c ≡ a
-  pub selects : selected c ≡ s
+pub record Tested (c : Call) (n : Board → Bool) (a s : Bool) : Type 0 where
+  pub row : rowOf c .tests ≡ record { rules = true; names = n; address = a; select = s }
 
 abbrev pub quiet : Board → ℕ → List ℕ → Stepped
 quiet b v s = record { board = b; value = v; messages = []; saved = s }
@@ -43,9 +42,18 @@ module _ (l g : List ℕ) (z : blockRefusal true l g ≡ 0) where
   pub checked-sound : boardSound (boardOf l) ≡ true
   checked-sound = passed-rules true l g z refl
 
-module _ {c : Call} {n : Board → Bool} {a s : Bool} (t : Tests c n a s) (l g : List ℕ) where
+module _ {c : Call} {n : Board → Bool} {a s : Bool} (t : Tested c n a s) (l g : List ℕ) where
+  named : (b : Board) → present c b ≡ n b
+  named b = ap (λ (x : Tests). x .names b) (t .row)
+
+  at-address : addressed c ≡ a
+  at-address = ap (λ (x : Tests). x .address) (t .row)
+
+  at-select : selected c ≡ s
+  at-select = ap (λ (x : Tests). x .select) (t .row)
+
   by-rules : blockRefusal (testsRules c) l g ≡ blockRefusal true l g
-  by-rules = ap (λ (b : Bool). blockRefusal b l g) (t .rules)
+  by-rules = ap (λ (x : Tests). blockRefusal (x .rules) l g) (t .row)
 
   -- r is what the test of the blocks answered
   pub tests-blocks : (r : Answer) → Refuses r (blockRefusal true l g) → NotDone r → Does c l g r l g
@@ -56,19 +64,19 @@ module _ {c : Call} {n : Board → Bool} {a s : Bool} (t : Tests c n a s) (l g :
     passed = by-rules ∙ z
 
     pub tests-name : n (boardOf l) ≡ false → Does c l g NoSuch l g
-    tests-name x = gives-name c l g passed (t .names (boardOf l) ∙ x)
+    tests-name x = gives-name c l g passed (named (boardOf l) ∙ x)
 
     module _ (x : n (boardOf l) ≡ true) where
       pub tests-address : a ≡ false → Does c l g BadAddress l g
-      tests-address y = gives-address c l g passed (t .names (boardOf l) ∙ x) (t .addresses ∙ y)
+      tests-address y = gives-address c l g passed (named (boardOf l) ∙ x) (at-address ∙ y)
 
       pub tests-select : a ≡ true → s ≡ false → Does c l g IllegalSelect l g
       tests-select y w =
-          gives-select c l g passed (t .names (boardOf l) ∙ x) (t .addresses ∙ y) (t .selects ∙ w)
+          gives-select c l g passed (named (boardOf l) ∙ x) (at-address ∙ y) (at-select ∙ w)
 
       tests-numbers : a ≡ true → s ≡ true → nameRefusal c (boardOf l) ≡ 0
-      tests-numbers y w = numbers-name c (boardOf l) (t .names (boardOf l) ∙ x) (t .addresses ∙ y)
-          (t .selects ∙ w)
+      tests-numbers y w = numbers-name (rowOf c .tests) (boardOf l) (named (boardOf l) ∙ x) (at-address ∙ y)
+          (at-select ∙ w)
 
       -- the call does what x says of the record u, and its code answered v and m and left the blocks l′ and
       -- g′ and the record u′

@@ -26,11 +26,13 @@ use Rattle.board_block.proofs.BlockLaws.{files-long, files-part, filesPut, put-
 use Rattle.board_call.specs.declared.Answer.the-variants.{Done}
 use Rattle.board_call.specs.declared.Call.the-variants.{PageRead, PageWrite, Register, Top, Claim}
 use Rattle.board_call.specs.Change.{kindOf, change}
-use Rattle.board_call.specs.Refusal.{testsRules, present, addressed, selected, isFile, isPageAddress}
+use Rattle.board_call.specs.Numbers.{isFile, isPageAddress}
+use Rattle.board_call.specs.Calls.{rowOf}
+use Rattle.board_call.specs.Calls.{rowOf}
 use Rattle.board_call.specs.Refusal.{blockRefusal}
 use Rattle.board_call.specs.Outcome.{step, Does}
 use Rattle.board_call_laws.proofs.StepEffects.{step-onFile, step-answering}
-use Rattle.board_call_laws.proofs.CallTests.{Tests, quiet, checked-long, checked-sound, tests-done}
+use Rattle.board_call_laws.proofs.CallTests.{Tested, quiet, checked-long, checked-sound, tests-done}
 
 -- ---- a file that is there
 
@@ -84,26 +86,26 @@ module _ (l : List ℕ) (long : length l ≡ blockSize) (h f : ℕ) (x : File) w
 -- ---- what each call tests
 
 module _ (h f : ℕ) where
-  pub tests-pageRead : (a : ℕ) → Tests (PageRead h f a) (λ b. isFile h f) (isPageAddress a) true
-  unfolding testsRules present addressed selected
-  tests-pageRead a = record { rules = refl; names = λ b. refl; addresses = refl; selects = refl }
+  pub tests-pageRead : (a : ℕ) → Tested (PageRead h f a) (λ b. isFile h f) (isPageAddress a) true
+  unfolding rowOf
+  tests-pageRead a = record { row = refl }
 
-  pub tests-pageWrite : (a v : ℕ) → Tests (PageWrite h f a v) (λ b. isFile h f) (isPageAddress a) true
-  unfolding testsRules present addressed selected
-  tests-pageWrite a v = record { rules = refl; names = λ b. refl; addresses = refl; selects = refl }
+  pub tests-pageWrite : (a v : ℕ) → Tested (PageWrite h f a v) (λ b. isFile h f) (isPageAddress a) true
+  unfolding rowOf
+  tests-pageWrite a v = record { row = refl }
 
-  pub tests-register : (k s v : ℕ) → Tests (Register h f k s v) (λ b. isFile h f && ltb k 4) true
+  pub tests-register : (k s v : ℕ) → Tested (Register h f k s v) (λ b. isFile h f && ltb k 4) true
       (selectLegal s)
-  unfolding testsRules present addressed selected
-  tests-register k s v = record { rules = refl; names = λ b. refl; addresses = refl; selects = refl }
+  unfolding rowOf
+  tests-register k s v = record { row = refl }
 
-  pub tests-top : Tests (Top h f) (λ b. isFile h f) true true
-  unfolding testsRules present addressed selected
-  tests-top = record { rules = refl; names = λ b. refl; addresses = refl; selects = refl }
+  pub tests-top : Tested (Top h f) (λ b. isFile h f) true true
+  unfolding rowOf
+  tests-top = record { row = refl }
 
-  pub tests-claim : Tests (Claim h f) (λ b. isFile h f) true true
-  unfolding testsRules present addressed selected
-  tests-claim = record { rules = refl; names = λ b. refl; addresses = refl; selects = refl }
+  pub tests-claim : Tested (Claim h f) (λ b. isFile h f) true true
+  unfolding rowOf
+  tests-claim = record { row = refl }
 
 -- ---- what each call does to a sound board, where x is its file
 

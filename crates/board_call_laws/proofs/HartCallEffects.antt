@@ -29,24 +29,26 @@ use Rattle.board_call.specs.declared.Answer.the-variants.{Done}
 use Rattle.board_call.specs.declared.Call.the-variants.{Reset, Signals}
 use Rattle.board_call.specs.Answer.{Refuses}
 use Rattle.board_call.specs.Change.{signalAt, signalsTo, change}
-use Rattle.board_call.specs.Refusal.{testsRules, present, addressed, selected, blockRefusal, nameRefusal}
+use Rattle.board_call.specs.Calls.{rowOf}
+use Rattle.board_call.specs.Calls.{rowOf}
+use Rattle.board_call.specs.Refusal.{blockRefusal, nameRefusal}
 use Rattle.board_call.specs.Outcome.{step, Does}
 use Rattle.board_call.proofs.AnswerLaws.{NotDone}
 use Rattle.board_call.proofs.RefusalLaws.{passed-state, numbers-name}
 use Rattle.board_call_laws.proofs.OutcomeEffects.{gives-blocks, gives-done}
 use Rattle.board_call_laws.proofs.StepEffects.{step-answering, step-reset}
-use Rattle.board_call_laws.proofs.CallTests.{Tests, quiet, checked-long, checked-sound, tests-done}
+use Rattle.board_call_laws.proofs.CallTests.{Tested, quiet, checked-long, checked-sound, tests-done}
 
 -- ---- a reset
 
 reset-names : (b : Board) → nameRefusal Reset b ≡ 0
-unfolding present addressed selected
-reset-names b = numbers-name Reset b refl refl refl
+unfolding rowOf
+reset-names b = numbers-name (rowOf Reset .tests) b refl refl refl
 
 module _ (l g : List ℕ) where
   -- r is what the test of the lengths answered
   pub reset-blocks : (r : Answer) → Refuses r (blockRefusal false l g) → NotDone r → Does Reset l g r l g
-  unfolding testsRules
+  unfolding rowOf
   reset-blocks = gives-blocks Reset l g
 
   module _ (z : blockRefusal false l g ≡ 0) where
@@ -55,7 +57,7 @@ module _ (l g : List ℕ) where
 
     pub reset-done : (l′ : List ℕ) → length l′ ≡ length l → boardOf l′ ≡ startBoard
         → Does Reset l g (Done 0 0) l′ g
-    unfolding testsRules
+    unfolding rowOf
     reset-done l′ kept board u =
         gives-done Reset l g z (reset-names (boardOf l)) u (quiet startBoard 0 u)
         (step-reset (boardOf l) u) 0 0 refl refl l′ g u (kept ∙ reset-long) board (sym (logged-none g)) refl
@@ -120,9 +122,9 @@ signal-guest-own b h f l =
 
 -- ---- the signals of a hart
 
-pub tests-signals : (h : ℕ) → Tests (Signals h) (λ b. ltb h 4) true true
-unfolding testsRules present addressed selected
-tests-signals h = record { rules = refl; names = λ b. refl; addresses = refl; selects = refl }
+pub tests-signals : (h : ℕ) → Tested (Signals h) (λ b. ltb h 4) true true
+unfolding rowOf
+tests-signals h = record { row = refl }
 
 pub step-signals : (b : Board) → boardSound b ≡ true → (h : ℕ) (u : List ℕ)
     → step (Signals h) b u ≡ quiet b (signalsTo b h 5) u

@@ -29,7 +29,7 @@ use Rattle.wired.proofs.CallLaws.{read-silent}
 use Rattle.board_block.specs.Block.{Board}
 use Rattle.board_call.specs.declared.Call.the-variants as call
 use Rattle.board_call.specs.Change.{kindOf, onFile, answering, change}
-use Rattle.board_call.specs.Refusal.{isWire, isFile}
+use Rattle.board_call.specs.Numbers.{isWire, isFile}
 use Rattle.board_call.specs.Outcome.{Stepped, thenSent, step}
 use Rattle.board_call_laws.specs.Fit.{Fit, SavedFit, Kept}
 use Rattle.board_call_laws.proofs.StepEffects.{sound-quiet, wiredStep, step-wire, step-domainRead}

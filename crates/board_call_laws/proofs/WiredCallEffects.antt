@@ -17,10 +17,13 @@ use Rattle.wired.specs.Controller.{wireCall, readCall, writeCall}
 use Rattle.board_block.specs.Block.{Board, withWired, boardOf}
 use Rattle.board_call.specs.declared.Answer.the-variants.{Done}
 use Rattle.board_call.specs.declared.Call.the-variants.{Wire, DomainRead, DomainWrite}
-use Rattle.board_call.specs.Refusal.{isWire, testsRules, present, addressed, selected, blockRefusal}
+use Rattle.board_call.specs.Numbers.{isWire}
+use Rattle.board_call.specs.Calls.{rowOf}
+use Rattle.board_call.specs.Calls.{rowOf}
+use Rattle.board_call.specs.Refusal.{blockRefusal}
 use Rattle.board_call.specs.Outcome.{Stepped, Does}
 use Rattle.board_call_laws.specs.Left.{Left}
-use Rattle.board_call_laws.proofs.CallTests.{Tests, tests-done, tests-sent}
+use Rattle.board_call_laws.proofs.CallTests.{Tested, tests-done, tests-sent}
 use Rattle.board_call_laws.proofs.StepEffects.{wiredStep, step-wire, step-domainRead, step-domainWrite}
 use Rattle.sizes.specs.Sizes.{blockSize}
 
@@ -47,17 +50,17 @@ wiredSent b w v ms s = wiredStep b (record { wired = w; messages = ms }) v s
 
 -- ---- what each call tests
 
-pub tests-wire : (i level : ℕ) → Tests (Wire i level) (λ b. isWire i level) true true
-unfolding testsRules present addressed selected
-tests-wire i level = record { rules = refl; names = λ b. refl; addresses = refl; selects = refl }
+pub tests-wire : (i level : ℕ) → Tested (Wire i level) (λ b. isWire i level) true true
+unfolding rowOf
+tests-wire i level = record { row = refl }
 
-pub tests-domainRead : (d a : ℕ) → Tests (DomainRead d a) (λ b. ltb d 2) (addressLegal a) true
-unfolding testsRules present addressed selected
-tests-domainRead d a = record { rules = refl; names = λ b. refl; addresses = refl; selects = refl }
+pub tests-domainRead : (d a : ℕ) → Tested (DomainRead d a) (λ b. ltb d 2) (addressLegal a) true
+unfolding rowOf
+tests-domainRead d a = record { row = refl }
 
-pub tests-domainWrite : (d a v : ℕ) → Tests (DomainWrite d a v) (λ b. ltb d 2) (addressLegal a) true
-unfolding testsRules present addressed selected
-tests-domainWrite d a v = record { rules = refl; names = λ b. refl; addresses = refl; selects = refl }
+pub tests-domainWrite : (d a v : ℕ) → Tested (DomainWrite d a v) (λ b. ltb d 2) (addressLegal a) true
+unfolding rowOf
+tests-domainWrite d a v = record { row = refl }
 
 -- ---- what an accepted call gives
 

@@ -7,7 +7,7 @@ ghost use Rattle.sizes.specs.Sizes.{blockSize};
 ghost use Rattle.file.specs.Reply.{replyValue};
 ghost use Rattle.files.specs.Files.{fileNumber, theFile, withFile};
 ghost use Rattle.board_block.specs.Block.{withFiles, boardOf};
-ghost use Rattle.board_call.specs.Refusal.{isFile};
+ghost use Rattle.board_call.specs.Numbers.{isFile};
 use board_call::is_file;
 use file::File;
 use file::Reply;

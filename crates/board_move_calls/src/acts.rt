@@ -5,7 +5,7 @@ ghost use lib.ListN.{length};
 ghost use Rattle.sizes.specs.Sizes.{blockSize};
 ghost use Rattle.board_move_steps.specs.Steps.{actWithin};
 ghost use Rattle.board_block.specs.Block.{boardOf, boardSound};
-ghost use Rattle.board_call.specs.Refusal.{isGuestFile};
+ghost use Rattle.board_call.specs.Numbers.{isGuestFile};
 ghost use Rattle.board_call.specs.Move.{acted};
 use super::registers::put;
 use super::registers::save;

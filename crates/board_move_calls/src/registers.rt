@@ -7,7 +7,7 @@ ghost use Rattle.sizes.specs.Sizes.{blockSize, recordSize};
 ghost use Rattle.file.specs.declared.register.Access.the-variants as access;
 ghost use Rattle.file.specs.Reply.{replyValue};
 ghost use Rattle.board_block.specs.Block.{boardOf};
-ghost use Rattle.board_call.specs.Refusal.{isGuestFile};
+ghost use Rattle.board_call.specs.Numbers.{isGuestFile};
 ghost use Rattle.board_call.specs.Move.{registerOn, withOne};
 use board_file_calls::load_file;
 use board_file_calls::store_file;

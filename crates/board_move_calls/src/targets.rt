@@ -8,7 +8,7 @@ ghost use Rattle.domain_values.specs.Values.{configMark};
 ghost use Rattle.domain.specs.Domain.{configOf, byMessages};
 ghost use Rattle.wired_state.specs.Wires.{wiredOf, domainIn};
 ghost use Rattle.board_block.specs.Block.{withWired, boardOf, boardSound};
-ghost use Rattle.board_call.specs.Refusal.{isGuestFile};
+ghost use Rattle.board_call.specs.Numbers.{isGuestFile};
 ghost use Rattle.board_call.specs.Move.{retargetedIn};
 use board_block::WIRED_END;
 use board_move_steps::names_file;

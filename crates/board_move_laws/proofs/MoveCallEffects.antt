@@ -35,11 +35,13 @@ use Rattle.board_block.specs.Block.{Board, withWired, boardOf, boardSound}
 use Rattle.board_block_laws.proofs.BlockBack.{boardOf-shaped}
 use Rattle.board_call.specs.declared.Answer.the-variants.{Done, NoSuch}
 use Rattle.board_call.specs.declared.Call.the-variants.{Move}
-use Rattle.board_call.specs.Refusal.{testsRules, present, addressed, selected, isFile, isGuestFile, isMove}
+use Rattle.board_call.specs.Numbers.{isFile, isGuestFile, isMove}
+use Rattle.board_call.specs.Calls.{rowOf}
+use Rattle.board_call.specs.Calls.{rowOf}
 use Rattle.board_call.specs.Refusal.{blockRefusal}
 use Rattle.board_call.specs.Move.{registerOn, withOne, retargetedIn, acted}
 use Rattle.board_call.specs.Outcome.{outcome, Gives, Does}
-use Rattle.board_call_laws.proofs.CallTests.{Tests, checked-long, checked-sound, tests-name}
+use Rattle.board_call_laws.proofs.CallTests.{Tested, checked-long, checked-sound, tests-name}
 use Rattle.board_call_laws.proofs.CallTests.{tests-left}
 use Rattle.board_call_laws.proofs.FileCallEffects.{guest-file}
 use Rattle.board_call_laws.proofs.FitEffects.{shaped-steady}
@@ -148,9 +150,9 @@ pub child-config : (l : List ℕ) → length l ≡ blockSize → boardSound (boa
 child-config l long sound = config-low (steady-domainIn (boardOf l .wired) (block-steady l long sound) true)
 
 pub tests-move : (oh of nh nf n : ℕ)
-    → Tests (Move oh of nh nf n) (λ b. isMove oh of nh nf n && byMessages (b .wired .child)) true true
-unfolding testsRules present addressed selected
-tests-move oh of nh nf n = record { rules = refl; names = λ b. refl; addresses = refl; selects = refl }
+    → Tested (Move oh of nh nf n) (λ b. isMove oh of nh nf n && byMessages (b .wired .child)) true true
+unfolding rowOf
+tests-move oh of nh nf n = record { row = refl }
 
 module _ (l g : List ℕ) (z : blockRefusal true l g ≡ 0) (oh of nh nf n : ℕ) where
   pub move-unnamed : isMove oh of nh nf n ≡ false → Does (Move oh of nh nf n) l g NoSuch l g

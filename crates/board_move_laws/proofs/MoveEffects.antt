@@ -32,7 +32,7 @@ use Rattle.board_call.specs.Change.{change}
 use Rattle.board_call.specs.Move.{registerOn, withOne, acted}
 use Rattle.board_move_wired_laws.proofs.StepThree.{retargeted-steady, retargeted-quiet, retargeted-sound}
 use Rattle.board_call.specs.Outcome.{step}
-use Rattle.board_call.specs.Refusal.{isGuestFile, isMove}
+use Rattle.board_call.specs.Numbers.{isGuestFile, isMove}
 use Rattle.board_call_laws.specs.Fit.{Fit, SavedFit, Kept}
 use Rattle.board_call_laws.proofs.CallTests.{quiet}
 use Rattle.board_call_laws.proofs.FitEffects.{fit-steady, fit-rules, fit-withFile, fit-rewired}

@@ -11,7 +11,8 @@ use Rattle.board_block.specs.Block.{Board}
 use Rattle.board_call.specs.declared.Call.{Call}
 use Rattle.board_call.specs.declared.Call.the-variants as call
 use Rattle.board_call.specs.Change.{change}
-use Rattle.board_call.specs.Refusal.{isFile, isMove, present}
+use Rattle.board_call.specs.Numbers.{isFile, isMove}
+use Rattle.board_call.specs.Calls.{present, rowOf}
 use Rattle.board_call.specs.Outcome.{step}
 use Rattle.board_call_laws.specs.Small.{Small}
 use Rattle.board_call_laws.specs.Fit.{Fit, SavedFit, Kept}
@@ -21,7 +22,7 @@ use Rattle.board_move_laws.proofs.MoveEffects.{kept-move}
 
 module _ (b : Board) (fit : Fit b) (s : List ℕ) (small : SavedFit s) where
   pub kept-step : (c : Call) → present c b ≡ true → Small c → Kept (step c b s)
-  unfolding present step change
+  unfolding rowOf step change
   kept-step call.Reset n t = kept-reset b fit s small
   kept-step (call.Wire i level) n t = kept-wire b fit s small i level n
   kept-step (call.DomainRead d a) n t = kept-domainRead b fit s small d a

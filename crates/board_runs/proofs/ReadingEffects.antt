@@ -9,7 +9,7 @@ use mathlib.Core.Logic.{_≢_}
 use native.Mathlib.Decide.{ℕ-discrete}
 use lib.Dec.{eqb}
 use borrow.Author.Tests.{not-true}
-use Rattle.words.proofs.TestsLaws.{tested, not-same}
+use Rattle.words.proofs.TestsLaws.{tested, not-same, and-first}
 use Rattle.sizes.specs.Sizes.{identities}
 use Rattle.file.specs.Register.{accessed}
 use Rattle.file_laws.proofs.RegisterEffects.{accessed-read}
@@ -32,7 +32,8 @@ use Rattle.board_call.specs.declared.Call.the-variants.{Reset, Wire, DomainRead
 use Rattle.board_call.specs.declared.Call.the-variants.{PageWrite, Register, Top, Claim, Signals, Move}
 use Rattle.board_call.specs.Change.{kindOf}
 use Rattle.board_call.specs.Outcome.{Outcome, Stepped, delivered, step}
-use Rattle.board_call.specs.Refusal.{testsRules, refusalOf}
+use Rattle.board_call.specs.Calls.{testsRules, rowOf}
+use Rattle.board_call.specs.Refusal.{refusalOf}
 use Rattle.board_call.proofs.RefusalLaws.{passed-state, passed-rules, refused-none}
 use Rattle.board_call_laws.proofs.CallTests.{quiet}
 use Rattle.board_call_laws.proofs.OutcomeEffects.{outcome-done}
@@ -58,13 +59,13 @@ not-claims Generates n = refl
 not-claims Plain n = refl
 
 pub reads-word : (d a : ℕ) → ((i : ℕ) → wordAt a ≢ Claimi i) → onlyReads (DomainRead d a) ≡ true
-unfolding onlyReads
-reads-word d a n = ap not (not-claims (roleOf (wordAt a)) (λ h e. n h (claims-only (wordAt a) h e)))
+unfolding onlyReads rowOf
+reads-word d a n = rw (not-claims (roleOf (wordAt a)) (λ h e. n h (claims-only (wordAt a) h e)))
 
 -- ---- an accepted call
 
 reads-tests : (c : Call) → onlyReads c ≡ true → testsRules c ≡ true
-unfolding onlyReads testsRules
+unfolding onlyReads rowOf
 reads-tests Reset r = r
 reads-tests (Wire w level) r = refl
 reads-tests (DomainRead d a) r = refl
@@ -110,16 +111,18 @@ module _ (b : Board) (sound : boardSound b ≡ true) (u : List ℕ) where
       (ap (withFiles b) (ap (withFile (b .files) n) kept ∙ withFile-theFile (b .files) n))
 
   still-read : (c : Call) → onlyReads c ≡ true → Still c
-  unfolding onlyReads
+  unfolding onlyReads rowOf
   still-read Reset r = absurd (false≢true r)
   still-read (Wire w level) r = absurd (false≢true r)
   still-read (DomainRead d a) r =
       let role = roleOf (wordAt a) in
-      still-domainRead d a (claims-not role (not-true (claimsBy role) r))
+      still-domainRead d a
+      (claims-not role (not-true (claimsBy role) (and-first (not (claimsBy role)) true r)))
   still-read (DomainWrite d a v) r = absurd (false≢true r)
   still-read (PageRead h f a) r = quiet-still (PageRead h f a) b _ (step-pageRead b sound h f _ refl a u) refl
   still-read (PageWrite h f a v) r = absurd (false≢true r)
-  still-read (Register h f k s v) r = still-register h f k s v r
+  still-read (Register h f k s v) r =
+      tested (eqb k 0) (still-register h f k s v) (λ n. absurd (false≢true (rw n at r)))
   still-read (Top h f) r = quiet-still (Top h f) b _ (step-top b sound h f _ refl u) refl
   still-read (Claim h f) r = absurd (false≢true r)
   still-read (Signals h) r = quiet-still (Signals h) b _ (step-signals b sound h u) refl
@@ -137,7 +140,7 @@ after-read c x r = at (ℕ-discrete (refusalOf c (x .block) (x .log)) 0)
     at : Dec (refusalOf c (x .block) (x .log) ≡ 0) → after c x ≡ x
     at (no n) = after-refused c x n
     at (yes e) =
-        let passed = refused-none c (x .block) (x .log) e .0 in
+        let passed = refused-none (rowOf c .tests) (x .block) (x .log) e .0 in
         let sound = passed-rules (testsRules c) (x .block) (x .log) passed (reads-tests c r) in
         let still = still-read (boardIn x) sound (x .saved) c r in
         let done = outcome-done c (x .block) (x .log) (x .saved) e in

@@ -13,7 +13,8 @@ use Rattle.board_block.specs.Block.{blockOf}
 use Rattle.board_block_laws.proofs.BlockBack.{board-back, length-blockOf}
 use Rattle.board_call.specs.declared.Call.{Call}
 use Rattle.board_call.specs.Outcome.{Outcome, Stepped, step}
-use Rattle.board_call.specs.Refusal.{testsRules, nameRefusal, refusalOf}
+use Rattle.board_call.specs.Calls.{testsRules, rowOf}
+use Rattle.board_call.specs.Refusal.{nameRefusal, refusalOf}
 use Rattle.board_call.proofs.RefusalLaws.{refused-numbers, accepted-present, blocks-sound}
 use Rattle.board_call_laws.specs.Fit.{Fit, Kept}
 use Rattle.board_call_laws.specs.Small.{Small}
@@ -52,7 +53,7 @@ module _ (c : Call) (x : Lent) where
     -- on what is ready only the numbers of the call can be refused
     pub ready-refusal : refusalOf c (x .block) (x .log) ≡ nameRefusal c (boardIn x)
     ready-refusal =
-        refused-numbers c (x .block) (x .log)
+        refused-numbers (rowOf c .tests) (x .block) (x .log)
         (blocks-sound (testsRules c) (x .block) (x .log) (ready .long) (ready .full) (ready .fit .sound))
 
     abbrev stepped : Stepped
@@ -74,7 +75,8 @@ module _ (c : Call) (x : Lent) where
       module _ (small : Small c) where
         kept : Kept stepped
         kept =
-            kept-step (boardIn x) (ready .fit) (x .saved) (ready .saved) c (accepted-present c (boardIn x) e)
+            kept-step (boardIn x) (ready .fit) (x .saved) (ready .saved) c
+            (accepted-present (rowOf c .tests) (boardIn x) e)
             small
 
         -- the board that the next call is made on

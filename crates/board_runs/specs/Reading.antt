@@ -2,19 +2,18 @@
 -- nothing.
 --   claimsBy r      a read of a register of a domain whose role is r stores: a claimi claims, the others do
 --                   nothing
---   onlyReads c     c is a page read, a top, the signals, a read of a register of a file, or a read of a word
---                   of a domain that is no claimi
+--   noFile, noPart  what a row of the table may change of the files, or of the wired controller, is nothing
+--   onlyReads c     c may change nothing: it is a page read, a top, the signals, a read of a register of a
+--                   file, or a read of a word of a domain that is no claimi
 --   storing cs      the calls of cs that do not only read, in order
-use mathlib.Core.Bool.{Bool, true, false, cond, not}
+use mathlib.Core.Bool.{Bool, true, false, cond, not, _&&_}
 use mathlib.Core.List.{List, [], _∷_}
-use lib.Dec.{eqb}
 use Rattle.domain_region.specs.declared.role.Role.{Role}
 use Rattle.domain_region.specs.declared.role.Role.the-variants.{Claims, Configures, Generates, Plain}
-use Rattle.domain_region.specs.Region.{wordAt}
 use Rattle.domain_region.specs.Role.{roleOf}
 use Rattle.board_call.specs.declared.Call.{Call}
-use Rattle.board_call.specs.declared.Call.the-variants.{Reset, Wire, DomainRead, DomainWrite, PageRead}
-use Rattle.board_call.specs.declared.Call.the-variants.{PageWrite, Register, Top, Claim, Signals, Move}
+use Rattle.board_call.specs.Calls.{FilePart, NoFile, OneFile, EveryFile, WiredPart, Nothing, ByWire, ByRead}
+use Rattle.board_call.specs.Calls.{ByWrite, ByAccess, Everything, rowOf}
 
 unfoldable pub claimsBy : Role → Bool
 claimsBy (Claims h) = true
@@ -22,19 +21,23 @@ claimsBy (Configures i) = false
 claimsBy Generates = false
 claimsBy Plain = false
 
+-- none of the files, and nothing of the wired controller, by a row of the table
+abbrev pub noFile : FilePart → Bool
+noFile NoFile = true
+noFile (OneFile k) = false
+noFile EveryFile = false
+
+abbrev pub noPart : WiredPart → Bool
+noPart Nothing = true
+noPart (ByWire i) = false
+noPart (ByRead c r) = not (claimsBy (roleOf r))
+noPart (ByWrite c r v) = false
+noPart (ByAccess h f n) = false
+noPart Everything = false
+
 -- 01, "Calls and their refusals"
 unfoldable pub onlyReads : Call → Bool
-onlyReads Reset = false
-onlyReads (Wire w level) = false
-onlyReads (DomainRead d a) = not (claimsBy (roleOf (wordAt a)))
-onlyReads (DomainWrite d a v) = false
-onlyReads (PageRead h f a) = true
-onlyReads (PageWrite h f a v) = false
-onlyReads (Register h f k s v) = eqb k 0
-onlyReads (Top h f) = true
-onlyReads (Claim h f) = false
-onlyReads (Signals h) = true
-onlyReads (Move oh of nh nf n) = false
+onlyReads c = noPart (rowOf c .wired) && noFile (rowOf c .files)
 
 unfoldable pub storing : List Call → List Call
 storing [] = []

@@ -26,6 +26,7 @@ use Rattle.wired_registers.specs.Wired.{readIn}
 use Rattle.wired.specs.Controller.{Out}
 use Rattle.board_block.specs.Block.{Board, boardSound}
 use Rattle.board_call.proofs.RefusalLaws.{accepted-present}
+use Rattle.board_call.specs.Calls.{rowOf}
 use Rattle.board_call.specs.declared.Call.the-variants.{DomainRead}
 use Rattle.board_call.specs.Change.{kindOf, onFile, change}
 use Rattle.board_call.specs.Outcome.{Outcome, Stepped, thenSent, step, doneAs}
@@ -63,7 +64,8 @@ claim-171 c x ready small e =
     let done : outcomeOn c x ≡ doneAs y (x .log) =
     outcome-done c (x .block) (x .log) (x .saved) (ready-refusal c x ready ∙ e) in
     let kept : Kept y =
-    kept-step (boardIn x) (ready .fit) (x .saved) (ready .saved) c (accepted-present c (boardIn x) e) small in
+    kept-step (boardIn x) (ready .fit) (x .saved) (ready .saved) c
+    (accepted-present (rowOf c .tests) (boardIn x) e) small in
     let next = ready-after c x ready small in (
       ap (λ (o : Outcome). o .number) done,
       ap (λ (o : Outcome). o .value) done,

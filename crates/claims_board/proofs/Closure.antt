@@ -29,7 +29,8 @@ use Rattle.board_call.proofs.RefusalLaws.{accepted-present}
 use Rattle.board_call.specs.declared.Call.{Call}
 use Rattle.board_call.specs.declared.Call.the-variants.{Reset, Wire, DomainRead, DomainWrite, PageRead}
 use Rattle.board_call.specs.declared.Call.the-variants.{PageWrite, Register, Top, Claim, Signals, Move}
-use Rattle.board_call.specs.Refusal.{present, isWire, isMove}
+use Rattle.board_call.specs.Numbers.{isWire, isMove}
+use Rattle.board_call.specs.Calls.{present, rowOf}
 use Rattle.board_call.specs.Change.{change}
 use Rattle.board_call.specs.Move.{retargetedIn, acted}
 use Rattle.board_move_wired_laws.proofs.StepThree.{next-hit, next-miss}
@@ -39,7 +40,7 @@ use Rattle.claims_registers.specs.Rules.{Long}
 use Rattle.claims_wired.specs.Kept.{none, sources, writes, writesIn, Spares, Claim-155}
 use Rattle.claims_wired.proofs.Kept.{kept-same}
 use Rattle.claims_wired.proofs.KeptWired.{claim-155}
-use Rattle.claims_board.specs.Closure.{retargets, touches, touchesWire, Claim-150}
+use Rattle.claims_board.specs.Closure.{retargets, partTouches, touches, partWire, touchesWire, Claim-150}
 
 -- ---- a move: access 8 + i is that of source i
 
@@ -101,7 +102,7 @@ module _ (w : Wired) (long : Long w) (oh of nh nf i : ℕ) (l : 1 ≤ i) (h : i 
 
     kept-wrote : namesFile target oh of ≡ true → (c : Bool)
         → Spares (touches (Move oh of nh nf n) w c) (domainIn w c) (domainIn wrote c)
-    unfolding Claim-155 touches writesIn writes
+    unfolding Claim-155 rowOf partTouches writesIn writes
     kept-wrote y true =
         kept-targets-more (eqb i) (retargets oh of n w) (own y)
         (claim-155 w long true .1 true (word.Target i) (l, h) (renamed target nh nf) .0)
@@ -139,7 +140,7 @@ module _ (b : Board) (shaped : BoardShaped b) (s : List ℕ) where
   leaves-same call = ((λ c. kept-same (touches call w c) (domainIn w c)), (λ j e. refl))
 
   leaves-all : (w′ : Wired) → Leaves Reset w′
-  unfolding touches touchesWire
+  unfolding rowOf partTouches partWire
   leaves-all w′ = (
     (λ c. record {
       pending = λ i l h e. absurd (true≢false e);
@@ -161,7 +162,7 @@ module _ (b : Board) (shaped : BoardShaped b) (s : List ℕ) where
 
   leaves-wire : (i level : ℕ) → isWire i level ≡ true
       → Leaves (Wire i level) (wireSet w i (eqb level 1))
-  unfolding Claim-155 touches touchesWire
+  unfolding Claim-155 rowOf partTouches partWire
   leaves-wire i level there =
       let l = wire-low i level there in
       let h : i ≤ 63 = omega (arith, wire-high i level there) in (
@@ -170,14 +171,14 @@ module _ (b : Board) (shaped : BoardShaped b) (s : List ℕ) where
       )
 
   leaves-read : (d a : ℕ) → Leaves (DomainRead d a) (claimedIn w (eqb d 1) (wordAt a))
-  unfolding Claim-155 touches
+  unfolding Claim-155 rowOf partTouches
   leaves-read d a = (
     (λ c. claim-155 w long c .2 (eqb d 1) (wordAt a) .0),
     (λ j e. at-wires (claim-155 w long true .2 (eqb d 1) (wordAt a) .1) j),
   )
 
   leaves-write : (d a v : ℕ) → Leaves (DomainWrite d a v) (writtenIn w (eqb d 1) (wordAt a) v)
-  unfolding Claim-155 touches
+  unfolding Claim-155 rowOf partTouches
   leaves-write d a v = (
     (λ c. claim-155 w long c .1 (eqb d 1) (wordAt a) (word-within a) v .0),
     (λ j e. at-wires (claim-155 w long true .1 (eqb d 1) (wordAt a) (word-within a) v .1) j),
@@ -207,7 +208,7 @@ module _ (b : Board) (shaped : BoardShaped b) (s : List ℕ) where
       at (Put kind select place) e = unfold acted in leaves-same (Move oh of nh nf n)
 
   leaves : (call : Call) → present call b ≡ true → Leaves call (change call b s .board .wired)
-  unfolding change present
+  unfolding change rowOf
   leaves Reset p = leaves-all _
   leaves (Wire i level) p = leaves-wire i level p
   leaves (DomainRead d a) p = leaves-read d a
@@ -223,4 +224,4 @@ module _ (b : Board) (shaped : BoardShaped b) (s : List ℕ) where
 
 pub claim-150 : Claim-150
 unfolding Claim-150
-claim-150 b shaped call e s = leaves b shaped s call (accepted-present call b e)
+claim-150 b shaped call e s = leaves b shaped s call (accepted-present (rowOf call .tests) b e)

@@ -1,7 +1,7 @@
 -- Claims 152 and 153, by the laws of the calls and of the files. Assumes nothing.
 use Prim.Native.Nat.{ℕ, suc, _+_, _*_, _/_, _%_, _≤_, _<_}
 use mathlib.Core.Path.{_≡_, refl, sym, ap, ap₂, subst, _∙_}
-use mathlib.Core.Bool.{Bool, true, false, Bool·beq, not, _&&_, _||_, or-false, true≢false}
+use mathlib.Core.Bool.{Bool, true, false, Bool·beq, cond, not, _&&_, _||_, or-false, true≢false}
 use mathlib.Core.List.{List, [], _∷_}
 use native.Mathlib.Decide.{ℕ-discrete}
 use native.Mathlib.Omega.{arith}
@@ -36,14 +36,15 @@ use Rattle.board_call.proofs.RefusalLaws.{accepted-present}
 use Rattle.board_call.specs.declared.Call.{Call}
 use Rattle.board_call.specs.declared.Call.the-variants.{Reset, Wire, DomainRead, DomainWrite, PageRead}
 use Rattle.board_call.specs.declared.Call.the-variants.{PageWrite, Register, Top, Claim, Signals, Move}
-use Rattle.board_call.specs.Refusal.{present, isMove}
+use Rattle.board_call.specs.Numbers.{isMove}
+use Rattle.board_call.specs.Calls.{NoFile, OneFile, oldAccess, newAccess, present, rowOf}
 use Rattle.board_call.specs.Change.{kindOf, change}
 use Rattle.board_call.specs.Move.{acted}
 use Rattle.board_call.specs.Outcome.{thenSent, step}
 use Rattle.board_call_laws.specs.Fit.{Fit}
 use Rattle.board_move_laws.proofs.MoveEffects.{move-low, move-high}
 use Rattle.board_call_laws.proofs.FileCallEffects.{number-read}
-use Rattle.claims_board.specs.Closure.{oldAccess, newAccess, touchesFile, Claim-152, Claim-153}
+use Rattle.claims_board.specs.Closure.{partFile, touchesFile, Claim-152, Claim-153}
 use Rattle.claims_board.proofs.ClosureSent.{Addressed, silent-step, Silent}
 use Rattle.claims_board.proofs.ClosureSent.{step-addressed, generatedBy-addressed}
 
@@ -143,6 +144,7 @@ module _ (b : Board) (fit : Fit b) (s : List ℕ) (h f : ℕ) (lh : h < 4) (lf :
   )
 
   reaches : (c : Call) → present c b ≡ true → Reached c
+  unfolding rowOf
   reaches Reset n = by-none Reset (silent-step b fit s Reset n refl)
   reaches (Wire i level) n =
       by-messages (Wire i level) (unfold change in refl) (unfold change in every-none Addressed)
@@ -162,7 +164,7 @@ module _ (b : Board) (fit : Fit b) (s : List ℕ) (h f : ℕ) (lh : h < 4) (lf :
 
 pub claim-152 : Claim-152
 unfolding Claim-152
-claim-152 b fit c e s h f lh lf = reaches b fit s h f lh lf c (accepted-present c b e)
+claim-152 b fit c e s h f lh lf = reaches b fit s h f lh lf c (accepted-present (rowOf c .tests) b e)
 
 -- ---- what a change leaves of a file
 
@@ -192,20 +194,19 @@ module _ (b : Board) (s : List ℕ) (k : ℕ) where
   Left c = theFile (change c b s .board .files) k ≡ theFile (b .files) k
 
   -- file f of hart h replaced
-  other : (h f : ℕ) (x : File) → eqb k (5 * h + f) ≡ false
+  other : (h f : ℕ) (x : File) → eqb k (fileNumber h f) ≡ false
       → theFile (withFile (b .files) (fileNumber h f) x) k ≡ theFile (b .files) k
   other h f x e =
-      theFile-withFile-other (b .files) (fileNumber h f) x k
-      (λ q. eqb-false k (5 * h + f) e (q ∙ sym (number-read h f)))
+      theFile-withFile-other (b .files) (fileNumber h f) x k (eqb-false k (fileNumber h f) e)
 
   -- a read of a register
   read-same : (g : Bool) (x : File) (r v : ℕ) → accessed 255 g x (kindOf 0) r v .file ≡ x
   unfolding kindOf
   read-same g x r v = accessed-read 255 g x r v
 
-  left-register : (h f kind x v : ℕ) → (not (eqb kind 0) && eqb k (5 * h + f)) ≡ false
+  left-register : (h f kind x v : ℕ) → touchesFile (Register h f kind x v) k ≡ false
       → Left (Register h f kind x v)
-  unfolding change
+  unfolding change rowOf
   left-register h f kind x v e = at (ℕ-discrete kind 0)
     where
       at : Dec (kind ≡ 0) → Left (Register h f kind x v)
@@ -220,18 +221,19 @@ module _ (b : Board) (s : List ℕ) (k : ℕ) where
       at (no n) = unfold change in other h f _ (rw (ne-eqb kind 0 n) at e)
 
   left-acted : (oh of nh nf : ℕ) (a : Act)
-      → ((oldAct a && eqb k (5 * oh + of)) || (newAct a && eqb k (5 * nh + nf))) ≡ false
+      → partFile (cond (oldAct a) (OneFile (fileNumber oh of))
+      (cond (newAct a) (OneFile (fileNumber nh nf)) NoFile)) k ≡ false
       → theFile (acted a oh of nh nf b s .board .files) k ≡ theFile (b .files) k
   unfolding acted oldAct newAct
   left-acted oh of nh nf (Save select place) e = refl
   left-acted oh of nh nf (Zero true select) e = other nh nf _ e
-  left-acted oh of nh nf (Zero false select) e = other oh of _ (or-first _ false e)
+  left-acted oh of nh nf (Zero false select) e = other oh of _ e
   left-acted oh of nh nf (Target i) e = refl
   left-acted oh of nh nf (Put kind select place) e = other nh nf _ e
 
   left-move : (oh of nh nf n : ℕ) → isMove oh of nh nf n ≡ true
       → touchesFile (Move oh of nh nf n) k ≡ false → Left (Move oh of nh nf n)
-  unfolding change
+  unfolding change rowOf
   left-move oh of nh nf n there e =
       let l = move-low oh of nh nf n there in
       let u = move-high oh of nh nf n there in
@@ -242,6 +244,7 @@ module _ (b : Board) (s : List ℕ) (k : ℕ) where
       left-acted oh of nh nf (actOf n) (rw (o, w) e)
 
   left-change : (c : Call) → present c b ≡ true → touchesFile c k ≡ false → Left c
+  unfolding rowOf
   left-change Reset n e = absurd (true≢false e)
   left-change (Wire i level) n e = unfold change in refl
   left-change (DomainRead d a) n e = unfold change in refl
@@ -253,9 +256,8 @@ module _ (b : Board) (s : List ℕ) (k : ℕ) where
   left-change (Claim h f) n e = unfold change in other h f _ e
   left-change (Signals h) n e = unfold change in refl
   left-change (Move oh of nh nf m) n e =
-      unfold present in
       left-move oh of nh nf m (and-first (isMove oh of nh nf m) (byMessages (b .wired .child)) n) e
 
 pub claim-153 : Claim-153
 unfolding Claim-153
-claim-153 b c e s k q = left-change b s k c (accepted-present c b e) q
+claim-153 b c e s k q = left-change b s k c (accepted-present (rowOf c .tests) b e) q

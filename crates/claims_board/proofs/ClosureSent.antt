@@ -39,7 +39,8 @@ use Rattle.board_block_laws.proofs.StartEffects.{start-sound}
 use Rattle.board_call.specs.declared.Call.{Call}
 use Rattle.board_call.specs.declared.Call.the-variants.{Reset, Wire, DomainRead, DomainWrite, PageRead}
 use Rattle.board_call.specs.declared.Call.the-variants.{PageWrite, Register, Top, Claim, Signals, Move}
-use Rattle.board_call.specs.Refusal.{present, isMove}
+use Rattle.board_call.specs.Numbers.{isMove}
+use Rattle.board_call.specs.Calls.{present, rowOf}
 use Rattle.board_call.proofs.RefusalLaws.{accepted-present}
 use Rattle.board_call.specs.Change.{change}
 use Rattle.board_call.specs.Outcome.{Stepped, thenSent, step}
@@ -152,6 +153,7 @@ module _ (b : Board) (fit : Fit b) (s : List ℕ) where
   quiet = sound-quiet b (fit .sound)
 
   pub silent-step : (c : Call) → present c b ≡ true → maySend c ≡ false → Silent c
+  unfolding rowOf
   silent-step Reset n q = unfold change in silent Reset (sound-quiet startBoard start-sound) refl
   silent-step (Wire i level) n q = absurd (true≢false q)
   silent-step (DomainRead d a) n q =
@@ -164,14 +166,14 @@ module _ (b : Board) (fit : Fit b) (s : List ℕ) where
   silent-step (Claim h f) n q = unfold change in silent (Claim h f) quiet refl
   silent-step (Signals h) n q = unfold change in silent (Signals h) quiet refl
   silent-step (Move oh of nh nf k) n q =
-      unfold change present in
+      unfold change in
       let e = step-move b fit oh of nh nf k
       (and-first (isMove oh of nh nf k) (byMessages (b .wired .child)) n) s in
       (ap (λ (y : Stepped). y .messages) e, ap (λ (y : Stepped). y .board) e)
 
 pub claim-154 : Claim-154
 unfolding Claim-154
-claim-154 b fit c e q s = silent-step b fit s c (accepted-present c b e) q
+claim-154 b fit c e q s = silent-step b fit s c (accepted-present (rowOf c .tests) b e) q
 
 -- ---- the messages of a call
 

@@ -19,8 +19,10 @@ use Rattle.board_block_laws.proofs.StartEffects.{start-sound, start-shaped}
 use Rattle.board_call.specs.declared.Call.{Call}
 use Rattle.board_call.specs.declared.Call.the-variants.{Reset, Wire, DomainRead, DomainWrite, PageRead}
 use Rattle.board_call.specs.declared.Call.the-variants.{PageWrite, Register, Top, Claim, Signals, Move}
-use Rattle.board_call.specs.Refusal.{testsRules, present, addressed, selected, isWire, isFile, isPageAddress}
-use Rattle.board_call.specs.Refusal.{nameRefusal, nameTests, firstFailed, refusalOf}
+use Rattle.board_call.specs.Numbers.{isWire, isFile, isPageAddress}
+use Rattle.board_call.specs.Calls.{testsRules, rowOf}
+use Rattle.board_call.specs.Calls.{rowOf}
+use Rattle.board_call.specs.Refusal.{nameRefusal, nameTests, firstFailed, refusalOf, nameRefusalBy}
 use Rattle.board_call.proofs.RefusalLaws.{blocks-sound, refused-numbers}
 use Rattle.board_call.specs.Outcome.{outcome}
 use Rattle.claims_file.specs.FileFacts.{Claim-30}
@@ -68,7 +70,7 @@ page-iff a = (
 )
 
 pub claim-115 : Claim-115
-unfolding Claim-115 present
+unfolding Claim-115 rowOf
 claim-115 b = (
   refl,
   wire-iff,
@@ -83,7 +85,7 @@ claim-115 b = (
 )
 
 rules-iff : (c : Call) → (testsRules c ≡ false) ↔ (c ≡ Reset)
-unfolding testsRules
+unfolding rowOf
 rules-iff Reset = ((λ e. refl), (λ e. refl))
 rules-iff (Wire w level) = ((λ e. absurd (true≢false e)), (λ e. ap testsRules e))
 rules-iff (DomainRead d a) = ((λ e. absurd (true≢false e)), (λ e. ap testsRules e))
@@ -97,7 +99,7 @@ rules-iff (Signals h) = ((λ e. absurd (true≢false e)), (λ e. ap testsRules e
 rules-iff (Move oh of nh nf n) = ((λ e. absurd (true≢false e)), (λ e. ap testsRules e))
 
 pub claim-116 : Claim-116
-unfolding Claim-116 addressed selected Claim-30
+unfolding Claim-116 rowOf Claim-30
 claim-116 = (
   (λ d a. legal-iff a),
   (λ d a v. legal-iff a),
@@ -136,14 +138,14 @@ at-start : (c : Call) (n : ℕ) → nameRefusal c (boardOf (blockOf startBoard))
 at-start c n e s =
     let l = blockOf startBoard in
     let g : List ℕ = replicate 63 0 in
-    number-is c l g s ∙ refused-numbers c l g
+    number-is c l g s ∙ refused-numbers (rowOf c .tests) l g
     (blocks-sound (testsRules c) l g (length-blockOf startBoard start-shaped) refl
     (ap boardSound (board-back startBoard start-shaped) ∙ start-sound))
     ∙ e
 
 pub claim-117 : Claim-117
-unfolding Claim-117 nameRefusal nameTests firstFailed present addressed selected isWire isFile isPageAddress
-    addressLegal selectLegal
+unfolding Claim-117 nameRefusalBy nameTests firstFailed rowOf isWire isFile isPageAddress addressLegal
+    selectLegal
 claim-117 = (
   (
     at-start (Wire 0 0) 4 refl,

@@ -28,7 +28,9 @@ use Rattle.board_block_laws.proofs.BlockBack.{board-back, length-blockOf}
 use Rattle.board_block_laws.proofs.StartEffects.{start-sound, start-shaped}
 use Rattle.board_call.specs.declared.Call.{Call}
 use Rattle.board_call.specs.declared.Call.the-variants.{Reset, DomainRead}
-use Rattle.board_call.specs.Refusal.{testsRules, present, addressed, selected, nameRefusal, refusalOf}
+use Rattle.board_call.specs.Calls.{testsRules, rowOf}
+use Rattle.board_call.specs.Calls.{rowOf}
+use Rattle.board_call.specs.Refusal.{nameRefusal, refusalOf}
 use Rattle.board_call.proofs.RefusalLaws.{blocks-sound, blocks-untested, refused-numbers, numbers-name}
 use Rattle.board_call.specs.Outcome.{Outcome, outcome}
 use Rattle.board_call_laws.proofs.OutcomeEffects.{outcome-done}
@@ -99,10 +101,10 @@ config-reads false = refl
 
 module _ (l g s : List ℕ) (long : length l ≡ 650) (full : length g ≡ 63) where
   reset-done : refusalOf Reset l g ≡ 0
-  unfolding testsRules present addressed selected
+  unfolding rowOf
   reset-done =
-      refused-numbers Reset l g (blocks-untested (testsRules Reset) l g long full refl)
-      ∙ numbers-name Reset (boardOf l) refl refl refl
+      refused-numbers (rowOf Reset .tests) l g (blocks-untested (testsRules Reset) l g long full refl)
+      ∙ numbers-name (rowOf Reset .tests) (boardOf l) refl refl refl
 
   abbrev left : Outcome
   left = record { number = 0; value = 0; count = 0; block = blockOf startBoard; log = g; saved = s }
@@ -113,17 +115,17 @@ module _ (l g s : List ℕ) (long : length l ≡ 650) (full : length g ≡ 63) w
   next-refusal : (c : Call) → refusalOf c (blockOf startBoard) g ≡ nameRefusal c startBoard
   next-refusal c =
       let back = board-back startBoard start-shaped in
-      refused-numbers c (blockOf startBoard) g
+      refused-numbers (rowOf c .tests) (blockOf startBoard) g
       (blocks-sound (testsRules c) (blockOf startBoard) g (length-blockOf startBoard start-shaped) full
       (ap boardSound back ∙ start-sound))
       ∙ ap (nameRefusal c) back
 
   reads : (d : ℕ) → d < 2
       → let r = outcome (DomainRead d 0) (blockOf startBoard) g s in (r .number ≡ 0) × (r .value ≡ 0x80000000)
-  unfolding present addressed selected addressLegal
+  unfolding rowOf addressLegal
   reads d low =
       let c = DomainRead d 0 in
-      let done = next-refusal c ∙ numbers-name c startBoard (lt-ltb d 2 low) refl refl in
+      let done = next-refusal c ∙ numbers-name (rowOf c .tests) startBoard (lt-ltb d 2 low) refl refl in
       rw (
         outcome-done c (blockOf startBoard) g s done,
         board-back startBoard start-shaped,

@@ -8,7 +8,7 @@
 --   maySend c            the call c may send: only a wire that is set, and a write to a domain
 --   touchesFile c k      the call c may change file number k, which is 5 h + f for file f of hart h, before
 --                        its messages arrive
---   oldAccess, newAccess n   access n of a move writes the old file, or the new one
+--   part..               the same of what a row of the table of the calls names
 -- Premises: the call is not refused, `nameRefusal call b ≡ 0`, but in Claim-151, which has none. Claims 150
 -- and 156 have `BoardShaped b`, the lists have their lengths, as those of every block of 650 words have;
 -- claims 152 and 154 have `Fit b`, a board that calls can be made on, as every accepted call leaves it
@@ -18,13 +18,12 @@ use mathlib.Core.Path.{_≡_}
 use mathlib.Core.Bool.{Bool, true, false, cond, not, _&&_, _||_}
 use mathlib.Core.List.{List, []}
 use mathlib.Core.Logic.{_≢_}
-use lib.Dec.{eqb, leb}
+use lib.Dec.{eqb}
 use Rattle.words.specs.Sets.{member}
 use Rattle.files.specs.Files.{theFile}
 use Rattle.files_laws.specs.Messages.{anyOf, PendingOnly}
 use Rattle.source_mode.specs.Mode.{isActive}
 use Rattle.source_target.specs.Target.{hartOf, guestOf, numberOf}
-use Rattle.domain_region.specs.Region.{wordAt}
 use Rattle.domain.specs.Domain.{isEnabled, byMessages}
 use Rattle.domain.specs.Slot.{sourceAt}
 use Rattle.domain_sending_laws.specs.Candidates.{DomainPendingOnly}
@@ -32,8 +31,9 @@ use Rattle.wired_state.specs.Wires.{Wired, domainIn}
 use Rattle.board_block.specs.Block.{Board}
 use Rattle.board_block_laws.specs.Shape.{BoardShaped}
 use Rattle.board_call.specs.declared.Call.{Call}
-use Rattle.board_call.specs.declared.Call.the-variants.{Reset, Wire, DomainRead, DomainWrite, PageRead}
-use Rattle.board_call.specs.declared.Call.the-variants.{PageWrite, Register, Top, Claim, Signals, Move}
+use Rattle.board_call.specs.Calls.{FilePart, NoFile, OneFile, EveryFile, WiredPart, Nothing, ByWire, ByRead}
+use Rattle.board_call.specs.Calls.{ByWrite, ByAccess, Everything, rowOf}
+use Rattle.board_call.specs.Calls.{rowOf}
 use Rattle.board_call.specs.Refusal.{nameRefusal}
 use Rattle.board_call.specs.Change.{change}
 use Rattle.board_call.specs.Outcome.{step}
@@ -64,31 +64,27 @@ retargets oh of n w i =
     let t = sourceAt (w .child) i .target in
     eqb n (8 + i) && (eqb (hartOf t) oh && eqb (guestOf t + 1) of)
 
-unfoldable pub touches : Call → Wired → Bool → Touch
-touches Reset w c = everything
-touches (Wire i level) w c = sources (eqb i) none none none
-touches (DomainRead d a) w c = readsIn w (eqb d 1) (wordAt a) c
-touches (DomainWrite d a v) w c = writesIn w (eqb d 1) (wordAt a) v c
-touches (PageRead h f a) w c = nothing
-touches (PageWrite h f a v) w c = nothing
-touches (Register h f kind x v) w c = nothing
-touches (Top h f) w c = nothing
-touches (Claim h f) w c = nothing
-touches (Signals h) w c = nothing
-touches (Move oh of nh nf n) w c = cond c (sources none none (retargets oh of n w) none) nothing
+unfoldable pub partTouches : WiredPart → Wired → Bool → Touch
+partTouches Nothing w c = nothing
+partTouches (ByWire i) w c = sources (eqb i) none none none
+partTouches (ByRead e r) w c = readsIn w e r c
+partTouches (ByWrite e r v) w c = writesIn w e r v c
+partTouches (ByAccess h f n) w c = cond c (sources none none (retargets h f n w) none) nothing
+partTouches Everything w c = everything
 
-unfoldable pub touchesWire : Call → ℕ → Bool
-touchesWire Reset j = true
-touchesWire (Wire i level) j = eqb i j
-touchesWire (DomainRead d a) j = false
-touchesWire (DomainWrite d a v) j = false
-touchesWire (PageRead h f a) j = false
-touchesWire (PageWrite h f a v) j = false
-touchesWire (Register h f kind x v) j = false
-touchesWire (Top h f) j = false
-touchesWire (Claim h f) j = false
-touchesWire (Signals h) j = false
-touchesWire (Move oh of nh nf n) j = false
+abbrev pub touches : Call → Wired → Bool → Touch
+touches call w c = partTouches (rowOf call .wired) w c
+
+unfoldable pub partWire : WiredPart → ℕ → Bool
+partWire Nothing j = false
+partWire (ByWire i) j = eqb i j
+partWire (ByRead c r) j = false
+partWire (ByWrite c r v) j = false
+partWire (ByAccess h f n) j = false
+partWire Everything j = true
+
+abbrev pub touchesWire : Call → ℕ → Bool
+touchesWire call j = partWire (rowOf call .wired) j
 
 -- before anything is sent, a call leaves of each domain, and of the wires, all that its table does not name
 unfoldable pub Claim-150 : Type 0
@@ -156,18 +152,16 @@ Claim-156 =
     × (anyOf (eqb (hartOf t * 2048 + cond c (guestOf t + 1) 0 * 256 + numberOf t)) (step call b s .messages)
     ≡ true))
 
+abbrev pub partSends : WiredPart → Bool
+partSends Nothing = false
+partSends (ByWire i) = true
+partSends (ByRead c r) = false
+partSends (ByWrite c r v) = true
+partSends (ByAccess h f n) = false
+partSends Everything = false
+
 abbrev pub maySend : Call → Bool
-maySend Reset = false
-maySend (Wire i level) = true
-maySend (DomainRead d a) = false
-maySend (DomainWrite d a v) = true
-maySend (PageRead h f a) = false
-maySend (PageWrite h f a v) = false
-maySend (Register h f kind x v) = false
-maySend (Top h f) = false
-maySend (Claim h f) = false
-maySend (Signals h) = false
-maySend (Move oh of nh nf n) = false
+maySend c = partSends (rowOf c .wired)
 
 -- a call that is neither a wire nor a write to a domain sends nothing, and leaves the board as its change did
 -- [01 W52]
@@ -192,27 +186,13 @@ Claim-152 =
     → member (x′ .pending) i
     ≡ (member (x .pending) i || anyOf (eqb (2048 * h + 256 * f + i)) (step c b s .messages)))
 
--- the accesses of a move that write: 3 to the old file, 4 to 8 and 80 to 89 to the new one
-abbrev pub oldAccess : ℕ → Bool
-oldAccess n = eqb n 3
+abbrev pub partFile : FilePart → ℕ → Bool
+partFile NoFile k = false
+partFile (OneFile j) k = eqb k j
+partFile EveryFile k = true
 
-abbrev pub newAccess : ℕ → Bool
-newAccess n = (leb 4 n && leb n 8) || leb 80 n
-
--- a read, of kind 0, changes no register
 abbrev pub touchesFile : Call → ℕ → Bool
-touchesFile Reset k = true
-touchesFile (Wire i level) k = false
-touchesFile (DomainRead d a) k = false
-touchesFile (DomainWrite d a v) k = false
-touchesFile (PageRead h f a) k = false
-touchesFile (PageWrite h f a v) k = eqb k (5 * h + f)
-touchesFile (Register h f kind x v) k = not (eqb kind 0) && eqb k (5 * h + f)
-touchesFile (Top h f) k = false
-touchesFile (Claim h f) k = eqb k (5 * h + f)
-touchesFile (Signals h) k = false
-touchesFile (Move oh of nh nf n) k =
-    (oldAccess n && eqb k (5 * oh + of)) || (newAccess n && eqb k (5 * nh + nf))
+touchesFile c k = partFile (rowOf c .files) k
 
 -- before its messages arrive, a call leaves each file that it does not name
 unfoldable pub Claim-153 : Type 0

@@ -14,7 +14,7 @@ use Rattle.board_block.specs.Start.{startBoard}
 use Rattle.board_call.specs.declared.Call.{Call}
 use Rattle.board_call.specs.declared.Call.the-variants.{Reset, Wire, DomainRead, DomainWrite, PageRead}
 use Rattle.board_call.specs.declared.Call.the-variants.{PageWrite, Register, Top, Claim, Signals, Move}
-use Rattle.board_call.specs.Refusal.{testsRules, present, addressed, selected}
+use Rattle.board_call.specs.Calls.{testsRules, present, addressed, selected}
 use Rattle.board_call.specs.Outcome.{outcome}
 
 -- ---- refusal 4

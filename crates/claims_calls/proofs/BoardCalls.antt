@@ -20,7 +20,8 @@ use Rattle.board_block.specs.Block.{Board, boardOf}
 use Rattle.board_block_laws.proofs.BlockBack.{block-back, board-back, length-blockOf}
 use Rattle.board_block_laws.proofs.StartEffects.{start-sound}
 use Rattle.board_call.specs.declared.Call.{Call}
-use Rattle.board_call.specs.Refusal.{testsRules, blockRefusal, nameRefusal, refusalOf}
+use Rattle.board_call.specs.Calls.{testsRules, rowOf}
+use Rattle.board_call.specs.Refusal.{blockRefusal, nameRefusal, refusalOf}
 use Rattle.board_call.specs.declared.Call.the-variants.{Signals}
 use Rattle.board_call.specs.Change.{signalAt, signalsTo, change}
 use Rattle.board_call.specs.Outcome.{thenSent, step, outcome}
@@ -69,7 +70,7 @@ claim-83 = gives-one
 
 module _ (c : Call) (l g : List ℕ) where
   first : (k : ℕ) → blockRefusal (testsRules c) l g ≡ suc k → refusalOf c l g ≡ suc k
-  first k e = refused-blocks c l g (suc k) (sym e) (λ z. omega arith)
+  first k e = refused-blocks (rowOf c .tests) l g (suc k) (sym e) (λ z. omega arith)
 
   none : Passes c l g → blockRefusal (testsRules c) l g ≡ 0
   none (long, full, rules) =
@@ -77,7 +78,7 @@ module _ (c : Call) (l g : List ℕ) where
       (λ f. blocks-untested (testsRules c) l g long full f)
 
   then : Passes c l g → (k : ℕ) → nameRefusal c (boardOf l) ≡ k → refusalOf c l g ≡ k
-  then p k e = refused-numbers c l g (none p) ∙ e
+  then p k e = refused-numbers (rowOf c .tests) l g (none p) ∙ e
 
 pub claim-84 : Claim-84
 unfolding Claim-84
@@ -85,10 +86,10 @@ claim-84 c l g = (
   (λ h. first c l g 0 (refused-state (testsRules c) l g h)),
   (λ long h. first c l g 1 (refused-log (testsRules c) l g long h)),
   (λ long full t f. first c l g 2 (refused-rules (testsRules c) l g long full t f)),
-  (λ p n. then c l g p 4 (refused-name c (boardOf l) n)),
-  (λ p n a. then c l g p 5 (refused-address c (boardOf l) n a)),
-  (λ p n a s. then c l g p 6 (refused-select c (boardOf l) n a s)),
-  (λ p n a s. then c l g p 0 (numbers-name c (boardOf l) n a s)),
+  (λ p n. then c l g p 4 (refused-name (rowOf c .tests) (boardOf l) n)),
+  (λ p n a. then c l g p 5 (refused-address (rowOf c .tests) (boardOf l) n a)),
+  (λ p n a s. then c l g p 6 (refused-select (rowOf c .tests) (boardOf l) n a s)),
+  (λ p n a s. then c l g p 0 (numbers-name (rowOf c .tests) (boardOf l) n a s)),
 )
 
 pub claim-85 : Claim-85
@@ -100,10 +101,10 @@ claim-85 c l g s h = simp (ne-eqb (refusalOf c l g) 0 h)
 pub claim-86 : Claim-86
 unfolding Claim-86
 claim-86 l g s fit savedFit c small sound e =
-    let passed = refused-none c l g e in
+    let passed = refused-none (rowOf c .tests) l g e in
     let long = passed-state (testsRules c) l g (passed .0) in
     let kept = kept-step (boardOf l) (fit-block l long fit sound) s savedFit c
-    (accepted-present c (boardOf l) (passed .1))
+    (accepted-present (rowOf c .tests) (boardOf l) (passed .1))
     small in
     (kept .fit .sound, kept .fit .shaped, kept .fit .files, kept .few, kept .saved)
 

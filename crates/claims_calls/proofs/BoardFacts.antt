@@ -25,11 +25,11 @@ use Rattle.board_call.specs.declared.Call.the-variants.{Reset, Wire, DomainRead
 use Rattle.board_call.specs.declared.Call.the-variants.{PageWrite}
 use Rattle.board_call.specs.declared.Call.the-variants.{Register, Top, Claim, Signals, Move}
 use Rattle.board_call.specs.Change.{onFile, answering, change}
-use Rattle.board_call.specs.Refusal.{testsRules, present, addressed, selected, isWire, isFile, isGuestFile}
-use Rattle.board_call.specs.Refusal.{isMove}
-use Rattle.board_call.specs.Refusal.{isPageAddress}
-use Rattle.board_call.proofs.RefusalLaws.{numbers-name}
+use Rattle.board_call.specs.Numbers.{isWire, isFile, isGuestFile, isMove, isPageAddress}
+use Rattle.board_call.specs.Calls.{testsRules, present, addressed, selected, rowOf}
+use Rattle.board_call.specs.Calls.{rowOf}
 use Rattle.board_call.specs.Refusal.{refusalOf}
+use Rattle.board_call.proofs.RefusalLaws.{numbers-name}
 use Rattle.board_call.specs.Outcome.{Stepped, thenSent, step}
 use Rattle.board_call_laws.proofs.StepEffects.{step-onFile, step-answering}
 use Rattle.board_runs.specs.Ready.{boardIn}
@@ -130,22 +130,21 @@ module _ (c : Call) where
 
 -- after a reset the child domain is in direct mode
 direct : present (Move 0 2 1 3 1) (boardOf start) ≡ false
-unfolding present isMove isGuestFile startBoard startDomain byMessages configOf hasBit bitOf
+unfolding rowOf isMove isGuestFile startBoard startDomain byMessages configOf hasBit bitOf
 direct = ap (λ (b : Board). byMessages (b .wired .child)) (board-back startBoard start-shaped)
 
 -- the shift of Claim-111 starts with a child domain that sends messages
 accepted : Given (Move 0 2 1 3 1) 0
-unfolding present addressed selected isMove isGuestFile ByMessages
+unfolding rowOf isMove isGuestFile ByMessages
 accepted =
     let c = Move 0 2 1 3 1 in
     let p = example .premises in
     given c (shift-start .block) (shift-start .log) 0
     (ready-refusal c shift-start (started-ready shift-start (p .started))
-    ∙ numbers-name c (boardIn shift-start) (p .messages) refl refl)
+    ∙ numbers-name (rowOf c .tests) (boardIn shift-start) (p .messages) refl refl)
 
 pub claim-92 : Claim-92
-unfolding Claim-92 present addressed selected isWire isFile isGuestFile isMove isPageAddress addressLegal
-    selectLegal
+unfolding Claim-92 rowOf isWire isFile isGuestFile isMove isPageAddress addressLegal selectLegal
 claim-92 = (
   (λ c. (one c, two c)),
   (λ c t. three c t),

@@ -34,7 +34,8 @@ use Rattle.board_call.specs.declared.Call.{Call}
 use Rattle.board_call.specs.declared.Call.the-variants.{Reset, Wire, DomainRead, DomainWrite, PageRead}
 use Rattle.board_call.specs.declared.Call.the-variants.{PageWrite}
 use Rattle.board_call.specs.declared.Call.the-variants.{Register, Top, Claim, Signals}
-use Rattle.board_call.specs.Refusal.{testsRules, present, addressed, selected, refusalOf}
+use Rattle.board_call.specs.Calls.{testsRules, present, addressed, selected}
+use Rattle.board_call.specs.Refusal.{refusalOf}
 use Rattle.board_call.specs.Change.{signalsTo}
 use Rattle.board_call.specs.Outcome.{Outcome, step, outcome, Gives, Does}
 use Rattle.board_call_laws.specs.Fit.{SavedFit}

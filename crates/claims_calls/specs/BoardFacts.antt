@@ -18,7 +18,8 @@ use Rattle.board_call.specs.declared.Call.{Call}
 use Rattle.board_call.specs.declared.Call.the-variants.{Reset, Wire, DomainRead, DomainWrite, PageRead}
 use Rattle.board_call.specs.declared.Call.the-variants.{PageWrite}
 use Rattle.board_call.specs.declared.Call.the-variants.{Register, Top, Claim, Signals, Move}
-use Rattle.board_call.specs.Refusal.{testsRules, refusalOf}
+use Rattle.board_call.specs.Calls.{testsRules}
+use Rattle.board_call.specs.Refusal.{refusalOf}
 use Rattle.board_call.specs.Outcome.{Outcome, step}
 use Rattle.monitor_answer.specs.declared.VskAnswer.{VskAnswer}
 use Rattle.monitor_answer.specs.Told.{Told, Tells}

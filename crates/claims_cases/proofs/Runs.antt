@@ -52,8 +52,10 @@ use Rattle.board_block.specs.Block.{Board, blockOf}
 use Rattle.board_block_laws.proofs.BlockBack.{board-back, length-blockOf}
 use Rattle.board_block_laws.proofs.StartEffects.{start-shaped}
 use Rattle.board_call.specs.Change.{kindOf, change}
-use Rattle.board_call.specs.Refusal.{isFile, isPageAddress, present, addressed, selected, firstFailed}
-use Rattle.board_call.specs.Refusal.{nameTests, nameRefusal}
+use Rattle.board_call.specs.Numbers.{isFile, isPageAddress}
+use Rattle.board_call.specs.Calls.{rowOf}
+use Rattle.board_call.specs.Calls.{rowOf}
+use Rattle.board_call.specs.Refusal.{firstFailed, nameTests, nameRefusal, nameRefusalBy}
 use Rattle.board_call.specs.Outcome.{Stepped, thenSent, step}
 use Rattle.board_call.specs.declared.Call.{Call}
 use Rattle.board_call.specs.declared.Call.the-variants.{DomainRead, DomainWrite, PageWrite, Register, Top}
@@ -98,8 +100,8 @@ unfolding bitOf hasBit withBit withoutBit member insert remove put low high join
     logged standing eligible precedes topFrom topSource topiOf unforced released hartClaimed
     registerValue claimedAs claimedBy registerWritten domainIn withDomain isDelegated sourceModed
     childWritten rootWritten sourceWritten writtenAs writtenIn flushed generatedAs generatedBy startFile
-    startFilesFrom startDomain startBoard kindOf change isFile isPageAddress present addressed selected
-    firstFailed nameTests nameRefusal thenSent step
+    startFilesFrom startDomain startBoard kindOf change isFile isPageAddress rowOf firstFailed nameTests
+    nameRefusalBy thenSent step
 answersOn c y =
     let z = step c (y .board) (y .saved) in
     let n = nameRefusal c (y .board) in

@@ -26,17 +26,19 @@ use Rattle.domain_config.specs.Config.{keptConfig, redeliveredAt, redeliveredFr
 use Rattle.domain_direct.specs.Direct.{standing, eligible, precedes, topFrom, topSource, topiOf}
 use Rattle.domain_registers.specs.Read.{registerValue as readOf}
 use Rattle.domain_region.specs.Region.{wordAt, wordIn, nameIn, registers, addressLegal}
-use Rattle.board_call.specs.Refusal.{nameRefusal, nameTests, firstFailed, present, addressed, selected}
+use Rattle.board_call.specs.Calls.{rowOf}
+use Rattle.board_call.specs.Calls.{rowOf}
+use Rattle.board_call.specs.Refusal.{nameTests, firstFailed, nameRefusalBy}
 use Rattle.claims_cases.specs.Table.{Claim-170, table, same, holds}
 
 pub table-holds : holds table ≡ true
-unfolding holds table same topOf topIdentity lowest qualifies passes member hasBit bitOf pageWritten arrived
-    insert withBit reversed fileWords accessed accessedAt selectLegal registerOf held topiOf topSource topFrom
-    standing eligible precedes lets structureAt sourceAt byMessages configOf hartOf guestOf numberOf fieldOf
-    keptTarget receiverOf packed messageOf logWord readOf configWritten modeSettled keptConfig
-    withConfig withGenerated redeliveredFrom redeliveredAt redelivered withSource isActive put remove
-    withoutBit wordAt wordIn nameIn registers nameRefusal nameTests firstFailed present addressed
-    selected addressLegal
+unfolding holds table same topOf topIdentity lowest qualifies passes member hasBit bitOf pageWritten
+    arrived insert withBit reversed fileWords accessed accessedAt selectLegal registerOf held topiOf
+    topSource topFrom standing eligible precedes lets structureAt sourceAt byMessages configOf hartOf
+    guestOf numberOf fieldOf keptTarget receiverOf packed messageOf logWord readOf configWritten
+    modeSettled keptConfig withConfig withGenerated redeliveredFrom redeliveredAt redelivered withSource
+    isActive put remove withoutBit wordAt wordIn nameIn registers nameRefusalBy nameTests firstFailed
+    rowOf addressLegal
 table-holds = refl
 
 pub claim-170 : Claim-170

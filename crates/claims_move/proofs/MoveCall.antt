@@ -45,7 +45,8 @@ use Rattle.board_move_wired_laws.proofs.StepThree.{only-start, next-miss, retar
 use Rattle.board_block.specs.Block.{Board}
 use Rattle.board_call.specs.declared.Call.the-variants.{Move}
 use Rattle.board_call.specs.Move.{retargetedIn, acted}
-use Rattle.board_call.specs.Refusal.{isGuestFile, isMove, present}
+use Rattle.board_call.specs.Numbers.{isGuestFile, isMove}
+use Rattle.board_call.specs.Calls.{rowOf}
 use Rattle.board_call.specs.Outcome.{Stepped, step}
 use Rattle.board_call_laws.specs.Fit.{Fit}
 use Rattle.board_call_laws.proofs.CallTests.{quiet}
@@ -87,7 +88,7 @@ module _ (oh of nh nf : ℕ) where
       (λ f. rw f)
 
 pub claim-101 : Claim-101
-unfolding Claim-101 present isMove
+unfolding Claim-101 rowOf isMove
 claim-101 b oh of nh nf n = (
   (λ e. let there = and-first (isMove oh of nh nf n) (byMessages (b .wired .child)) e in
       let old = move-old oh of nh nf n there in

@@ -14,6 +14,7 @@ use Rattle.domain.specs.Slot.{sourceAt}
 use Rattle.board_move_steps.specs.Names.{namesFile}
 use Rattle.board_move_wired_laws.proofs.TargetNames.{names-number, number-names}
 use Rattle.board_call.specs.declared.Call.{Call}
+use Rattle.board_call.specs.Calls.{rowOf}
 use Rattle.board_call.specs.declared.Call.the-variants.{Reset, Wire, DomainRead, DomainWrite, PageRead}
 use Rattle.board_call.specs.declared.Call.the-variants.{PageWrite, Register, Top, Claim, Signals, Move}
 use Rattle.board_call_laws.specs.Small.{Small}
@@ -150,6 +151,7 @@ claim-175 m x es c cs n j level h f a v =
 -- ---- what is lent, and the calls
 
 small-call : (c : Call) → ((h f k s v : ℕ) → c ≡ Register h f k s v → v < 2 ^ 64) → Small c
+unfolding rowOf
 small-call Reset p = tt
 small-call (Wire i level) p = tt
 small-call (DomainRead d a) p = tt
@@ -163,7 +165,7 @@ small-call (Signals h) p = tt
 small-call (Move oh of nh nf n) p = tt
 
 pub claim-178 : Claim-178
-unfolding Claim-178 WordsFit
+unfolding Claim-178 WordsFit rowOf
 claim-178 = (
   (λ x long words rules log saved. let fit = fit-block (x .block) long words rules in
       (record { long = long; full = log; fit = fit; saved = saved }, fit, fit .shaped)),

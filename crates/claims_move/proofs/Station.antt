@@ -12,6 +12,7 @@ use Rattle.file.specs.declared.File.{File}
 use Rattle.file.specs.Top.{topIdentity, claimed}
 use Rattle.file_laws.proofs.TopEffects.{top-is, top-within, claimed-pending}
 use Rattle.board_call.specs.declared.Call.the-variants.{DomainRead, PageRead, Register, Top, Signals}
+use Rattle.board_call.specs.Calls.{rowOf}
 use Rattle.board_runs.specs.Runs.{Lent, ran}
 use Rattle.board_runs.specs.Ready.{boardIn}
 use Rattle.board_runs.specs.Reading.{onlyReads}
@@ -149,7 +150,7 @@ claim-180 m x es s g b f a p =
     (left .silent, left .signal, left .unnamed, wire-leaves m g _ (move-beside m x es q .ready) left)
 
 pub claim-181 : Claim-181
-unfolding Claim-181 onlyReads
+unfolding Claim-181 onlyReads rowOf
 claim-181 = (
   λ x h f a s v d. (
     after-read (PageRead h f a) x refl,

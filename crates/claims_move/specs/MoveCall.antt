@@ -33,7 +33,8 @@ use Rattle.domain.specs.Slot.{sourceAt}
 use Rattle.files.specs.Files.{fileNumber, theFile}
 use Rattle.board_block.specs.Block.{Board}
 use Rattle.board_call.specs.declared.Call.the-variants.{Move}
-use Rattle.board_call.specs.Refusal.{isMove, present}
+use Rattle.board_call.specs.Numbers.{isMove}
+use Rattle.board_call.specs.Calls.{present}
 use Rattle.board_call.specs.declared.Answer.{Answer}
 use Rattle.board_call.specs.Outcome.{step, outcome, Gives}
 use Rattle.board_call_laws.specs.Fit.{Fit}

@@ -39,9 +39,10 @@ use Rattle.board_move_steps.specs.Steps.{actOf}
 use Rattle.board_call.specs.declared.Call.{Call}
 use Rattle.board_call.specs.Move.{retargetedIn, Acted, acted}
 use Rattle.board_call.specs.Change.{change}
-use Rattle.board_call.specs.Refusal.{isWire, isFile, isGuestFile, isMove, isPageAddress, present, addressed}
-use Rattle.board_call.specs.Refusal.{selected}
-use Rattle.board_call.specs.Refusal.{firstFailed, nameTests, nameRefusal}
+use Rattle.board_call.specs.Numbers.{isWire, isFile, isGuestFile, isMove, isPageAddress}
+use Rattle.board_call.specs.Calls.{rowOf}
+use Rattle.board_call.specs.Calls.{rowOf}
+use Rattle.board_call.specs.Refusal.{firstFailed, nameTests, nameRefusal, nameRefusalBy}
 use Rattle.board_call.specs.Outcome.{thenSent, step}
 use Rattle.board_call_laws.specs.Small.{Small}
 use Rattle.board_runs.specs.Runs.{Lent, after, ran}
@@ -59,15 +60,15 @@ stepOn c y =
     cond (eqb (nameRefusal c (y .board)) 0) w y
 
 unfoldable pub boardRun : List Call → Acted → Acted
-unfolding stepOn step thenSent change acted retargetedIn actOf nameRefusal nameTests firstFailed present
-    addressed selected isWire isFile isGuestFile isMove isPageAddress namesFile renamed flushed hartIn
-    fileIn identityIn candidate servedAt messagesAt sentFrom sent sourceWired wireSet domainIn withDomain
-    writtenAs writtenIn registerWritten targetWritten registerValue sourceAt withSource configOf isEnabled
+unfolding stepOn step thenSent change acted retargetedIn actOf nameRefusalBy nameTests firstFailed rowOf
+    isWire isFile isGuestFile isMove isPageAddress namesFile renamed flushed hartIn fileIn identityIn
+    candidate servedAt messagesAt sentFrom sent sourceWired wireSet domainIn withDomain writtenAs
+    writtenIn registerWritten targetWritten registerValue sourceAt withSource configOf isEnabled
     byMessages source.settled source.wireChanged source.retargeted hartOf guestOf numberOf receiverOf
     keptTarget logWord messageOf isActive isLevel isRectified fileNumber isGuest theFile withFile namedBy
     reached allReached held written accessedAt accessed arrived pageWritten deliveryLegal doubleword
-    putHalves putDoubleword selectLegal registerOf registersFrom low high joined fieldOf packed member insert
-    remove put bitOf hasBit withBit withoutBit union
+    putHalves putDoubleword selectLegal registerOf registersFrom low high joined fieldOf packed member
+    insert remove put bitOf hasBit withBit withoutBit union
 boardRun [] y = y
 boardRun (c ∷ cs) y = boardRun cs (stepOn c y)
 
@@ -96,14 +97,14 @@ board-run (c ∷ cs) x ready small =
 -- ---- the calls of a shift are small
 
 pub small-with : (m : Stations) (n : ℕ) (es : List Event) → AllSmall (withMove m n es)
-unfolding withMove
+unfolding withMove rowOf
 small-with m n [] = tt
 small-with m n (Event.wire i level ∷ es) = (tt, small-with m n es)
 small-with m n (Event.page h f a v ∷ es) = (tt, small-with m n es)
 small-with m n (Event.access ∷ es) = (tt, small-with m (suc n) es)
 
 pub small-without : (m : Stations) (es : List Event) → AllSmall (withoutMove m es)
-unfolding withoutMove
+unfolding withoutMove rowOf
 small-without m [] = tt
 small-without m (Event.wire i level ∷ es) = (tt, small-without m es)
 small-without m (Event.page h f a v ∷ es) = (tt, small-without m es)

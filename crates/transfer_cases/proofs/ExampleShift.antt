@@ -9,7 +9,9 @@ use Rattle.words.specs.Sets.{member}
 use Rattle.domain_sending.specs.Sending.{logged}
 use Rattle.board_block.specs.Block.{Board}
 use Rattle.board_call.specs.Move as call
+use Rattle.board_call.specs.Calls.{rowOf}
 use Rattle.board_call.specs.Outcome.{Stepped, step, Outcome, doneAs}
+use Rattle.board_call.specs.Calls.{rowOf}
 use Rattle.board_call.specs.Refusal.{nameRefusal}
 use Rattle.board_call_laws.proofs.OutcomeEffects.{outcome-done}
 use Rattle.board_runs.specs.Runs.{outcomeOn, after}
@@ -92,7 +94,7 @@ module _ (es : List Event) where
 
   rise-board : boardIn (after wireRises (soFar es)) ≡ rise .board
   rise-board =
-      after-board wireRises (soFar es) ready accepted tt ∙ ap (λ (x : Stepped). x .board) rises
+      after-board wireRises (soFar es) ready accepted (unfold rowOf in tt) ∙ ap (λ (x : Stepped). x .board) rises
 
 -- ---- the example
 

@@ -13,7 +13,7 @@ use Rattle.file.specs.declared.File.{File}
 use Rattle.board_block.specs.Block.{Board}
 use Rattle.board_block.specs.Start.{startBoard}
 use Rattle.board_call.specs.declared.Call.{Call}
-use Rattle.board_call.specs.Refusal.{testsRules}
+use Rattle.board_call.specs.Calls.{testsRules, rowOf}
 use Rattle.board_call.proofs.RefusalLaws.{refused-log, refused-blocks}
 use Rattle.board_runs.specs.Runs.{Lent, ran}
 use Rattle.board_runs.specs.Ready.{boardIn}
@@ -229,7 +229,7 @@ unfolding ran
 refused-ran [] x long short = refl
 refused-ran (c ∷ cs) x long short =
     let two = refused-log (testsRules c) (x .block) (x .log) long short in
-    let no = refused-blocks c (x .block) (x .log) 2 (sym two) (λ e. omega arith) in
+    let no = refused-blocks (rowOf c .tests) (x .block) (x .log) 2 (sym two) (λ e. omega arith) in
     ap (ran cs) (after-refused c x (λ e. omega arith)) ∙ refused-ran cs x long short
 
 abbrev shortLog : Lent

@@ -17,7 +17,7 @@ use lib.ListN.{length}
 use Rattle.words.specs.Sets.{WordsFit}
 use Rattle.sizes.specs.Sizes.{recordSize}
 use Rattle.board_block.specs.Block.{boardSound}
-use Rattle.board_call.specs.Refusal.{isFile, isGuestFile}
+use Rattle.board_call.specs.Numbers.{isFile, isGuestFile}
 use Rattle.board_call_laws.specs.Fit.{SavedFit}
 use Rattle.board_runs.specs.Runs.{Lent, ran}
 use Rattle.board_runs.specs.Ready.{boardIn}

@@ -26,7 +26,7 @@ use Rattle.board_move_files_laws.proofs.WrittenEffects.{large-within}
 use Rattle.board_move_files_laws.proofs.RelatedEffects.{Whole}
 use Rattle.board_block.specs.Block.{Board}
 use Rattle.board_call.specs.Move.{registerOn, retargetedIn, Acted, acted}
-use Rattle.board_call.specs.Refusal.{isGuestFile}
+use Rattle.board_call.specs.Numbers.{isGuestFile}
 use Rattle.board_call_laws.specs.Fit.{Fit}
 use Rattle.board_call_laws.proofs.FileCallEffects.{guest-file}
 use Rattle.board_call_laws.proofs.FitEffects.{fit-rules}

@@ -23,8 +23,10 @@ use Rattle.board_block.specs.Block.{Board, withFiles}
 use Rattle.board_call.specs.declared.Call.{Call}
 use Rattle.board_call.specs.Change.{kindOf}
 use Rattle.board_call.specs.Outcome.{Stepped, step, doneAs}
-use Rattle.board_call.specs.Refusal.{isPageAddress, isGuestFile, present, addressed, selected, firstFailed}
-use Rattle.board_call.specs.Refusal.{nameTests, nameRefusal}
+use Rattle.board_call.specs.Numbers.{isPageAddress, isGuestFile}
+use Rattle.board_call.specs.Calls.{rowOf}
+use Rattle.board_call.specs.Calls.{rowOf}
+use Rattle.board_call.specs.Refusal.{firstFailed, nameTests, nameRefusal, nameRefusalBy}
 use Rattle.board_call_laws.specs.Fit.{Fit}
 use Rattle.board_call_laws.specs.Small.{Small}
 use Rattle.board_call_laws.proofs.CallTests.{quiet}
@@ -71,7 +73,7 @@ refusalIn FileCall.claim = 0
 
 module _ (h f : ℕ) (there : isGuestFile h f ≡ true) where
   refusal-on : (b : Board) (c : FileCall) → nameRefusal (callOn h f c) b ≡ refusalIn c
-  unfolding nameRefusal nameTests firstFailed present addressed selected
+  unfolding nameRefusalBy nameTests firstFailed rowOf
   refusal-on b (FileCall.pageRead a) = simp (guest-there h f there)
   refusal-on b (FileCall.pageWrite a v) = simp (guest-there h f there)
   refusal-on b (FileCall.register k s v) = simp (guest-there h f there)
@@ -79,6 +81,7 @@ module _ (h f : ℕ) (there : isGuestFile h f ≡ true) where
   refusal-on b FileCall.claim = simp (guest-there h f there)
 
   small-on : (c : FileCall) → Small (callOn 0 0 c) → Small (callOn h f c)
+  unfolding rowOf
   small-on (FileCall.pageRead a) s = s
   small-on (FileCall.pageWrite a v) s = s
   small-on (FileCall.register k x v) s = s
@@ -196,7 +199,8 @@ module _ (m : Stations) (g : TwoGuests m) where
   -- and clears it
   pub claim-left : (x : Lent) → Ready x
       → newIn m (boardIn (after (onNew FileCall.claim) x)) ≡ claimed identities (newIn m (boardIn x))
-  claim-left x ready = file-done (m .newHart) (m .newFile) (g .new) x ready FileCall.claim tt refl
+  claim-left x ready = file-done (m .newHart) (m .newFile) (g .new) x ready FileCall.claim
+      (unfold rowOf in tt) refl
 
   pub goes-on : (cs : List FileCall) → SmallCalls cs → (x y : Lent) → Ready x → Ready y
       → newIn m (boardIn x) ≡ oldIn m (boardIn y) → GoesOn m x y cs

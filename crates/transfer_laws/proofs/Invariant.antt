@@ -41,7 +41,7 @@ use Rattle.board_move_wired_laws.proofs.WireRelated.{wire-moved}
 use Rattle.board_move_wired_laws.proofs.StepThree.{retargeted-only, retargeted-moved, moved-else}
 use Rattle.board_block.specs.Block.{Board}
 use Rattle.board_call.specs.Move.{Acted, acted}
-use Rattle.board_call.specs.Refusal.{isFile, isGuestFile, isMove}
+use Rattle.board_call.specs.Numbers.{isFile, isGuestFile, isMove}
 use Rattle.board_call_laws.proofs.FileCallEffects.{onlyFile, file-lt, number-lt, number-read}
 use Rattle.board_call_laws.specs.Fit.{Fit}
 use Rattle.board_call_laws.proofs.FitEffects.{fit-steady}

@@ -26,7 +26,11 @@ use Rattle.board_block.specs.Block.{Board}
 use Rattle.board_call.proofs.RefusalLaws.{accepted-present}
 use Rattle.board_call.specs.declared.Call.the-variants.{Wire}
 use Rattle.board_call.specs.Change.{signalsTo}
-use Rattle.board_call.specs.Refusal.{isWire, present, nameRefusal}
+use Rattle.board_call.specs.Numbers.{isWire}
+use Rattle.board_call.specs.Calls.{rowOf}
+use Rattle.board_call.specs.Calls.{rowOf}
+use Rattle.board_call.specs.Refusal.{nameRefusal}
+use Rattle.board_call_laws.specs.Small.{Small}
 use Rattle.board_call_laws.specs.Fit.{Fit}
 use Rattle.board_call_laws.proofs.FitEffects.{fit-steady}
 use Rattle.board_call_laws.proofs.HartCallEffects.{signal-bit, signal-guest-own}
@@ -91,9 +95,9 @@ module _ (m : Stations) (g : TwoGuests m) where
       at : Dec (nameRefusal (Wire i level) (boardIn x) ≡ 0)
           → oldIn m (boardIn (after (Wire i level) x)) ≡ oldIn m (boardIn x)
       at (yes e) =
-          let there : isWire i level ≡ true = unfold present in
-          accepted-present (Wire i level) (boardIn x) e in
-          rw (after-board (Wire i level) x ready e tt, step-wire (boardIn x) i level (x .saved))
+          let there : isWire i level ≡ true = unfold rowOf in
+          accepted-present (rowOf (Wire i level) .tests) (boardIn x) e in
+          rw (after-board (Wire i level) x ready e (unfold rowOf in tt), step-wire (boardIn x) i level (x .saved))
           (wire-apart (boardIn x) (ready .fit) left i (wire-low i level there) (wire-high i level there)
           (eqb level 1))
       at (no d) =

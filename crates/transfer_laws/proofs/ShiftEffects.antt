@@ -21,8 +21,9 @@ use Rattle.board_move_wired_laws.proofs.StepThree.{named-active, only-start, mo
 use Rattle.board_call.specs.declared.Call.{Call}
 use Rattle.board_call.specs.declared.Call.the-variants.{Wire, PageWrite}
 use Rattle.board_call.specs.Outcome.{Outcome, step}
-use Rattle.board_call.specs.Refusal.{isWire, isFile, isPageAddress, isMove, present, addressed, selected}
-use Rattle.board_call.specs.Refusal.{firstFailed, nameTests, nameRefusal}
+use Rattle.board_call.specs.Numbers.{isWire, isFile, isPageAddress, isMove}
+use Rattle.board_call.specs.Calls.{rowOf}
+use Rattle.board_call.specs.Refusal.{firstFailed, nameTests, nameRefusal, nameRefusalBy}
 use Rattle.board_call.proofs.RefusalLaws.{numbers-name, accepted-present}
 use Rattle.board_call_laws.specs.Small.{Small}
 use Rattle.board_call_laws.proofs.FileCallEffects.{step-pageWrite}
@@ -95,14 +96,15 @@ module _ (m : Stations) (g : TwoGuests m) where
     beside-wire i level = both (Wire i level) (Wire i level) same wired
       where
         same : nameRefusal (Wire i level) (boardIn x) ≡ nameRefusal (Wire i level) (boardIn y)
-        same = unfold nameRefusal nameTests present in refl
+        same = unfold nameRefusalBy nameTests rowOf in refl
 
         wired : nameRefusal (Wire i level) (boardIn x) ≡ 0 → nameRefusal (Wire i level) (boardIn y) ≡ 0
             → Beside n (after (Wire i level) x) (after (Wire i level) y)
         wired e e′ =
-            let there : isWire i level ≡ true = unfold present in
-            accepted-present (Wire i level) (boardIn x) e in
-            done n (Wire i level) (Wire i level) tt tt e e′
+            let there : isWire i level ≡ true = unfold rowOf in
+            accepted-present (rowOf (Wire i level) .tests) (boardIn x) e in
+            done n (Wire i level) (Wire i level) (unfold rowOf in tt)
+            (unfold rowOf in tt) e e′
             (rw (step-wire (boardIn x) i level (x .saved), step-wire (boardIn y) i level (y .saved))
             (middle-wire m g n (boardIn x) (boardIn y) (x .saved) (r .ready .fit) (r .ready′ .fit)
             (r .middle) i
@@ -133,16 +135,18 @@ module _ (m : Stations) (g : TwoGuests m) where
         where
           same : nameRefusal (PageWrite h f a v) (boardIn x) ≡ nameRefusal (PageWrite h′ f′ a v) (boardIn y)
           same =
-              unfold nameRefusal nameTests firstFailed present addressed selected in
+              unfold nameRefusalBy nameTests firstFailed rowOf in
               ap (λ (b : Bool). cond b (cond (isPageAddress a) 0 5) 4) same-file
 
           written : nameRefusal (PageWrite h f a v) (boardIn x) ≡ 0
               → nameRefusal (PageWrite h′ f′ a v) (boardIn y) ≡ 0
               → Beside n (after (PageWrite h f a v) x) (after (PageWrite h′ f′ a v) y)
           written e e′ =
-              let there : isFile h f ≡ true = unfold present in accepted-present (PageWrite h f a v)
+              let there : isFile h f ≡ true = unfold rowOf in
+              accepted-present (rowOf (PageWrite h f a v) .tests)
               (boardIn x) e in
-              done n (PageWrite h f a v) (PageWrite h′ f′ a v) tt tt e e′
+              done n (PageWrite h f a v) (PageWrite h′ f′ a v) (unfold rowOf in tt)
+              (unfold rowOf in tt) e e′
               (rw (
                 step-pageWrite (boardIn x) (r .ready .fit .sound) h f _ refl a v (x .saved),
                 step-pageWrite (boardIn y) (r .ready′ .fit .sound) h′ f′ _ refl a v (y .saved),
@@ -161,14 +165,14 @@ module _ (m : Stations) (g : TwoGuests m) where
       access-there = move-there m g (suc n) (omega arith) more
 
       pub access-accepted : nameRefusal next (boardIn x) ≡ 0
-      unfolding present addressed selected
+      unfolding rowOf
       access-accepted =
-          numbers-name next (boardIn x)
+          numbers-name (rowOf next .tests) (boardIn x)
           (and-both _ _ access-there (only-messages (r .middle .only) ∙ r .middle .messages)) refl refl
 
       beside-access : Beside (suc n) (after next x) y
       beside-access =
-          let small : Small next = tt in
+          let small : Small next = unfold rowOf in tt in
           let moved = step-move (boardIn x) (r .ready .fit) (m .oldHart) (m .oldFile) (m .newHart)
           (m .newFile)
           (suc n) access-there (x .saved) in

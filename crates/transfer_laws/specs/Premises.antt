@@ -25,7 +25,7 @@ use Rattle.board_move_steps.specs.Names.{namesFile}
 use Rattle.sizes.specs.Sizes.{recordSize}
 use Rattle.board_move_steps.specs.Steps.{accesses}
 use Rattle.board_block.specs.Block.{boardSound}
-use Rattle.board_call.specs.Refusal.{isGuestFile}
+use Rattle.board_call.specs.Numbers.{isGuestFile}
 use Rattle.board_call_laws.specs.Fit.{SavedFit}
 use Rattle.board_runs.specs.Runs.{Lent}
 use Rattle.board_runs.specs.Ready.{boardIn}

@@ -1,7 +1,7 @@
 -- `board_call::numbers::is_guest_file` meets its contract: the tests are those of its definition. Assumes
 -- nothing.
 use mathlib.Core.Path.{refl}
-use Rattle.board_call.specs.Refusal.{isGuestFile}
+use Rattle.board_call.specs.Numbers.{isGuestFile}
 use Rattle.board_call.proofs.numbers.is_guest_file.Statement.{statement}
 use Rattle.board_call.proofs.numbers.is_guest_file.Tie as tie
 

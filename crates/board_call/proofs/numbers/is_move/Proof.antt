@@ -2,7 +2,7 @@
 use mathlib.Core.Path.{ap₂}
 use mathlib.Core.Bool.{Bool, not, _&&_}
 use lib.Dec.{eqb, leb}
-use Rattle.board_call.specs.Refusal.{isMove}
+use Rattle.board_call.specs.Numbers.{isMove}
 use borrow.Author.Needs.{needs}
 use Rattle.board_call.proofs.numbers.is_move.Statement.{statement}
 use Rattle.board_call.proofs.numbers.is_move.Tie as tie

@@ -1,6 +1,6 @@
 -- `board_call::numbers::is_wire` meets its contract. Assumes nothing.
 use mathlib.Core.Path.{refl}
-use Rattle.board_call.specs.Refusal.{isWire}
+use Rattle.board_call.specs.Numbers.{isWire}
 use Rattle.board_call.proofs.numbers.is_wire.Statement.{statement}
 use Rattle.board_call.proofs.numbers.is_wire.Tie as tie
 
