@@ -1,15 +1,16 @@
 -- The table of the calls: what each tests, and what it may change and send. What is said of every call reads
 -- it. 01, "Calls and their refusals", "The wired controller". Assumes nothing.
---   Tests          what is tested before a call is done: rules, whether the state rules are; names, that every
---                  hart, file, domain, wire, wire level and kind of access that it names is there, and that
---                  the board does not bar it; address, that its address is a multiple of 4 in its region or
---                  page; select, that its select number is legal
+--   Tests          what is tested before a call is done: whether the state rules are; that every hart, file,
+--                  domain, wire, wire level and kind of access that it names is there, and that the board
+--                  does not bar it, as one whose child domain is in direct mode bars a move; that its address
+--                  is a multiple of 4 in its region or page; that its select number is legal
 --   numbered n a s the tests of a call that the board does not bar, by its numbers: n of names, a, s
 --   FilePart       the files that it may change, before its messages arrive: none, number k, or every one
 --   WiredPart      what it may change of the wired controller, before anything is sent: nothing; by wire i;
 --                  by a read or a write of register r of a domain; by access n of a move from file f of hart
 --                  h; or all. c says that a domain is the child
 --   oldAccess, newAccess n   access n of a move writes the old file, or the new one
+--   CallRow        a row of the table
 --   Wide           the number of a call that needs a bound, of 64 bits, if there is one: the value v
 --   rowOf c        the row of c
 --   testsRules c, present c b, addressed c, selected c    its tests; b is the board
@@ -54,7 +55,7 @@ pub data Wide : Type 0 where
   NoValue : Wide
   Value : (v : ℕ) → Wide
 
-pub record Row : Type 0 where
+pub record CallRow : Type 0 where
   pub tests : Tests
   pub files : FilePart
   pub wired : WiredPart
@@ -71,7 +72,7 @@ abbrev pub accessFile : ℕ → ℕ → ℕ → FilePart
 accessFile old new n = cond (oldAccess n) (OneFile old) (cond (newAccess n) (OneFile new) NoFile)
 
 -- [01 C13 C15 C16 C20 V11]
-unfoldable pub rowOf : Call → Row
+unfoldable pub rowOf : Call → CallRow
 rowOf Reset =
     record {
       tests = record { rules = false; names = λ b. true; address = true; select = true };

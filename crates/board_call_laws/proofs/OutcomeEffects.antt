@@ -15,8 +15,7 @@ use Rattle.board_call.specs.declared.Answer.{Answer}
 use Rattle.board_call.specs.declared.Answer.the-variants.{Done, NoSuch, BadAddress, IllegalSelect}
 use Rattle.board_call.specs.declared.Call.{Call}
 use Rattle.board_call.specs.Answer.{refusalNumber, answerValue, answerCount, Refuses}
-use Rattle.board_call.specs.Calls.{testsRules, present, addressed, selected, rowOf}
-use Rattle.board_call.specs.Calls.{rowOf}
+use Rattle.board_call.specs.Calls.{Tests, testsRules, present, addressed, selected, rowOf}
 use Rattle.board_call.specs.Refusal.{blockRefusal, nameRefusal, refusalOf}
 use Rattle.board_call.specs.Outcome.{Stepped, step, Outcome, refusedAs, doneAs, outcome, Gives, Does}
 use Rattle.board_call.proofs.AnswerLaws.{NotDone, refused-case}
@@ -58,20 +57,23 @@ module _ (c : Call) (l g : List ℕ) where
     abbrev b : Board
     b = boardOf l
 
+    abbrev t : Tests
+    t = rowOf c .tests
+
     pub gives-name : present c b ≡ false → Does c l g NoSuch l g
     gives-name n =
-        gives-number c l g 4 (refused-numbers (rowOf c .tests) l g z ∙ refused-name (rowOf c .tests) b n) (λ q. omega arith) NoSuch
+        gives-number c l g 4 (refused-numbers t l g z ∙ refused-name t b n) (λ q. omega arith) NoSuch
         refl refl refl
 
     pub gives-address : present c b ≡ true → addressed c ≡ false → Does c l g BadAddress l g
     gives-address n a =
-        gives-number c l g 5 (refused-numbers (rowOf c .tests) l g z ∙ refused-address (rowOf c .tests) b n a) (λ q. omega arith)
-        BadAddress refl refl refl
+        gives-number c l g 5 (refused-numbers t l g z ∙ refused-address t b n a) (λ q. omega arith) BadAddress
+        refl refl refl
 
     pub gives-select : present c b ≡ true → addressed c ≡ true → selected c ≡ false
         → Does c l g IllegalSelect l g
     gives-select n a s =
-        gives-number c l g 6 (refused-numbers (rowOf c .tests) l g z ∙ refused-select (rowOf c .tests) b n a s) (λ q. omega arith)
+        gives-number c l g 6 (refused-numbers t l g z ∙ refused-select t b n a s) (λ q. omega arith)
         IllegalSelect refl refl refl
 
     -- an accepted call, from what its code left
@@ -81,7 +83,7 @@ module _ (c : Call) (l g : List ℕ) where
         → Gives (outcome c l g s) (Done v n) l′ g′ s′
     gives-done a s x q v n ev en l′ g′ s′ long board log kept =
         subst (λ (o : Outcome). Gives o (Done v n) l′ g′ s′)
-        (sym (outcome-done c l g s (refused-numbers (rowOf c .tests) l g z ∙ a) ∙ ap (λ (y : Stepped). doneAs y g) q))
+        (sym (outcome-done c l g s (refused-numbers t l g z ∙ a) ∙ ap (λ (y : Stepped). doneAs y g) q))
         record {
           number = refl;
           value = ev;

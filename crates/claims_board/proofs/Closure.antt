@@ -40,7 +40,8 @@ use Rattle.claims_registers.specs.Rules.{Long}
 use Rattle.claims_wired.specs.Kept.{none, sources, writes, writesIn, Spares, Claim-155}
 use Rattle.claims_wired.proofs.Kept.{kept-same}
 use Rattle.claims_wired.proofs.KeptWired.{claim-155}
-use Rattle.claims_board.specs.Closure.{retargets, partTouches, touches, partWire, touchesWire, Claim-150}
+use Rattle.claims_board.specs.Closure.{retargets, partTouches, touches, partWire, touchesWire}
+use Rattle.claims_board.specs.Closure.{Claim-150}
 
 -- ---- a move: access 8 + i is that of source i
 

@@ -47,7 +47,7 @@ use Rattle.wired_registers.specs.Wired.{claimedIn, partWritten, writtenAs, writ
 use Rattle.claims_registers.specs.Rules.{Long}
 use Rattle.claims_wired.specs.Kept.{Touch, none, sources, harts, whileDirect, writes, claims, reads}
 use Rattle.claims_wired.specs.Kept.{writesIn, readsIn, Spares, Claim-155}
-use Rattle.claims_wired.proofs.Accesses.{wires-with}
+use Rattle.claims_registers.proofs.Accesses.{wires-with}
 use Rattle.claims_wired.proofs.Kept.{out, keep, pendingOf, enabledOf, targetOf, modeOf, kept-same}
 use Rattle.claims_wired.proofs.Kept.{kept-became, kept-pendings, kept-wholes, kept-pend, kept-clear}
 use Rattle.claims_wired.proofs.Kept.{kept-enable, kept-disable, kept-config, kept-generated}

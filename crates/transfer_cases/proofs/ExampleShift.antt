@@ -94,7 +94,8 @@ module _ (es : List Event) where
 
   rise-board : boardIn (after wireRises (soFar es)) ≡ rise .board
   rise-board =
-      after-board wireRises (soFar es) ready accepted (unfold rowOf in tt) ∙ ap (λ (x : Stepped). x .board) rises
+      after-board wireRises (soFar es) ready accepted (unfold rowOf in tt)
+      ∙ ap (λ (x : Stepped). x .board) rises
 
 -- ---- the example
 

@@ -51,8 +51,10 @@ module _ (ns : ℕ → ℕ) (old new : ℕ) where
 
   module _ (alike : ns new ≡ ns old) (sized : Sized (ns old)) (n : ℕ) (fs gs : List File) (s : List ℕ)
       (many : length fs ≡ fileCount) (many′ : length gs ≡ fileCount)
-      (shaped : (k : ℕ) → k < fileCount → Shaped (theFile fs k)) (shaped′ : (k : ℕ) → k < fileCount → Shaped (theFile gs k))
-      (r : FilesMoved n fs gs s) (different : new ≢ old) (oldLt : old < fileCount) (newLt : new < fileCount) (i : ℕ) where
+      (shaped : (k : ℕ) → k < fileCount → Shaped (theFile fs k))
+      (shaped′ : (k : ℕ) → k < fileCount → Shaped (theFile gs k))
+      (r : FilesMoved n fs gs s) (different : new ≢ old) (oldLt : old < fileCount) (newLt : new < fileCount)
+      (i : ℕ) where
     -- what arrives at file k of each board
     abbrev here : ℕ → File
     here k = arrived (ns k) (theFile fs k) i

@@ -97,7 +97,8 @@ module _ (m : Stations) (g : TwoGuests m) where
       at (yes e) =
           let there : isWire i level ≡ true = unfold rowOf in
           accepted-present (rowOf (Wire i level) .tests) (boardIn x) e in
-          rw (after-board (Wire i level) x ready e (unfold rowOf in tt), step-wire (boardIn x) i level (x .saved))
+          let small : Small (Wire i level) = unfold rowOf in tt in
+          rw (after-board (Wire i level) x ready e small, step-wire (boardIn x) i level (x .saved))
           (wire-apart (boardIn x) (ready .fit) left i (wire-low i level there) (wire-high i level there)
           (eqb level 1))
       at (no d) =
