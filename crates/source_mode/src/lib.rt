@@ -2,7 +2,19 @@
 ghost use mathlib.Core.Path.{_≡_};
 ghost use Rattle.source_mode.specs.Mode.{isActive, isLevel, isRectified, keptMode, sourceWord};
 
+// Bit D of a sourcecfg word, and what is stored for a delegated source.
+const DELEGATED_BIT: u32 = 10;
+
 pub const DELEGATED_WORD: u32 = 1024;
+
+// The modes that read the wire.
+const EDGE1: u32 = 4;
+
+const EDGE0: u32 = 5;
+
+pub const LEVEL1: u32 = 6;
+
+pub const LEVEL0: u32 = 7;
 
 pub fn active(mode: u32) -> bool
     ensures { λ r. ⌜ r ≡ isActive mode ⌝ }
@@ -16,26 +28,26 @@ pub fn active(mode: u32) -> bool
 pub fn level(mode: u32) -> bool
     ensures { λ r. ⌜ r ≡ isLevel mode ⌝ }
 {
-    if mode == 6 {
+    if mode == LEVEL1 {
         return true;
     }
-    mode == 7
+    mode == LEVEL0
 }
 
 // The wire for Edge1 and Level1, its opposite for Edge0 and Level0, low for the rest.
 pub fn rectified(mode: u32, wire: bool) -> bool
     ensures { λ r. ⌜ r ≡ isRectified mode wire ⌝ }
 {
-    if mode == 4 {
+    if mode == EDGE1 {
         return wire;
     }
-    if mode == 6 {
+    if mode == LEVEL1 {
         return wire;
     }
-    if mode == 5 {
+    if mode == EDGE0 {
         return !wire;
     }
-    if mode == 7 {
+    if mode == LEVEL0 {
         return !wire;
     }
     false
@@ -58,7 +70,7 @@ pub fn kept_mode(value: u32) -> u32
 pub fn source_word(child: bool, has: bool, value: u32) -> u32
     ensures { λ r. ⌜ r ≡ sourceWord child has value ⌝ }
 {
-    if words::has_bit(value, 10) {
+    if words::has_bit(value, DELEGATED_BIT) {
         if child {
             return 0;
         }
