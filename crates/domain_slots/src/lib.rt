@@ -10,6 +10,8 @@ ghost use Rattle.source_rules.specs.SourceParts.{occupied};
 ghost use Rattle.domain_slots.specs.Slots.{SoFar, Slotted};
 use sizes::SLOT_COUNT;
 use source_mode::DELEGATED_WORD;
+use source_mode::LEVEL0;
+use source_mode::LEVEL1;
 use source_rules::mode_fault;
 use source_rules::target_fault;
 use words_masks::with_bit64;
@@ -31,11 +33,11 @@ fn occupy(mut g: Gathered, child: bool, messages: bool, mode: u32, target: u32, 
 {
     g.faults = g.faults | target_fault(child, messages, target) | mode_fault(mode);
     g.active = with_bit64(g.active, i);
-    if mode == 6 {
+    if mode == LEVEL1 {
         g.straight = with_bit64(g.straight, i);
         return g;
     }
-    if mode == 7 {
+    if mode == LEVEL0 {
         g.inverted = with_bit64(g.inverted, i);
         return g;
     }

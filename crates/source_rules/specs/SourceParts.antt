@@ -11,7 +11,7 @@
 use Prim.Native.Nat.{ℕ}
 use mathlib.Core.Bool.{Bool, cond, not, _&&_, _||_}
 use lib.Dec.{eqb}
-use Rattle.source_mode.specs.Mode.{delegatedWord, keptMode}
+use Rattle.source_mode.specs.Mode.{delegatedWord, level1, level0, keptMode}
 use Rattle.source_target.specs.Target.{keptTarget}
 use Rattle.source.specs.declared.Source.{Source}
 use Rattle.source_rules.specs.SourceRules.{levelRule}
@@ -31,7 +31,7 @@ bitsSound c m sends wire s =
     && not (sends && s .pending && s .enabled) && levelRule m wire s
 
 unfoldable pub straightWord : ℕ → Bool
-straightWord w = eqb w 6
+straightWord w = eqb w level1
 
 unfoldable pub invertedWord : ℕ → Bool
-invertedWord w = eqb w 7
+invertedWord w = eqb w level0

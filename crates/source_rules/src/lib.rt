@@ -5,6 +5,7 @@ ghost use mathlib.Core.Bool.{cond, not, _&&_, _||_};
 ghost use lib.Dec.{eqb};
 ghost use Rattle.source_mode.specs.Mode.{keptMode};
 ghost use Rattle.source_target.specs.Target.{numberOf, keptTarget};
+use source_mode::LEVEL0;
 
 // The bits of a target that no domain keeps: above the hart, between it and the guest index, and below that.
 const ABOVE_HART: u32 = 0xFFF00000;
@@ -19,7 +20,7 @@ const GUEST: u32 = 0x3000;
 pub fn mode_fault(mode: u32) -> u32
     ensures { λ r. ⌜ eqb r 0 ≡ eqb mode (keptMode mode) ⌝ }
 {
-    if 7 < mode {
+    if LEVEL0 < mode {
         return 1;
     }
     if mode == 2 {
