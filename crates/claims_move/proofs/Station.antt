@@ -119,12 +119,12 @@ claim-108 m x es s g b f a p =
         claim-said m g _ (q .ready)
             ∙ ap (λ (v : ℕ). record { number = 0; value = v; count = 0 })
             (top-is 255 (newIn m (boardIn (ran (withMove m 0 es) x)))),
-        said-same m g _ _ (q .ready) (q .ready′) same FileCall.claim tt,
+        said-same m g _ _ (q .ready) (q .ready′) same FileCall.claim (unfold rowOf in tt),
         (λ n. ap (λ (z : File). member (z .pending) (topIdentity 255 (newIn m (boardIn (ran (withMove m 0 es)
             x)))))
             (claim-left m g _ (q .ready))
             ∙ claimed-gone m x es s g b f a p n),
-        file-same m g _ _ (q .ready) (q .ready′) same FileCall.claim tt,
+        file-same m g _ _ (q .ready) (q .ready′) same FileCall.claim (unfold rowOf in tt),
       ),
     )
 
