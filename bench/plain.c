@@ -29,7 +29,7 @@ struct domain {
 
 struct wired {
     uint32_t wires[2];
-    struct domain root, child;
+    struct domain machine, child;
 };
 
 struct board {

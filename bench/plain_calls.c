@@ -67,8 +67,8 @@ vsk_answer plain_wire(PLAIN_BLOCKS, uint64_t wire, uint64_t level)
     if (has_bit(b->wired.wires, i) == level)
         return done(0, 0);
     put_bit(b->wired.wires, i, level);
-    bool child = b->wired.root.sourcecfg[i] == VSK_SOURCE_DELEGATED;
-    wire_changed(child ? &b->wired.child : &b->wired.root, i, level);
+    bool child = b->wired.machine.sourcecfg[i] == VSK_SOURCE_DELEGATED;
+    wire_changed(child ? &b->wired.child : &b->wired.machine, i, level);
     return done(0, send_all(b, child, log));
 }
 
@@ -89,7 +89,7 @@ vsk_answer plain_domain_read(PLAIN_BLOCKS, uint64_t domain, uint64_t address)
     if (refusal)
         return refused(refusal);
     /* nothing is sent: a claim only clears */
-    return done(read_word(w, domain ? &w->child : &w->root, (uint32_t)address), 0);
+    return done(read_word(w, domain ? &w->child : &w->machine, (uint32_t)address), 0);
 }
 
 vsk_answer plain_domain_write(PLAIN_BLOCKS, uint64_t domain, uint64_t address, uint32_t value)
@@ -186,7 +186,7 @@ static bool file_signals(const struct board *b, uint64_t hart, uint32_t file)
         return top_identity(f) != 0;
     if (f->delivery != FROM_WIRED)
         return false;
-    return domain_signals(file == VSK_MACHINE_FILE ? &b->wired.root : &b->wired.child, (uint32_t)hart);
+    return domain_signals(file == VSK_MACHINE_FILE ? &b->wired.machine : &b->wired.child, (uint32_t)hart);
 }
 
 vsk_answer plain_signals(PLAIN_BLOCKS, uint64_t hart)

@@ -94,7 +94,7 @@ static uint32_t read_word(struct wired *w, struct domain *d, uint32_t address)
     }
 }
 
-static void write_config(const struct wired *w, struct domain *d, uint32_t value)
+static void write_domaincfg(const struct wired *w, struct domain *d, uint32_t value)
 {
     uint32_t old = d->sourcecfg[DOMAINCFG];
     d->sourcecfg[DOMAINCFG] = value & SENDS;
@@ -172,9 +172,9 @@ static void write_target(struct domain *d, bool child, uint32_t i, uint32_t valu
 /* Every register but genmsi, before anything is sent. */
 static void write_word(struct wired *w, bool child, uint32_t address, uint32_t value)
 {
-    struct domain *d = child ? &w->child : &w->root;
+    struct domain *d = child ? &w->child : &w->machine;
     if (address == VSK_DOMAINCFG)
-        write_config(w, d, value);
+        write_domaincfg(w, d, value);
     else if (address < 4 * SLOTS && child)
         write_child_source(w, address / 4, value);
     else if (address < 4 * SLOTS)
@@ -198,7 +198,7 @@ static void send_one(struct board *b, uint32_t *log, uint32_t n, uint32_t target
 /* Sends what is to be sent of one domain, lowest source first: the number of messages. */
 static uint32_t send_all(struct board *b, bool child, uint32_t *log)
 {
-    struct domain *d = child ? &b->wired.child : &b->wired.root;
+    struct domain *d = child ? &b->wired.child : &b->wired.machine;
     if ((d->sourcecfg[DOMAINCFG] & SENDS) != SENDS)
         return 0;
     uint32_t n = 0;
@@ -213,7 +213,7 @@ static uint32_t send_all(struct board *b, bool child, uint32_t *log)
 /* genmsi: kept and sent at once, in message mode only; the number of messages. */
 static uint32_t generate(struct board *b, bool child, uint32_t *log, uint32_t value)
 {
-    struct domain *d = child ? &b->wired.child : &b->wired.root;
+    struct domain *d = child ? &b->wired.child : &b->wired.machine;
     if (!by_messages(d))
         return 0;
     d->target[GENMSI] = value & (HART_BITS | NUMBER_BITS);

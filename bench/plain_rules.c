@@ -48,24 +48,24 @@ static uint32_t bits_faults(const struct domain *d, uint64_t active)
     return ((pending | enable) & ~active) != 0 || (sends && (pending & enable) != 0);
 }
 
-/* One pass over the sources; `root` is the machine domain for the child, and null for itself. */
-static inline uint32_t domain_faults(const struct domain *d, const struct domain *root, uint64_t wires)
+/* One pass over the sources; `machine` is the machine domain for the child, and null for itself. */
+static inline uint32_t domain_faults(const struct domain *d, const struct domain *machine, uint64_t wires)
 {
     uint32_t config = d->sourcecfg[DOMAINCFG], faults = (config & ~SENDS) | structure_faults(d);
     bool messages = config & VSK_DOMAINCFG_DM;
-    uint32_t stray = ~(HART_BITS | NUMBER_BITS | (root && messages ? GUEST_BITS : 0));
+    uint32_t stray = ~(HART_BITS | NUMBER_BITS | (machine && messages ? GUEST_BITS : 0));
     uint64_t active = 0;
     faults |= messages ? d->target[GENMSI] & ~(HART_BITS | NUMBER_BITS) : d->target[GENMSI];
     for (uint32_t i = 1; i < SLOTS; i++) {
         uint32_t mode = d->sourcecfg[i];
-        if (mode == VSK_SOURCE_INACTIVE || (!root && mode == VSK_SOURCE_DELEGATED)) {
+        if (mode == VSK_SOURCE_INACTIVE || (!machine && mode == VSK_SOURCE_DELEGATED)) {
             faults |= d->target[i];
             continue;
         }
         active |= UINT64_C(1) << i;
         faults |= active_faults(d, wires, messages, stray, i);
-        if (root)
-            faults |= root->sourcecfg[i] ^ VSK_SOURCE_DELEGATED;
+        if (machine)
+            faults |= machine->sourcecfg[i] ^ VSK_SOURCE_DELEGATED;
     }
     return faults | bits_faults(d, active);
 }
@@ -75,7 +75,7 @@ static bool keeps_rules(const struct board *b)
     const struct wired *w = &b->wired;
     uint64_t wires = joined(w->wires);
     uint32_t faults = files_faults(b) | (wires & 1);
-    faults |= domain_faults(&w->root, NULL, wires);
-    faults |= domain_faults(&w->child, &w->root, wires);
+    faults |= domain_faults(&w->machine, NULL, wires);
+    faults |= domain_faults(&w->child, &w->machine, wires);
     return faults == 0;
 }

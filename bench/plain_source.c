@@ -101,16 +101,16 @@ static uint32_t kept_mode(uint32_t value)
 
 static void write_root_source(struct wired *w, uint32_t i, uint32_t value)
 {
-    bool had = w->root.sourcecfg[i] == VSK_SOURCE_DELEGATED, has = value & VSK_SOURCE_DELEGATED;
+    bool had = w->machine.sourcecfg[i] == VSK_SOURCE_DELEGATED, has = value & VSK_SOURCE_DELEGATED;
     if (had && has)
         return;
-    put_mode(&w->root, i, has ? VSK_SOURCE_DELEGATED : kept_mode(value), has_bit(w->wires, i));
+    put_mode(&w->machine, i, has ? VSK_SOURCE_DELEGATED : kept_mode(value), has_bit(w->wires, i));
     if (had != has)
         make_inactive(&w->child, i, VSK_SOURCE_INACTIVE);
 }
 
 static void write_child_source(struct wired *w, uint32_t i, uint32_t value)
 {
-    bool has = w->root.sourcecfg[i] == VSK_SOURCE_DELEGATED && !(value & VSK_SOURCE_DELEGATED);
+    bool has = w->machine.sourcecfg[i] == VSK_SOURCE_DELEGATED && !(value & VSK_SOURCE_DELEGATED);
     put_mode(&w->child, i, has ? kept_mode(value) : VSK_SOURCE_INACTIVE, has_bit(w->wires, i));
 }

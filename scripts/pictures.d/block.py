@@ -1,5 +1,5 @@
-# The block of a board to scale, with one file and one domain blown up, the log and the record of a move. The
-# numbers are read from crates/sizes/specs/Sizes.antt, the record's places from the definitions of the move.
+# The block of a board to scale, with one file and one domain blown up, the log and the saved numbers of a move. The
+# numbers are read from crates/sizes/specs/Sizes.antt, the places of the saved numbers from the definitions of the move.
 import re
 
 import facts
@@ -69,10 +69,10 @@ def block(picture, y):
         picture.box(LEFT + number * own, y, own, f'{number}\n{name}', high, size=TINY, pad=2, fill=fill,
                     stroke=GREEN_INK, round=0)
     picture.rect(LEFT + station() * own, y, own, high, 'none', GREEN_INK, thick=3, round=0)
-    wires = picture.rect(wired, y, size('rootPlace') * scale, high, AMBER, AMBER_INK, round=0)
+    wires = picture.rect(wired, y, size('machinePlace') * scale, high, AMBER, AMBER_INK, round=0)
     picture.line([(wires.cx, y - 9), (wires.cx, y)], thick=1)
-    picture.text(wires.cx - 6, y - 26, f'wires: {size("rootPlace")} words', size=TINY)
-    for name, at in (('machine domain', 'rootPlace'), ('supervisor’s domain', 'childPlace')):
+    picture.text(wires.cx - 6, y - 26, f'wires: {size("machinePlace")} words', size=TINY)
+    for name, at in (('machine domain', 'machinePlace'), ('supervisor’s domain', 'childPlace')):
         picture.box(wired + size(at) * scale, y, size('domainSize') * scale,
                     f'{name}\n{size("domainSize")} words', high, size=SMALL, pad=2, fill=BLUE,
                     stroke=BLUE_INK, round=0)
@@ -84,7 +84,7 @@ def numbers(picture, y):
     """The first words of the parts of the strip, below it."""
     of_hart, wired = size('hartFiles') * size('fileSize'), size('wiredPlace')
     marks = [(n * of_hart, 'middle' if n else 'start') for n in range(size('hartCount'))]
-    marks += [(wired, 'end'), (wired + size('rootPlace'), 'start'), (wired + size('childPlace'), 'middle'),
+    marks += [(wired, 'end'), (wired + size('machinePlace'), 'start'), (wired + size('childPlace'), 'middle'),
               (size('blockSize'), 'end')]
     for word, anchor in marks:
         x = LEFT + word * WIDE / size('blockSize')
@@ -132,15 +132,15 @@ def log(picture, y):
 
 def record(picture, y):
     """The numbers that a move saves, each with the accesses that write and use it."""
-    count, x, wide = size('recordSize'), LEFT + 480, 480
-    picture.text(x, y, f'*The record of a move:* {count} numbers of 64 bits, lent beside the blocks: '
+    count, x, wide = size('savedSize'), LEFT + 480, 480
+    picture.text(x, y, f'*The saved numbers of a move:* {count} numbers of 64 bits, lent beside the blocks: '
                  '`actOf`, Claim #102', wide, SMALL)
     parts = [(place('deliveryAt'), 1, 'deli-\nvery', '1', '89'),
              (place('thresholdAt'), 1, 'thres-\nhold', '2', '88'),
              (place('pendingAt'), 4, 'pending bits of old', '72 to 75', '80 to 83'),
              (place('enableAt'), 4, 'enable bits of old', '76 to 79', '84 to 87')]
     if sum(part[1] for part in parts) != count:
-        facts.stop(f'the record of a move has {count} numbers, and not those of the picture')
+        facts.stop(f'the saved numbers of a move has {count} numbers, and not those of the picture')
     facts.stated(STEPS, 'leb n 75)', 'leb n 79)', 'leb n 83)', 'leb n 87)', 'eqb n 88')
     one, y = wide / count, y + 46
     for at, many, label, written, used in parts:
@@ -152,13 +152,13 @@ def record(picture, y):
 
 
 def draw():
-    guests, first = size('hartFiles') - size('firstGuest'), size('wiredPlace') + size('rootPlace')
+    guests, first = size('hartFiles') - size('firstGuest'), size('wiredPlace') + size('machinePlace')
     picture = Picture(f'The block of {size("blockSize")} words', (
         f'{size("fileCount")} message files of {size("fileSize")} words each, {size("hartFiles")} for each '
-        f'hart; the levels of the wires in {size("rootPlace")} words; the machine domain and the '
+        f'hart; the levels of the wires in {size("machinePlace")} words; the machine domain and the '
         f'supervisor’s domain with {size("domainSize")} words each. One file and one domain are shown word '
-        f'by word, then the log of {size("logSize")} words and the record of a move of '
-        f'{size("recordSize")} numbers.'))
+        f'by word, then the log of {size("logSize")} words and the saved numbers of a move, '
+        f'{size("savedSize")} numbers.'))
     y = picture.heading(
         f'{size("fileCount")} files of {size("fileSize")} words, then the wired controller with '
         f'{size("wiredSize")}: no word is padding. A board has one block, and a block one board: `boardOf`, '

@@ -17,7 +17,7 @@ HEADING = (
     'One definition, `outcome`, says all of it. The contract of every call says the same: Claims #80, #81, '
     '#82, #93, #100; it settles every number and word: #83, #162; the code meets it: #114. Of the '
     'refusals that apply the lowest is given: `refusalOf`, #84, #92.')
-LENT = ('*a call* with any numbers; lent: the state block, the log, and to a move its record, whatever '
+LENT = ('*a call* with any numbers; lent: the state block, the log, and to a move its saved numbers, whatever '
         'they hold')
 TESTS = [
     '1. the *state block* has {blockSize} words: `blockTests`',
@@ -37,7 +37,7 @@ DONE = [
 ]
 ANSWER = ('*done:* refusal 0, the value, the count of messages; the block is that of the board after the '
           'call, and the next call takes it: `doneAs`\nClaims #86, #104, #171')
-REFUSED = ('*refused:* that number, value 0, count 0; the state block, the log and the record of a move '
+REFUSED = ('*refused:* that number, value 0, count 0; the state block, the log and the saved numbers of a move '
            'stay as they were: `refusedAs`\nClaim #85')
 SENDERS = ('Only `vsk_wire` and `vsk_domain_write` send; a write to genmsi sends its own message at once.\n'
            'Claims #54, #154')

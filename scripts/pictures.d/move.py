@@ -13,7 +13,7 @@ STEPS = [
     (8, 106, 'set new’s delivery to 0; clear new’s pending bits'),
     (71, 188, 'in the supervisor’s domain, a target that names old is rewritten to name new, with the same '
      'identity: one access for each source'),
-    (79, 104, 'read old’s pending and enable bits into the record'),
+    (79, 104, 'read old’s pending and enable bits into the saved numbers'),
     (87, 104, '*set* the saved pending bits in new; write the enable bits'),
     (89, 100, 'write threshold and delivery to new'),
 ]
@@ -27,7 +27,7 @@ CONDITIONS = (
     '*At the start* the blocks have their lengths and the state keeps its rules (`Started`), old and new '
     'are two different guest files (`TwoGuests`), the supervisor’s domain is by messages (`ByMessages`), '
     'and no active source’s target names new (`NoneNamesNew`). *Then* the accesses are made once each, '
-    'in order, each with the record that the last one gave (`withMove`, `AllAccesses`), and pages are '
+    'in order, each with the saved numbers that the last one gave (`withMove`, `AllAccesses`), and pages are '
     'written as shown (`PagesKept`). In plain numbers: Claim #175; they can be met: #111; each is '
     'needed: #112.')
 ENDS = [
@@ -56,7 +56,7 @@ def checked():
     facts.stated('crates/board_move_steps/specs/Steps.antt', 'accesses = 89', 'eqb n 3', 'eqb n 4', 'leb '
                                                                                                     'n 8)',
                  'leb n 71)', 'leb n 79)', 'leb n 87)', 'eqb n 88')
-    facts.stated('crates/transfer_laws/specs/Premises.antt', '8 ≤ n', 'n < 72')
+    facts.stated('crates/move_laws/specs/Premises.antt', '8 ≤ n', 'n < 72')
 
 
 def at(made):

@@ -12,13 +12,13 @@ use board_hart_calls::signals;
 use board_move_calls::make_access;
 use board_wired_calls::domain_read;
 use board_wired_calls::domain_write;
-use sizes::RECORD_SIZE;
+use sizes::SAVED_SIZE;
 
-// Only a move reads or writes the record.
+// Only a move reads or writes the saved numbers.
 pub fn apply(
     state: &mut [u32],
     log: &mut [u32],
-    saved: &mut [u64; RECORD_SIZE],
+    saved: &mut [u64; SAVED_SIZE],
     call: Call,
 ) -> Answer
     ensures { λ r. ⌜ Gives (outcome call (now (state .entry)) (now (log .entry)) (now (saved .entry))) r

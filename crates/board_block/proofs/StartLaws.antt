@@ -17,7 +17,7 @@ use Rattle.files.proofs.FilesLaws.{theFile-withFile-same, theFile-withFile-othe
 use Rattle.files_laws.proofs.DeliveryEffects.{theFile-zeros}
 use Rattle.domain_laws.proofs.ZeroEffects.{domainOf-zeros}
 use Rattle.wired_state.specs.Wires.{wiredOf}
-use Rattle.wired_state.proofs.WiresLaws.{wired-path, wires-read, root-part, child-part}
+use Rattle.wired_state.proofs.WiresLaws.{wired-path, wires-read, machine-part, child-part}
 use Rattle.board_block.specs.Start.{startFile, startFilesFrom, startDomain, startBoard}
 use Rattle.sizes.specs.Sizes.{blockSize, filesSize, wiredSize, fileCount}
 
@@ -121,5 +121,5 @@ unfolding startBoard startDomain
 start-wired l e =
     let ws : List ℕ = replicate wiredSize 0 in
     ap (λ (m : List ℕ). wiredOf (take wiredSize (drop filesSize m))) e
-    ∙ wired-path (sym (wires-read ws refl)) (sym (root-part ws refl) ∙ domainOf-zeros)
+    ∙ wired-path (sym (wires-read ws refl)) (sym (machine-part ws refl) ∙ domainOf-zeros)
     (sym (child-part ws refl) ∙ domainOf-zeros)

@@ -40,7 +40,7 @@ unfoldable pub domainWords : Domain → List ℕ
 domainWords d = d .source ++ d .target ++ d .pending ++ d .enable ++ d .delivery
 
 unfoldable pub wiredWords : Wired → List ℕ
-wiredWords w = w .wires ++ domainWords (w .root) ++ domainWords (w .child)
+wiredWords w = w .wires ++ domainWords (w .machine) ++ domainWords (w .child)
 
 -- [01 B9]
 unfoldable pub blockOf : Board → List ℕ

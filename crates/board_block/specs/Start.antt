@@ -45,5 +45,5 @@ unfoldable pub startBoard : Board
 startBoard =
     record {
       files = startFilesFrom 0 fileCount;
-      wired = record { wires = replicate sourceSetSize 0; root = startDomain; child = startDomain };
+      wired = record { wires = replicate sourceSetSize 0; machine = startDomain; child = startDomain };
     }

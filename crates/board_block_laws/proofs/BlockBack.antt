@@ -16,7 +16,7 @@ use Rattle.files_laws.proofs.BlockBack.{words-back, files-back}
 use Rattle.files_laws.proofs.Keeps.{filesOf-long}
 use Rattle.domain_laws.proofs.SlotEffects.{domainOf-shaped}
 use Rattle.wired_state.specs.Wires.{wiredOf}
-use Rattle.wired_state.proofs.WiresLaws.{root-long, child-long}
+use Rattle.wired_state.proofs.WiresLaws.{machine-long, child-long}
 use Rattle.board_block.specs.Block.{Board, boardOf, blockOf, wiredWords}
 use Rattle.board_block.proofs.BlockLaws.{board-path, files-long, wired-long}
 use Rattle.board_block_laws.specs.Shape.{BoardShaped}
@@ -46,7 +46,7 @@ module _ (l : List ℕ) (long : length l ≡ blockSize) where
         many = length-filesOf (take filesSize l);
         long = λ k h. filesOf-long (take filesSize l) (files-long l long) k h;
         wires = simp (length-take, length-drop) (omega arith);
-        root = domainOf-shaped (take domainSize (drop 2 part)) (root-long part half);
+        machine = domainOf-shaped (take domainSize (drop 2 part)) (machine-long part half);
         child = domainOf-shaped (take domainSize (drop childPlace part)) (child-long part half);
       }
 
@@ -75,7 +75,7 @@ module _ (b : Board) (shaped : BoardShaped b) where
       ∙ ap (λ (n : ℕ). fileSize * n) (shaped .many)
 
   length-wired : length (wiredWords (b .wired)) ≡ wiredSize
-  length-wired = length-wiredWords (b .wired) (shaped .wires) (shaped .root) (shaped .child)
+  length-wired = length-wiredWords (b .wired) (shaped .wires) (shaped .machine) (shaped .child)
 
   pub length-blockOf : length (blockOf b) ≡ blockSize
   unfolding blockOf
@@ -90,4 +90,4 @@ module _ (b : Board) (shaped : BoardShaped b) where
       (ap wiredOf
       (stretch-at (blockOf b) filesWords ws [] filesSize wiredSize
       (simp append-nil) length-files length-wired)
-      ∙ wired-back (b .wired) (shaped .wires) (shaped .root) (shaped .child))
+      ∙ wired-back (b .wired) (shaped .wires) (shaped .machine) (shaped .child))

@@ -10,7 +10,7 @@ use Rattle.domain.specs.Domain.{Domain, domainOf}
 use Rattle.domain.proofs.DomainLaws.{domain-path}
 use Rattle.domain_laws.specs.Shape.{DomainShaped}
 use Rattle.wired_state.specs.Wires.{Wired, wiredOf}
-use Rattle.wired_state.proofs.WiresLaws.{wired-path, root-long, child-long}
+use Rattle.wired_state.proofs.WiresLaws.{wired-path, machine-long, child-long}
 use Rattle.board_block.specs.Block.{domainWords, wiredWords}
 use Rattle.sizes.specs.Sizes.{childPlace, domainSize, wiredSize}
 
@@ -57,31 +57,31 @@ pub wired-words-back : (l : List ℕ) → length l ≡ wiredSize → wiredWords 
 unfolding wiredWords wiredOf
 wired-words-back l long =
     rw (
-      domain-words-back (take domainSize (drop 2 l)) (root-long l long),
+      domain-words-back (take domainSize (drop 2 l)) (machine-long l long),
       domain-words-back (take domainSize (drop childPlace l)) (child-long l long),
       ← take-add 2 domainSize l,
       ← take-add childPlace domainSize l,
     )
     (take-all wiredSize l (omega arith))
 
-module _ (w : Wired) (wires : length (w .wires) ≡ 2) (root : DomainShaped (w .root))
+module _ (w : Wired) (wires : length (w .wires) ≡ 2) (machine : DomainShaped (w .machine))
     (child : DomainShaped (w .child)) where
   pub length-wiredWords : length (wiredWords w) ≡ wiredSize
   unfolding wiredWords
   length-wiredWords =
       simp length-append
-      (omega (arith, length-domainWords (w .root) root, length-domainWords (w .child) child))
+      (omega (arith, length-domainWords (w .machine) machine, length-domainWords (w .child) child))
 
   pub wired-back : wiredOf (wiredWords w) ≡ w
   unfolding wiredWords wiredOf
   wired-back =
       let ws = w .wires in
-      let r = domainWords (w .root) in
+      let r = domainWords (w .machine) in
       let c = domainWords (w .child) in
-      let two = length-domainWords (w .root) root in
+      let two = length-domainWords (w .machine) machine in
       wired-path (stretch-at (wiredWords w) [] ws (r ++ c) 0 2 (append-assoc ws r c) refl wires)
       (ap domainOf (stretch-at (wiredWords w) ws r c 2 domainSize (append-assoc ws r c) wires two)
-      ∙ domain-back (w .root) root)
+      ∙ domain-back (w .machine) machine)
       (ap domainOf (stretch-at (wiredWords w) (ws ++ r) c [] childPlace domainSize (simp append-nil)
       (simp length-append (omega arith)) (length-domainWords (w .child) child))
       ∙ domain-back (w .child) child)

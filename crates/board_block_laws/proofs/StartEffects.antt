@@ -13,18 +13,18 @@ use Rattle.files.specs.Files.{isGuest, theFile, soundAt, filesSound}
 use Rattle.source_mode.specs.Mode.{isActive, isLevel, keptMode, sourceWord}
 use Rattle.source_target.specs.Target.{hartOf, numberOf}
 use Rattle.source.specs.Pending.{candidate}
-use Rattle.domain_genmsi.specs.Genmsi.{keptGenerated}
+use Rattle.domain_genmsi.specs.Genmsi.{keptGenmsi}
 use Rattle.domain_delivery.specs.Delivery.{deliverySound}
-use Rattle.domain.specs.Domain.{configOf, isEnabled, byMessages, generatedAt}
+use Rattle.domain.specs.Domain.{domaincfgOf, isEnabled, byMessages, genmsiOf}
 use Rattle.domain.specs.Slot.{sourceAt}
 use Rattle.domain.specs.Structure.{structureAt}
 use Rattle.domain_laws.specs.Shape.{DomainShaped}
-use Rattle.domain_config.specs.Config.{keptConfig}
+use Rattle.domain_domaincfg.specs.Domaincfg.{keptDomaincfg}
 use Rattle.wired_state.specs.Wires.{isDelegated}
 use Rattle.source_rules.specs.SourceRules.{modeRange, targetRange, inactiveRule, levelRule, sourceSteady}
 use Rattle.source_rules.specs.SourceRules.{sentRule, sourceSound}
-use Rattle.wired_rules.specs.Rules.{configRange, generatedRange, structureRange, sourceZeroRule}
-use Rattle.wired_rules.specs.Rules.{generatedRule}
+use Rattle.wired_rules.specs.Rules.{domaincfgRange, genmsiRange, structureRange, sourceZeroRule}
+use Rattle.wired_rules.specs.Rules.{genmsiRule}
 use Rattle.wired_rules.specs.Rules.{sourceRule, domainSound, delegatedRule, wiredSound}
 use Rattle.board_block.specs.Block.{boardSound}
 use Rattle.board_block.specs.Start.{startFile, startFilesFrom, startDomain, startBoard}
@@ -39,10 +39,10 @@ unfolding startBoard startFilesFrom startFile filesSound every soundAt theFile i
 start-files-sound = refl
 
 start-wired-sound : wiredSound (startBoard .wired) ≡ true
-unfolding startBoard startDomain wiredSound domainSound configRange generatedRange structureRange
-    sourceZeroRule generatedRule sourceRule delegatedRule sourceSound sourceSteady sentRule candidate
-    modeRange targetRange inactiveRule levelRule isDelegated keptConfig structureAt sourceAt configOf
-    isEnabled byMessages generatedAt deliverySound keptGenerated isActive isLevel keptMode sourceWord every
+unfolding startBoard startDomain wiredSound domainSound domaincfgRange genmsiRange structureRange
+    sourceZeroRule genmsiRule sourceRule delegatedRule sourceSound sourceSteady sentRule candidate
+    modeRange targetRange inactiveRule levelRule isDelegated keptDomaincfg structureAt sourceAt domaincfgOf
+    isEnabled byMessages genmsiOf deliverySound keptGenmsi isActive isLevel keptMode sourceWord every
     member hasBit bitOf hartOf numberOf fieldOf packed
 start-wired-sound = refl
 
@@ -57,7 +57,7 @@ start-shaped =
       many = refl;
       long = λ k h. rw (theFile-startFilesFrom 0 fileCount k h) (start-long (0 + k));
       wires = refl;
-      root = domain-shaped;
+      machine = domain-shaped;
       child = domain-shaped;
     }
   where

@@ -13,5 +13,5 @@ pub record BoardShaped (b : Board) : Type 0 where
   pub many : length (b .files) ≡ fileCount
   pub long : (k : ℕ) → k < fileCount → Long (theFile (b .files) k)
   pub wires : length (b .wired .wires) ≡ sourceSetSize
-  pub root : DomainShaped (b .wired .root)
+  pub machine : DomainShaped (b .wired .machine)
   pub child : DomainShaped (b .wired .child)

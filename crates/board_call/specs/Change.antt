@@ -1,13 +1,13 @@
 -- What an accepted call changes and answers, before what is then to be sent. 01, all of its sections on the
 -- board; the standard, chapters 3 and 4. Assumes nothing.
 --   Changed               the board, the value answered, the messages sent at once, which genmsi's are, and
---                         the record of a move
+--                         the saved numbers of a move
 --   kindOf k              the kind of a register access: 0 read, 1 write, 2 set bits, 3 clear bits
 --   signalAt b h f        file f of hart h signals: by itself with delivery 1; by its domain, the machine
 --                         domain for file 0 and the child for file 1, with delivery 0x40000000
 --   signalsTo b h n       the lowest n bits of the signals of hart h: bit f for file f
 --   onWired, onFile       what a call does to the wired controller, or to one file, and answers
---   change c b s          what the call c changes in b and in the record s, which only a move does
+--   change c b s          what the call c changes in b and in the saved numbers s, which only a move does
 -- Only what refusalOf accepts has a meaning: a hart, file or domain that is there, a legal select number.
 use Prim.Native.Nat.{ℕ, zero, suc}
 use mathlib.Core.Bool.{Bool, cond, _&&_, _||_}
@@ -28,7 +28,7 @@ use Rattle.domain_region.specs.Region.{wordAt}
 use Rattle.domain_direct.specs.Direct.{signalOf}
 use Rattle.wired_state.specs.Wires.{Wired, domainIn, wireSet}
 use Rattle.wired_registers.specs.Wired.{readIn, claimedIn, writtenIn}
-use Rattle.wired.specs.Controller.{generatedBy}
+use Rattle.wired.specs.Controller.{genmsiBy}
 use Rattle.board_move_steps.specs.Steps.{actOf}
 use Rattle.board_block.specs.Block.{Board, withFiles, withWired}
 use Rattle.board_block.specs.Start.{startBoard}
@@ -83,7 +83,7 @@ change (call.DomainRead d a) b s =
 change (call.DomainWrite d a v) b s =
     let c = eqb d 1 in
     onWired b (writtenIn (b .wired) c (wordAt a) v) 0
-    (generatedBy c (domainIn (b .wired) c) (wordAt a) v) s
+    (genmsiBy c (domainIn (b .wired) c) (wordAt a) v) s
 change (call.PageRead h f a) b s = answering b (pageRead (theFile (b .files) (fileNumber h f)) a) s
 change (call.PageWrite h f a v) b s =
     let k = fileNumber h f in onFile b k (pageWritten identities (theFile (b .files) k) a v) 0 s

@@ -5,8 +5,8 @@
 --   withOne b h f x            b with x as file f of hart h
 --   retargetedIn .. w i        w after target[i] of the child, if it names old, was written to name new, with
 --                              the same identity
---   Acted                      the board and the record of saved numbers
---   acted a .. b s             b and the record s after the act a
+--   Acted                      the board and the saved numbers
+--   acted a .. b s             b and the saved numbers s after the act a
 -- oh and of are the hart and the file of old, nh and nf those of new.
 use Prim.Native.Nat.{ℕ}
 use mathlib.Core.Bool.{true, cond}

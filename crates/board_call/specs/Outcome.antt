@@ -1,13 +1,16 @@
 -- What a call does, all in all. 01, "Calls and their refusals", "The wired controller". Assumes nothing.
---   Stepped           the board after a call, its value, the messages that it sent, in order, and the record
+--   Stepped           the board after a call, its value, the messages that it sent, in order, and the saved
+--                     numbers
 --   delivered b ms    b after the messages ms reached their files, in order
 --   thenSent x        x, then each domain sends what is to be sent, and every message reaches its file
---   step c b s        what an accepted call does: its change, then what is sent; s is the record of a move
---   Outcome           refusal, value and count, the block, the log and the record after the call
---   outcome c l g s   what the call c does with the block l, the log g and the record s: refused, it answers
---                     0 and 0 and changes nothing
---   Gives o r l g s   a call that answers r and leaves the block l, the log g and the record s does as o says
---   Does c l g r l′ g′   the same of a call that is lent no record: any record stays as it is
+--   step c b s        what an accepted call does: its change, then what is sent; s are the saved numbers of a
+--                     move
+--   Outcome           refusal, value and count, the block, the log and the saved numbers after the call
+--   outcome c l g s   what the call c does with the block l, the log g and the saved numbers s: refused, it
+--                     answers 0 and 0 and changes nothing
+--   Gives o r l g s   a call that answers r and leaves the block l, the log g and the saved numbers s does as
+--                     o says
+--   Does c l g r l′ g′   the same of a call that is lent no saved numbers: any saved numbers stay as they are
 use Prim.Native.Nat.{ℕ}
 use mathlib.Core.Path.{_≡_}
 use mathlib.Core.Bool.{cond}

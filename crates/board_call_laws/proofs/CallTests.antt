@@ -2,7 +2,8 @@
 -- address or its select number; or done, with nothing sent. No contract cites this file. Assumes nothing.
 --   Tested c n a s   the call c tests the rules, and then n of the board, a and s: what it names, its
 --                    address, its select number
---   quiet b v s      what a call does that leaves the board b and the record s, answers v and sends nothing
+--   quiet b v s      what a call does that leaves the board b and the saved numbers s, answers v and sends
+--                    nothing
 use Prim.Native.Nat.{ℕ}
 use mathlib.Core.Path.{_≡_, refl, sym, ap, subst, _∙_}
 use mathlib.Core.Bool.{Bool, true, false}
@@ -78,8 +79,8 @@ module _ {c : Call} {n : Board → Bool} {a s : Bool} (t : Tested c n a s) (l g 
       tests-numbers y w = numbers-name (rowOf c .tests) (boardOf l) (named (boardOf l) ∙ x) (at-address ∙ y)
           (at-select ∙ w)
 
-      -- the call does what x says of the record u, and its code answered v and m and left the blocks l′ and
-      -- g′ and the record u′
+      -- the call does what x says of the saved numbers u, and its code answered v and m and left the blocks
+      -- l′ and g′ and the saved numbers u′
       pub tests-left : a ≡ true → s ≡ true → (u : List ℕ) (o : Stepped) → step c (boardOf l) u ≡ o
           → (v m : ℕ) (l′ g′ u′ : List ℕ) → length l′ ≡ blockSize → v ≡ o .value → boardOf l′ ≡ o .board
           → g′ ≡ logged g (o .messages) → m ≡ length (o .messages) → u′ ≡ o .saved

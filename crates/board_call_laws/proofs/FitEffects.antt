@@ -54,7 +54,7 @@ fit-block l long fit sound =
 -- the lengths and the rules are enough for the wired controller
 pub shaped-steady : (b : Board) → BoardShaped b → boardSound b ≡ true → WiredSteady (b .wired)
 shaped-steady b shaped sound =
-    wired-sound-steady (b .wired) (sound-wired b sound) (shaped .wires) (shaped .root) (shaped .child)
+    wired-sound-steady (b .wired) (sound-wired b sound) (shaped .wires) (shaped .machine) (shaped .child)
 
 module _ (b : Board) (fit : Fit b) where
   pub fit-steady : WiredSteady (b .wired)
@@ -79,7 +79,7 @@ module _ (b : Board) (fit : Fit b) where
               many = length-withFile (b .files) k f ∙ fit .shaped .many;
               long = λ j h. shaped-long _ (all j h);
               wires = fit .shaped .wires;
-              root = fit .shaped .root;
+              machine = fit .shaped .machine;
               child = fit .shaped .child;
             };
         files = all;
@@ -93,10 +93,10 @@ module _ (b : Board) (fit : Fit b) where
   -- ---- what the wired controller did, with its messages
 
   pub fit-wired : (w : Wired) (ms : List ℕ) → wiredSound w ≡ true → length (w .wires) ≡ 2
-      → domain.DomainShaped (w .root) → domain.DomainShaped (w .child)
+      → domain.DomainShaped (w .machine) → domain.DomainShaped (w .child)
       → Fit (delivered (withWired b w) ms)
   unfolding boardSound
-  fit-wired w ms sound wires root child =
+  fit-wired w ms sound wires machine child =
       let all : (j : ℕ) → j < fileCount → Shaped (theFile (allReached (b .files) ms) j) = λ j h.
       allReached-shaped ms (b .files) j (fit .files j h) in
       record {
@@ -105,7 +105,7 @@ module _ (b : Board) (fit : Fit b) where
               many = length-allReached ms (b .files) ∙ fit .shaped .many;
               long = λ j h. shaped-long _ (all j h);
               wires = wires;
-              root = root;
+              machine = machine;
               child = child;
             };
         files = all;
@@ -118,7 +118,7 @@ module _ (b : Board) (fit : Fit b) where
   pub fit-rewired : (w : Wired) → WiredSteady w → wiredSound w ≡ true
       → Fit (withWired b w)
   unfolding allReached
-  fit-rewired w s sound = fit-wired w [] sound (s .long) (s .root .shaped) (s .child .shaped)
+  fit-rewired w s sound = fit-wired w [] sound (s .long) (s .machine .shaped) (s .child .shaped)
 
 -- a pass of messages leaves the lengths
 sent-shaped : (c : Bool) (d : Domain) → domain.DomainShaped d → domain.DomainShaped (sent c d .domain)
@@ -138,7 +138,7 @@ pub fit-flushed : (b : Board) → Fit b → (w : Wired) → WiredSteady w → (m
     → Fit (delivered (withWired b (flushed w .wired)) ms)
 unfolding flushed
 fit-flushed b fit w s ms sound =
-    fit-wired b fit _ ms sound (s .long) (sent-shaped false (w .root) (s .root .shaped))
+    fit-wired b fit _ ms sound (s .long) (sent-shaped false (w .machine) (s .machine .shaped))
     (sent-shaped true (w .child) (s .child .shaped))
 
 -- ---- the start

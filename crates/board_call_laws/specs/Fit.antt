@@ -1,9 +1,9 @@
 -- A board that calls can be made on, one after the other: what holds of that of a block of 650 words of 32
 -- bits that keeps the state rules, and what every accepted call leaves so. Assumes nothing.
 --   Fit b         b has its lengths, the words of its files have 32 bits, and it keeps every state rule
---   SavedFit s    every number of a move's record has 64 bits
---   Kept x        the step x leaves a board that is Fit and a record that is SavedFit, and sends 63 messages
---                 at most
+--   SavedFit s    each of a move's saved numbers has 64 bits
+--   Kept x        the step x leaves a board that is Fit and saved numbers that are SavedFit, and sends 63
+--                 messages at most
 use Prim.Native.Nat.{ℕ, _^_, _≤_, _<_}
 use mathlib.Core.Path.{_≡_}
 use mathlib.Core.Bool.{true}

@@ -1,10 +1,10 @@
 // An access to a register of a file, by its select number.
 ghost use Rattle.board_call.specs.declared.Call.the-variants as the;
 ghost use Rattle.board_call.specs.Outcome.{Does};
-use super::one::is_access;
-use super::one::load_file;
-use super::one::store_file;
-use super::one::value_of;
+use super::block_file::is_access;
+use super::block_file::load_file;
+use super::block_file::store_file;
+use super::block_file::value_of;
 use board_call::Answer;
 use board_call::check;
 use sizes::FIRST_GUEST;

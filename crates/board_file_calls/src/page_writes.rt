@@ -1,8 +1,8 @@
 // A write to a file's page: a message.
 ghost use Rattle.board_call.specs.declared.Call.the-variants as the;
 ghost use Rattle.board_call.specs.Outcome.{Does};
-use super::one::load_file;
-use super::one::store_file;
+use super::block_file::load_file;
+use super::block_file::store_file;
 use board_call::Answer;
 use board_call::check;
 use board_call::is_file;

@@ -12,11 +12,11 @@ use super::registers::save;
 use super::targets::retarget;
 use board_move_steps::Act;
 use file::Access;
-use sizes::RECORD_SIZE;
+use sizes::SAVED_SIZE;
 
 pub fn perform(
     state: &mut [u32],
-    saved: &mut [u64; RECORD_SIZE],
+    saved: &mut [u64; SAVED_SIZE],
     oldhart: u64,
     oldfile: u64,
     newhart: u64,

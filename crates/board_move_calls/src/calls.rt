@@ -7,13 +7,13 @@ use board_call::Answer;
 use board_call::check;
 use board_call::is_move;
 use board_move_steps::act_of;
-use sizes::RECORD_SIZE;
+use sizes::SAVED_SIZE;
 
-// The caller lends the same record to each of the 89 accesses of a move.
+// The caller lends the same saved numbers to each of the 89 accesses of a move.
 pub fn make_access(
     state: &mut [u32],
     log: &mut [u32],
-    saved: &mut [u64; RECORD_SIZE],
+    saved: &mut [u64; SAVED_SIZE],
     oldhart: u64,
     oldfile: u64,
     newhart: u64,

@@ -1,9 +1,9 @@
-// The registers of a guest's file in the block, and the record that a move keeps of them.
+// The registers of a guest's file in the block, and the saved numbers that a move keeps of them.
 ghost use mathlib.Core.Path.{_≡_};
 ghost use mathlib.Core.Bool.{true};
 ghost use Prim.Native.Nat.{_<_};
 ghost use lib.ListN.{length, set};
-ghost use Rattle.sizes.specs.Sizes.{blockSize, recordSize};
+ghost use Rattle.sizes.specs.Sizes.{blockSize, savedSize};
 ghost use Rattle.file.specs.declared.register.Access.the-variants as access;
 ghost use Rattle.file.specs.Reply.{replyValue};
 ghost use Rattle.board_block.specs.Block.{boardOf};
@@ -14,7 +14,7 @@ use board_file_calls::store_file;
 use board_file_calls::value_of;
 use file::Access;
 use file::Accessed;
-use sizes::RECORD_SIZE;
+use sizes::SAVED_SIZE;
 
 // Not yet stored.
 fn accessed(state: &[u32], hart: u64, file: u64, kind: Access, select: u64, value: u64) -> Accessed
@@ -25,16 +25,16 @@ fn accessed(state: &[u32], hart: u64, file: u64, kind: Access, select: u64, valu
     f.access(true, kind, select, value)
 }
 
-// A register is read into the record.
+// A register is read into the saved numbers.
 pub fn save(
     state: &[u32],
-    saved: &mut [u64; RECORD_SIZE],
+    saved: &mut [u64; SAVED_SIZE],
     hart: u64,
     file: u64,
     select: u64,
     place: usize,
 )
-    requires { ⌜ (length (now state) ≡ blockSize) × (isGuestFile hart file ≡ true) × (place < recordSize) ⌝ }
+    requires { ⌜ (length (now state) ≡ blockSize) × (isGuestFile hart file ≡ true) × (place < savedSize) ⌝ }
     ensures { λ r. ⌜ now (saved .exit) ≡ set (now (saved .entry)) place
         (replyValue (registerOn (boardOf (now (state .entry))) hart file access.Read select 0 .answer)) ⌝ }
 {

@@ -4,8 +4,8 @@ ghost use mathlib.Core.Bool.{true};
 ghost use Prim.Native.Nat.{_≤_, _<_};
 ghost use lib.ListN.{length};
 ghost use Rattle.sizes.specs.Sizes.{sourceCount, wiredSize, blockSize};
-ghost use Rattle.domain_values.specs.Values.{configMark};
-ghost use Rattle.domain.specs.Domain.{configOf, byMessages};
+ghost use Rattle.domain_values.specs.Values.{domaincfgMark};
+ghost use Rattle.domain.specs.Domain.{domaincfgOf, byMessages};
 ghost use Rattle.wired_state.specs.Wires.{wiredOf, domainIn};
 ghost use Rattle.board_block.specs.Block.{withWired, boardOf, boardSound};
 ghost use Rattle.board_call.specs.Numbers.{isGuestFile};
@@ -28,7 +28,8 @@ pub fn by_messages(state: &[u32]) -> bool
 
 // In the words of the wired controller. The target is read, and written anew if it names the old file.
 fn rewrite(w: &mut [u32], oldhart: u64, oldfile: u64, newhart: u64, newfile: u64, source: u64)
-    requires { ⌜ (length (now w) ≡ wiredSize) × (configOf (domainIn (wiredOf (now w)) true) < configMark)
+    requires { ⌜ (length (now w) ≡ wiredSize)
+        × (domaincfgOf (domainIn (wiredOf (now w)) true) < domaincfgMark)
         × (isGuestFile newhart newfile ≡ true) × (1 ≤ source) × (source ≤ sourceCount) ⌝ }
     ensures { λ r. ⌜ wiredOf (now (w .exit))
         ≡ retargetedIn oldhart oldfile newhart newfile (wiredOf (now (w .entry))) source ⌝ }

@@ -1,5 +1,5 @@
--- What each access of a move makes of the two files and the record is related to the file with no move, a law
--- for each line of the table. No contract cites this file. Assumes nothing.
+-- What each access of a move makes of the two files and the saved numbers is related to the file with no
+-- move, a law for each line of the table. No contract cites this file. Assumes nothing.
 use Prim.Native.Nat.{ℕ, suc, _+_, _-_, _*_, _%_, _≤_, _<_}
 use mathlib.Core.Path.{_≡_, refl, sym, ap, _∙_}
 use mathlib.Core.Bool.{true}

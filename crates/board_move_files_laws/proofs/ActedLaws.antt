@@ -1,5 +1,5 @@
--- What access m of a move does to the two files and the record, a line of the table each, where the files
--- have n identities. No contract cites this file. Assumes nothing.
+-- What access m of a move does to the two files and the saved numbers, a line of the table each, where the
+-- files have n identities. No contract cites this file. Assumes nothing.
 --   withNumber x p v    x with v saved at place p
 --   withOld x f         x with the old file f, and so withNew
 use Prim.Native.Nat.{ℕ, _+_, _-_, _*_, _%_, _≤_, _<_}

@@ -1,5 +1,5 @@
--- What an access of a move saves is saved, and the rest of the record stays. No contract cites this file.
--- Assumes nothing.
+-- What an access of a move saves is saved, and the rest of the saved numbers stay. No contract cites this
+-- file. Assumes nothing.
 use Prim.Native.Nat.{ℕ, suc, _+_, _/_, _%_, _≤_, _<_}
 use mathlib.Core.Path.{_≡_, ap, _∙_}
 use mathlib.Core.Bool.{Bool}
@@ -12,7 +12,7 @@ use lib.Seq.{getD-set-same, getD-set-other}
 use Rattle.words.specs.Bits.{hasBit}
 use Rattle.words.specs.Sets.{member}
 use Rattle.file.specs.declared.File.{File}
-use Rattle.sizes.specs.Sizes.{recordSize}
+use Rattle.sizes.specs.Sizes.{savedSize}
 use Rattle.board_move_steps.specs.Steps.{deliveryAt, thresholdAt, pendingAt, enableAt}
 use Rattle.board_move_files_laws.specs.Related.{Identity, Noted}
 use Rattle.board_move_files_laws.proofs.WrittenEffects.{Sized}
@@ -35,7 +35,7 @@ module _ (n m : ℕ) (s p : List ℕ) (c : File) (sized : Sized n) (r : Noted n 
     apart place j d = getD-set-other s place j v 0 d
 
     -- a bit b of what is saved at place j
-    placed : (place j i : ℕ) (b : Bool) → place < recordSize → (j ≡ place → hasBit v i ≡ b)
+    placed : (place j i : ℕ) (b : Bool) → place < savedSize → (j ≡ place → hasBit v i ≡ b)
         → (j ≢ place → hasBit (getD s j 0) i ≡ b) → hasBit (getD (set s place v) j 0) i ≡ b
     placed place j i b fits same other = at (ℕ-discrete j place)
       where

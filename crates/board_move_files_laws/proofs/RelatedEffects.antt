@@ -1,4 +1,4 @@
--- The two files and the record of a move stay related to the old file of a board with no move, through
+-- The two files and the saved numbers of a move stay related to the old file of a board with no move, through
 -- messages and accesses, and in the end the new file is that file, all for files of n identities. No
 -- contract cites this file. Assumes nothing.
 use Prim.Native.Nat.{ℕ, suc, _*_, _≤_, _<_}
@@ -17,7 +17,7 @@ use Rattle.file.specs.Page.{arrived}
 use Rattle.file_laws.proofs.Keeps.{Rules}
 use Rattle.file_laws.proofs.PageEffects.{arrived-pending, arrived-rest}
 use Rattle.file_laws.proofs.Stored.{file-path}
-use Rattle.sizes.specs.Sizes.{recordSize, fileSetSize}
+use Rattle.sizes.specs.Sizes.{savedSize, fileSetSize}
 use Rattle.board_move_steps.specs.Steps.{accesses, actOf}
 use Rattle.board_move_files_laws.specs.Related.{Three, actedOn, Shared, Related}
 use Rattle.board_move_files_laws.proofs.SelectEffects.{below}
@@ -33,7 +33,7 @@ use Rattle.board_move_files_laws.proofs.AccessEffects.{delivery-written
 
 -- ---- before the first access
 
-pub related-start : (n : ℕ) (o f : File) (s : List ℕ) → length s ≡ recordSize
+pub related-start : (n : ℕ) (o f : File) (s : List ℕ) → length s ≡ savedSize
     → Related n 0 (record { old = o; new = f; numbers = s }) o
 related-start n o f s e =
     record {

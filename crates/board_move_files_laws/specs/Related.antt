@@ -1,6 +1,6 @@
--- The old and the new file and the record in the middle of a move, beside the old file of a board with no
--- move. No contract and no claim cites this file. 01, "The move, with its premises". Assumes nothing.
---   Three              the old file, the new file, and the record of saved numbers
+-- The old and the new file and the saved numbers in the middle of a move, beside the old file of a board with
+-- no move. No contract and no claim cites this file. 01, "The move, with its premises". Assumes nothing.
+--   Three              the old file, the new file, and the saved numbers
 --   actedOn n a x      x after the act a, where the files have n identities; a target concerns no file
 --   Identity n i       i is one of the identities of a file that has n
 --   Related n m x c    x after m accesses, where c is the old file of the board with no move and all files
@@ -23,7 +23,7 @@ use Rattle.file.specs.Reply.{replyValue}
 use Rattle.file.specs.Register.{accessed}
 use Rattle.board_move_steps.specs.declared.Act.{Act}
 use Rattle.board_move_steps.specs.declared.Act.the-variants.{Save, Zero, Target, Put}
-use Rattle.sizes.specs.Sizes.{recordSize}
+use Rattle.sizes.specs.Sizes.{savedSize}
 use Rattle.board_move_steps.specs.Steps.{accesses, deliveryAt, thresholdAt, pendingAt, enableAt}
 
 pub record Three : Type 0 where
@@ -75,7 +75,7 @@ pub record Shared (n m : ℕ) (o f c : List ℕ) : Type 0 where
 
 -- the numbers s that are saved; p is the pending set of the old file
 pub record Noted (n m : ℕ) (s p : List ℕ) (c : File) : Type 0 where
-  pub ten : length s ≡ recordSize
+  pub ten : length s ≡ savedSize
   pub delivery : 1 ≤ m → getD s deliveryAt 0 ≡ c .delivery
   pub threshold : 2 ≤ m → getD s thresholdAt 0 ≡ c .threshold
   pub pending : (i : ℕ) → Identity n i → i / 64 + 72 ≤ m

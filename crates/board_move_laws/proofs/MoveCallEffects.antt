@@ -1,6 +1,6 @@
 -- One access of a move: what the call tests, what the parts of its code do, and what it gives. No contract
 -- cites this file. Assumes nothing.
---   Made a .. b s b′ s′   the act a makes b′ of the board b, and s′ of the record s
+--   Made a .. b s b′ s′   the act a makes b′ of the board b, and s′ of the saved numbers s
 use Prim.Native.Nat.{ℕ, _≤_, _<_}
 use mathlib.Core.Path.{_≡_, refl, sym, ap₂, _∙_}
 use mathlib.Core.Bool.{Bool, true, false, _&&_}
@@ -17,17 +17,17 @@ use Rattle.file.specs.declared.register.Accessed.{Accessed}
 use Rattle.file.specs.Reply.{replyValue}
 use Rattle.file.specs.Register.{accessed}
 use Rattle.files.specs.Files.{fileNumber, theFile}
-use Rattle.domain.specs.Domain.{configOf, byMessages}
+use Rattle.domain.specs.Domain.{domaincfgOf, byMessages}
 use Rattle.domain_region.specs.declared.Word.the-variants as word
 use Rattle.domain_registers.specs.Read.{claimedAs, claimedBy}
 use Rattle.wired_state.specs.Wires.{Wired, domainIn, withDomain}
 use Rattle.wired_registers.specs.Wired.{readIn, claimedIn, writtenIn}
-use Rattle.wired_rules_laws.proofs.ConfigEffects.{config-low}
+use Rattle.wired_rules_laws.proofs.DomaincfgEffects.{domaincfg-low}
 use Rattle.wired_rules_laws.proofs.WiredEffects.{steady-domainIn}
 use Rattle.wired_rules_laws.specs.Steady.{WiredSteady}
 use Rattle.domain_sending.proofs.SendingLaws.{logged-none}
 use Rattle.board_move_steps.specs.Names.{namesFile, renamed}
-use Rattle.sizes.specs.Sizes.{recordSize}
+use Rattle.sizes.specs.Sizes.{savedSize}
 use Rattle.board_move_steps.specs.Steps.{actOf, actWithin}
 use Rattle.board_move_steps.specs.declared.Act.{Act}
 use Rattle.board_move_steps.specs.declared.Act.the-variants.{Save, Zero, Target, Put}
@@ -92,11 +92,11 @@ module _ (oh of nh nf : ℕ) (w : Wired) (i : ℕ) where
 module _ (a : Act) (within : actWithin a ≡ true) where
   pub save-within : (x p : ℕ) → a ≡ Save x p → p < 10
   unfolding actWithin
-  save-within x p e = ltb-true p recordSize (rw e at within)
+  save-within x p e = ltb-true p savedSize (rw e at within)
 
   pub put-within : (k : Access) (x p : ℕ) → a ≡ Put k x p → p < 10
   unfolding actWithin
-  put-within k x p e = ltb-true p recordSize (rw e at within)
+  put-within k x p e = ltb-true p savedSize (rw e at within)
 
   pub target-low : (i : ℕ) → a ≡ Target i → 1 ≤ i
   unfolding actWithin
@@ -145,9 +145,10 @@ pub block-steady : (l : List ℕ) → length l ≡ blockSize → boardSound (boa
     → WiredSteady (boardOf l .wired)
 block-steady l long sound = shaped-steady (boardOf l) (boardOf-shaped l long) sound
 
-pub child-config : (l : List ℕ) → length l ≡ blockSize → boardSound (boardOf l) ≡ true
-    → configOf (domainIn (boardOf l .wired) true) < 0x80000000
-child-config l long sound = config-low (steady-domainIn (boardOf l .wired) (block-steady l long sound) true)
+pub child-domaincfg : (l : List ℕ) → length l ≡ blockSize → boardSound (boardOf l) ≡ true
+    → domaincfgOf (domainIn (boardOf l .wired) true) < 0x80000000
+child-domaincfg l long sound =
+    domaincfg-low (steady-domainIn (boardOf l .wired) (block-steady l long sound) true)
 
 pub tests-move : (oh of nh nf n : ℕ)
     → Tested (Move oh of nh nf n) (λ b. isMove oh of nh nf n && byMessages (b .wired .child)) true true
@@ -162,7 +163,7 @@ module _ (l g : List ℕ) (z : blockRefusal true l g ≡ 0) (oh of nh nf n : ℕ
     pub move-barred : byMessages (boardOf l .wired .child) ≡ false → Does (Move oh of nh nf n) l g NoSuch l g
     move-barred f = tests-name (tests-move oh of nh nf n) l g z (simp (there, f))
 
-    -- its code left the block l′ and the record s′
+    -- its code left the block l′ and the saved numbers s′
     pub move-done : byMessages (boardOf l .wired .child) ≡ true → (a : Act) → a ≡ actOf n
         → (l′ s s′ : List ℕ) → length l′ ≡ length l → Made a oh of nh nf (boardOf l) s (boardOf l′) s′
         → Gives (outcome (Move oh of nh nf n) l g s) (Done 0 0) l′ g s′

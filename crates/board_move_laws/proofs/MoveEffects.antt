@@ -1,5 +1,5 @@
--- One access of a move on a board that is fit: it sends nothing, and leaves the board fit and the record of
--- 64 bits, so that the next call can be made. No contract cites this file. Assumes nothing.
+-- One access of a move on a board that is fit: it sends nothing, and leaves the board fit and the saved
+-- numbers of 64 bits, so that the next call can be made. No contract cites this file. Assumes nothing.
 use Prim.Native.Nat.{ℕ, _^_, _≤_, _<_}
 use mathlib.Core.Path.{_≡_, refl}
 use mathlib.Core.Bool.{Bool, true, false, not, _&&_}

@@ -1,20 +1,20 @@
 -- The 89 accesses of a move, in the six steps of 01, "The move, with its premises"; the standard 6.1.2.
 -- Assumes nothing.
 --   accesses            how many there are
---                       The record has delivery, threshold, four words of pending bits and four of enable
---                       bits, at these places:
+--                       The saved numbers are delivery, threshold, four words of pending bits and four of
+--                       enable bits, at these places:
 --   deliveryAt, thresholdAt, pendingAt k, enableAt k
 --   Act                 what an access may do, a case each; a register is named by its select number:
---   Save r p            register r of old is read into the record at place p
+--   Save r p            register r of old is read into the saved numbers at place p
 --   Zero c r            0 is written to register r, of new if c is true and else of old
 --   Target i            the target of source i, if it names old, is rewritten to name new
---   Put k r p           the record's number at place p goes to register r of new, written or set as k says
+--   Put k r p           the saved number at place p goes to register r of new, written or set as k says
 --   actOf n             what access n does, for n of 1 to 89
---   actWithin a         the source that a names is one of 1 to 63, its place one of the record's
+--   actWithin a         the source that a names is one of 1 to 63, its place one of the saved numbers'
 use Prim.Native.Nat.{ℕ, _+_, _-_, _*_}
 use mathlib.Core.Bool.{Bool, true, false, cond, _&&_}
 use lib.Dec.{eqb, leb, ltb}
-use Rattle.sizes.specs.Sizes.{recordSize, sourceCount}
+use Rattle.sizes.specs.Sizes.{savedSize, sourceCount}
 use Rattle.file_select.specs.Select.{eidelivery, eithreshold, eip0, eie0}
 use Rattle.file.specs.declared.register.Access.the-variants.{Write, Set}
 use Rattle.board_move_steps.specs.declared.Act.{Act}
@@ -58,7 +58,7 @@ actOf n =
     (cond (eqb n 88) (Put Write eithreshold thresholdAt) (Put Write eidelivery deliveryAt)))))))))))
 
 unfoldable pub actWithin : Act → Bool
-actWithin (Save select place) = ltb place recordSize
+actWithin (Save select place) = ltb place savedSize
 actWithin (Zero new select) = true
 actWithin (Target i) = leb 1 i && leb i sourceCount
-actWithin (Put kind select place) = ltb place recordSize
+actWithin (Put kind select place) = ltb place savedSize

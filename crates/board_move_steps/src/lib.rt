@@ -13,12 +13,12 @@ pub const ACCESSES: u64 = 89;
 
 // What one access does.
 pub enum Act {
-    // select, place: a register of the old file is read into the record
+    // select, place: a register of the old file is read into the saved numbers
     Save(u64, usize),
     // whether it is the new file's, select: a register is written 0
     Zero(bool, u64),
     // source: its target, if it names the old file, is rewritten to name the new one
     Target(u64),
-    // kind, select, place: a number of the record is written to a register of the new file, or set in it
+    // kind, select, place: a saved number is written to a register of the new file, or set in it
     Put(Access, u64, usize),
 }

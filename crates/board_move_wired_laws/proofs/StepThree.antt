@@ -44,13 +44,13 @@ use Rattle.board_move_wired_laws.proofs.WireRelated.{child-only}
 
 pub only-start : (w : Wired) → TargetsOnly w w
 only-start w =
-    record { wires = refl; root = refl; source = refl; pending = refl; enable = refl; delivery = refl }
+    record { wires = refl; machine = refl; source = refl; pending = refl; enable = refl; delivery = refl }
 
 only-joined : {w v u : Wired} → TargetsOnly w v → TargetsOnly v u → TargetsOnly w u
 only-joined p q =
     record {
       wires = p .wires ∙ q .wires;
-      root = p .root ∙ q .root;
+      machine = p .machine ∙ q .machine;
       source = p .source ∙ q .source;
       pending = p .pending ∙ q .pending;
       enable = p .enable ∙ q .enable;

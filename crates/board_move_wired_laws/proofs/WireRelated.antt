@@ -11,7 +11,7 @@ use Rattle.words.specs.Sets.{member, put}
 use Rattle.words.proofs.TestsLaws.{tested, and-first, and-second}
 use Rattle.source_target.specs.Target.{messageOf}
 use Rattle.source.specs.Pending.{settled, wireChanged}
-use Rattle.domain.specs.Domain.{Domain, configOf, isEnabled, byMessages, sends, withTargets, withPendings}
+use Rattle.domain.specs.Domain.{Domain, domaincfgOf, isEnabled, byMessages, sends, withTargets, withPendings}
 use Rattle.domain.specs.Slot.{sourceAt}
 use Rattle.domain.proofs.DomainLaws.{domain-path}
 use Rattle.domain_laws.proofs.SlotEffects.{withSource-pending, withSource-unpended}
@@ -30,12 +30,12 @@ use Rattle.board_move_wired_laws.specs.Retargeted.{TargetsOnly, Same, Re
 pub only-child : {w u : Wired} → TargetsOnly w u → w .child ≡ withTargets (u .child) (w .child .target)
 only-child r = domain-path (r .source) refl (r .pending) (r .enable) (r .delivery)
 
-pub child-only : (w u : Wired) → w .wires ≡ u .wires → w .root ≡ u .root
+pub child-only : (w u : Wired) → w .wires ≡ u .wires → w .machine ≡ u .machine
     → (ts : List ℕ) → w .child ≡ withTargets (u .child) ts → TargetsOnly w u
-child-only w u wires root ts e =
+child-only w u wires machine ts e =
     record {
       wires = wires;
-      root = root;
+      machine = machine;
       source = ap (λ (d : Domain). d .source) e;
       pending = ap (λ (d : Domain). d .pending) e;
       enable = ap (λ (d : Domain). d .enable) e;
@@ -44,7 +44,7 @@ child-only w u wires root ts e =
 
 -- so it delivers in the same mode
 pub only-messages : {w u : Wired} → TargetsOnly w u → byMessages (w .child) ≡ byMessages (u .child)
-unfolding byMessages configOf
+unfolding byMessages domaincfgOf
 only-messages r = ap byMessages (only-child r)
 
 -- ---- a domain with other targets
@@ -58,7 +58,7 @@ wired-pending d i was is = sym (withSource-pending d i _)
 
 wired-targets : (d : Domain) (ts : List ℕ) (i : ℕ) (was is : Bool)
     → sourceWired (withTargets d ts) i was is ≡ withTargets (sourceWired d i was is) ts
-unfolding wireChanged settled sourceAt byMessages configOf
+unfolding wireChanged settled sourceAt byMessages domaincfgOf
 wired-targets d ts i was is =
     wired-pending (withTargets d ts) i was is
     ∙ sym (ap (λ (e : Domain). withTargets e ts) (wired-pending d i was is))
@@ -83,7 +83,7 @@ from-targets c d ts i (suc n) =
 
 sent-targets : (c : Bool) (d : Domain) (ts : List ℕ)
     → sent c (withTargets d ts) .domain ≡ withTargets (sent c d .domain) ts
-unfolding isEnabled byMessages configOf
+unfolding isEnabled byMessages domaincfgOf
 sent-targets c d ts =
     let d′ = withTargets d ts in
     tested (sends d)
@@ -115,7 +115,7 @@ module _ (w : Wired) (i : ℕ) (level : Bool) where
   pub wire-frame : (c : Bool) → DomainPendingOnly (domainIn w c) (domainIn (wireCall w i level .wired) c)
   unfolding domainIn wireCall flushed wireSet
   wire-frame true = after-rest true i level (w .child) (w .wires)
-  wire-frame false = after-rest false i level (w .root) (w .wires)
+  wire-frame false = after-rest false i level (w .machine) (w .wires)
 
   pub wire-wires : wireCall w i level .wired .wires ≡ put (w .wires) i level
   unfolding wireCall flushed wireSet
@@ -139,7 +139,7 @@ module _ {w u : Wired} (r : TargetsOnly w u) (i : ℕ) (level : Bool) where
   unfolding wireCall flushed wireSet
   wire-related =
       child-only (wireCall w i level .wired) (wireCall u i level .wired)
-      (ap (λ (ws : List ℕ). put ws i level) (r .wires)) (ap₂ (after false i level) (r .root) (r .wires))
+      (ap (λ (ws : List ℕ). put ws i level) (r .wires)) (ap₂ (after false i level) (r .machine) (r .wires))
       (w .child .target)
       (ap₂ (after true i level) (only-child r) (r .wires)
       ∙ after-targets i level (u .child) (u .wires) (w .child .target))
@@ -160,9 +160,9 @@ due i level d ws = sends d && candidate (wireChanged (sourceAt d i) (byMessages 
 -- no target has a say in it
 due-same : {w u : Wired} → TargetsOnly w u → (i : ℕ) (level c : Bool)
     → due i level (domainIn w c) (w .wires) ≡ due i level (domainIn u c) (u .wires)
-unfolding domainIn candidate wireChanged settled sourceAt isEnabled byMessages configOf
+unfolding domainIn candidate wireChanged settled sourceAt isEnabled byMessages domaincfgOf
 due-same r i level true = ap₂ (due i level) (only-child r) (r .wires)
-due-same r i level false = ap₂ (due i level) (r .root) (r .wires)
+due-same r i level false = ap₂ (due i level) (r .machine) (r .wires)
 
 module _ (w : Wired) (s : WiredSteady w) (q : WiredQuiet w) (i : ℕ) (l : 1 ≤ i) (h : i < 64)
     (level : Bool) where
@@ -185,14 +185,15 @@ module _ {w u : Wired} (r : TargetsOnly w u) (sw : WiredSteady w) (qw : WiredQui
       (due-sent w sw qw i l h level c t, due-sent u su qu i l h level c (sym (due-same r i level c) ∙ t))
 
   -- none, or the same of the machine domain, or those of the child, each to the target that stands there
-  pub wire-both : Both [] [] ⊎ Both (messageAt false (w .root) i ∷ []) (messageAt false (w .root) i ∷ [])
+  pub wire-both : Both [] [] ⊎ Both (messageAt false (w .machine) i ∷ [])
+      (messageAt false (w .machine) i ∷ [])
       ⊎ Both (messageAt true (w .child) i ∷ []) (messageAt true (u .child) i ∷ [])
   unfolding domainIn
   wire-both =
       let on : Bool → Bool = λ c. due i level (domainIn w c) (w .wires) in
       tested (on true) (λ t. inr (inr (both-sent true t)))
       (λ f. tested (on false)
-      (λ t. inr (inl (both-sent false t .0, rw (r .root) (both-sent false t .1))))
+      (λ t. inr (inl (both-sent false t .0, rw (r .machine) (both-sent false t .1))))
       (λ g. let none : (c : Bool) → on c ≡ false = elim [ true ↦ f | false ↦ g ] in
       inl (
         wire-silent w sw qw i l h level none,
@@ -203,7 +204,7 @@ module _ {w u : Wired} (r : TargetsOnly w u) (sw : WiredSteady w) (qw : WiredQui
   pub wire-moved : (oh of nh nf n : ℕ) → TargetsMoved oh of nh nf n w u
       → let t = sourceAt (w .child) i .target in
       let t′ = sourceAt (u .child) i .target in
-      Both [] [] ⊎ Both (messageAt false (w .root) i ∷ []) (messageAt false (w .root) i ∷ [])
+      Both [] [] ⊎ Both (messageAt false (w .machine) i ∷ []) (messageAt false (w .machine) i ∷ [])
       ⊎ (Both (messageOf true t ∷ []) (messageOf true t′ ∷ [])
       × (Same oh of nh nf n i t t′ ⊎ Rewritten oh of nh nf n i t t′))
   wire-moved oh of nh nf n m =

@@ -18,7 +18,7 @@ use Rattle.board_move_steps.specs.Names.{namesFile, renamed}
 
 pub record TargetsOnly (w u : Wired) : Type 0 where
   pub wires : w .wires ≡ u .wires
-  pub root : w .root ≡ u .root
+  pub machine : w .machine ≡ u .machine
   pub source : w .child .source ≡ u .child .source
   pub pending : w .child .pending ≡ u .child .pending
   pub enable : w .child .enable ≡ u .child .enable

@@ -1,6 +1,6 @@
 -- Calls that only read: each leaves what it was lent as it was, whatever that is, accepted or refused, and so
 -- a run leaves what it leaves without them. No contract cites this file. Assumes nothing.
---   Still c    on a sound board c leaves the board and the record as they were, and sends nothing
+--   Still c    on a sound board c leaves the board and the saved numbers as they were, and sends nothing
 use Prim.Native.Nat.{ℕ}
 use mathlib.Core.Path.{_≡_, refl, ap, _∙_}
 use mathlib.Core.Bool.{true, false, not, false≢true}

@@ -1,6 +1,6 @@
 -- What is lent to a call that tests nothing in vain: the right lengths, and a board that is fit. Assumes
 -- nothing.
---   Ready x          650 words of a board that is Fit, a log of 63 words, and a record of numbers of 64 bits
+--   Ready x          650 words of a board that is Fit, a log of 63 words, and saved numbers of 64 bits
 --   boardIn x        that board
 --   AllSmall cs      each of the calls cs has a value of 64 bits at most
 use mathlib.Core.Path.{_≡_}

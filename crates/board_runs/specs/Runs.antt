@@ -1,6 +1,6 @@
--- Calls made one after the other, each on the block, the log and the record that the last one left: any
--- calls, refused ones too. 01, "Calls and their refusals". Assumes nothing.
---   Lent              the block, the log and the record of a move that a call is lent
+-- Calls made one after the other, each on the block, the log and the saved numbers that the last one left:
+-- any calls, refused ones too. 01, "Calls and their refusals". Assumes nothing.
+--   Lent              the block, the log and the saved numbers of a move that a call is lent
 --   outcomeOn c x     what the call c does with x
 --   after c x         what it leaves of x
 --   ran cs x          what the calls cs leave of x, in order

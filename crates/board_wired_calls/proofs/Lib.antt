@@ -1,2 +1,2 @@
 -- The laws of the calls on the wired controller. Assumes nothing.
-pub mod DoneLaws
+pub mod AcceptedLaws

@@ -1,9 +1,9 @@
 // The calls, with their refusals.
 ghost use Rattle.board_call.specs.declared.Call.the-variants as the;
 ghost use Rattle.board_call.specs.Outcome.{Does};
-use super::done::wire_done;
-use super::seen::read_done;
-use super::written::write_done;
+use super::accepted_read::read_done;
+use super::accepted_wire::wire_done;
+use super::accepted_write::write_done;
 use board_call::Answer;
 use board_call::check;
 use domain_region::address_legal;
@@ -27,7 +27,7 @@ pub fn wire(state: &mut [u32], log: &mut [u32], wire: u64, level: u64) -> Answer
     Answer::Done(0, n as u32)
 }
 
-// Domain 0 is the machine domain, 1 the supervisor's.
+// Domain 0 is the machine domain, 1 the child.
 pub fn domain_read(state: &mut [u32], log: &mut [u32], domain: u64, address: u64) -> Answer
     ensures { λ r. ⌜ Does (the.DomainRead domain address) (now (state .entry)) (now (log .entry)) r
         (now (state .exit)) (now (log .exit)) ⌝ }

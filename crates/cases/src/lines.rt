@@ -13,7 +13,7 @@ use board_call::Answer;
 use board_call::Call;
 use sizes::BLOCK_SIZE;
 use sizes::LOG_SIZE;
-use sizes::RECORD_SIZE;
+use sizes::SAVED_SIZE;
 
 // Where a run is.
 pub struct Run {
@@ -41,7 +41,7 @@ pub(crate) fn start() -> Run
 pub(crate) fn take_byte(
     state: &mut [u32; STATE_ROOM],
     log: &mut [u32; LOG_ROOM],
-    saved: &mut [u64; RECORD_SIZE],
+    saved: &mut [u64; SAVED_SIZE],
     line: &mut [u8; LINE_ROOM],
     byte: u8,
     run: Run,
@@ -67,7 +67,7 @@ pub(crate) fn take_byte(
 pub(crate) fn end_line(
     state: &mut [u32; STATE_ROOM],
     log: &mut [u32; LOG_ROOM],
-    saved: &mut [u64; RECORD_SIZE],
+    saved: &mut [u64; SAVED_SIZE],
     line: &[u8],
     run: Run,
 ) -> Run
@@ -98,7 +98,7 @@ pub(crate) fn end_line(
 fn make(
     state: &mut [u32; STATE_ROOM],
     log: &mut [u32; LOG_ROOM],
-    saved: &mut [u64; RECORD_SIZE],
+    saved: &mut [u64; SAVED_SIZE],
     call: Call,
     run: Run,
 )
@@ -113,7 +113,7 @@ fn make(
 fn lend(
     state: &mut [u32],
     log: &mut [u32],
-    saved: &mut [u64; RECORD_SIZE],
+    saved: &mut [u64; SAVED_SIZE],
     call: Call,
     words: usize,
     messages: usize,

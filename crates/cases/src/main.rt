@@ -12,7 +12,7 @@ use libc::STDIN_FILENO;
 use lines::Run;
 use sizes::BLOCK_SIZE;
 use sizes::LOG_SIZE;
-use sizes::RECORD_SIZE;
+use sizes::SAVED_SIZE;
 
 // Some words lie beyond the block and the log: for lengths that are too large, and so that the digest sees a
 // call that writes there.
@@ -27,7 +27,7 @@ const LINE_ROOM: usize = 200;
 fn take_chunk(
     state: &mut [u32; STATE_ROOM],
     log: &mut [u32; LOG_ROOM],
-    saved: &mut [u64; RECORD_SIZE],
+    saved: &mut [u64; SAVED_SIZE],
     line: &mut [u8; LINE_ROOM],
     chunk: &[u8],
     run: Run,
@@ -49,7 +49,7 @@ fn take_chunk(
 fn take_all(
     state: &mut [u32; STATE_ROOM],
     log: &mut [u32; LOG_ROOM],
-    saved: &mut [u64; RECORD_SIZE],
+    saved: &mut [u64; SAVED_SIZE],
     line: &mut [u8; LINE_ROOM],
 ) -> Run
     ensures { λ r. ⌜ Lendable (r .state) (r .log) ⌝ }
@@ -72,7 +72,7 @@ fn take_all(
 fn take_last(
     state: &mut [u32; STATE_ROOM],
     log: &mut [u32; LOG_ROOM],
-    saved: &mut [u64; RECORD_SIZE],
+    saved: &mut [u64; SAVED_SIZE],
     line: &[u8; LINE_ROOM],
     run: Run,
 )
@@ -86,7 +86,7 @@ fn take_last(
 fn main() {
     let mut state = [0u32; STATE_ROOM];
     let mut log = [0u32; LOG_ROOM];
-    let mut saved = [0u64; RECORD_SIZE];
+    let mut saved = [0u64; SAVED_SIZE];
     let mut line = [0u8; LINE_ROOM];
     let run = take_all(&mut state, &mut log, &mut saved, &mut line);
     take_last(&mut state, &mut log, &mut saved, &line, run);

@@ -60,7 +60,7 @@ Demand-1 =
     Claim-113 × Claim-114
     -- what each function answers and leaves is the outcome of its call, for any numbers and any blocks
     × Claim-80 × Claim-81 × Claim-82 × Claim-90 × Claim-93 × Claim-100
-    -- and that settles it: the answer, both blocks and the record
+    -- and that settles it: the answer, both blocks and the saved numbers
     × Claim-83 × Claim-162 × Claim-177 × Claim-88 × Claim-176
     -- each refusal exactly when the paper says: the table, and what each line of it means in plain numbers
     × Claim-84 × Claim-92 × Claim-115 × Claim-116 × Claim-117 × Claim-101 × Claim-8 × Claim-30

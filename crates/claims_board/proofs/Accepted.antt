@@ -150,17 +150,18 @@ claim-173 b many sound s = (
 
 -- what a read of a register answers is what the register reads
 module _ (b : Board) (s : List ℕ) (a : ℕ) (r : Word) (e : wordAt a ≡ r) where
-  read-root : step (DomainRead 0 a) b s .value ≡ readIn (b .wired) false r
-  read-root = ap (λ (x : Stepped). x .value) (step-domainRead b 0 a s) ∙ ap (readIn (b .wired) false) e
+  read-machine : step (DomainRead 0 a) b s .value ≡ readIn (b .wired) false r
+  read-machine = ap (λ (x : Stepped). x .value) (step-domainRead b 0 a s) ∙ ap (readIn (b .wired) false) e
 
   read-child : step (DomainRead 1 a) b s .value ≡ readIn (b .wired) true r
   read-child = ap (λ (x : Stepped). x .value) (step-domainRead b 1 a s) ∙ ap (readIn (b .wired) true) e
 
   -- bit by bit, as Claim-132 says it of the register
   module _ (k n : ℕ) (l : n < 32) (q : r ≡ InClrip k) where
-    wire-root : WireRead (step (DomainRead 0 a) b s .value) n (32 * k + n) (b .wired .root) (b .wired .wires)
+    wire-machine : WireRead (step (DomainRead 0 a) b s .value) n (32 * k + n) (b .wired .machine)
+        (b .wired .wires)
     unfolding Claim-132 domainIn
-    wire-root = rw (read-root, q) (claim-132 (b .wired .root) (b .wired .wires) k .0 n l .2)
+    wire-machine = rw (read-machine, q) (claim-132 (b .wired .machine) (b .wired .wires) k .0 n l .2)
 
     wire-child : WireRead (step (DomainRead 1 a) b s .value) n (32 * k + n) (b .wired .child)
         (b .wired .wires)
@@ -171,13 +172,13 @@ pub claim-174 : Claim-174
 unfolding Claim-174 registerValue domainIn
 claim-174 b s = (
   (λ h l. (
-    read-root b s (0x4000 + 32 * h + 0x18) (Topi h) (topi-at h l),
+    read-machine b s (0x4000 + 32 * h + 0x18) (Topi h) (topi-at h l),
     read-child b s (0x4000 + 32 * h + 0x18) (Topi h) (topi-at h l),
-    read-root b s (0x4000 + 32 * h + 0x1C) (Claimi h) (claimi-at h l),
+    read-machine b s (0x4000 + 32 * h + 0x1C) (Claimi h) (claimi-at h l),
     read-child b s (0x4000 + 32 * h + 0x1C) (Claimi h) (claimi-at h l),
   )),
   (λ k n m l. (
-    wire-root b s (0x1D00 + 4 * k) (InClrip k) (in-clrip-at k m) k n l refl,
+    wire-machine b s (0x1D00 + 4 * k) (InClrip k) (in-clrip-at k m) k n l refl,
     wire-child b s (0x1D00 + 4 * k) (InClrip k) (in-clrip-at k m) k n l refl,
   )),
 )

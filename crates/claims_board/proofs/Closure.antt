@@ -73,8 +73,8 @@ kept-targets-more q q′ more x =
       enabled = x .enabled;
       target = λ i l h e. x .target i l h (more i e);
       mode = x .mode;
-      config = x .config;
-      generated = x .generated;
+      domaincfg = x .domaincfg;
+      genmsi = x .genmsi;
       idelivery = x .idelivery;
       iforce = x .iforce;
       ithreshold = x .ithreshold;
@@ -130,7 +130,7 @@ module _ (b : Board) (shaped : BoardShaped b) (s : List ℕ) where
   w = b .wired
 
   long : Long (b .wired)
-  long = (shaped .wires, shaped .root, shaped .child)
+  long = (shaped .wires, shaped .machine, shaped .child)
 
   abbrev Leaves : Call → Wired → Type 0
   Leaves call w′ =
@@ -148,8 +148,8 @@ module _ (b : Board) (shaped : BoardShaped b) (s : List ℕ) where
       enabled = λ i l h e. absurd (true≢false e);
       target = λ i l h e. absurd (true≢false e);
       mode = λ i l h e. absurd (true≢false e);
-      config = λ e. absurd (true≢false e);
-      generated = λ e. absurd (true≢false e);
+      domaincfg = λ e. absurd (true≢false e);
+      genmsi = λ e. absurd (true≢false e);
       idelivery = λ h l e. absurd (true≢false e);
       iforce = λ h l e. absurd (true≢false e);
       ithreshold = λ h l e. absurd (true≢false e);

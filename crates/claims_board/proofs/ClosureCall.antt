@@ -12,7 +12,7 @@ use Rattle.files_laws.specs.Messages.{anyOf}
 use Rattle.source_mode.specs.Mode.{isActive}
 use Rattle.source_target.specs.Target.{hartOf, guestOf, numberOf}
 use Rattle.domain_delivery.specs.declared.Delivery.{Delivery}
-use Rattle.domain.specs.Domain.{Domain, configOf, isEnabled, byMessages, generatedAt}
+use Rattle.domain.specs.Domain.{Domain, domaincfgOf, isEnabled, byMessages, genmsiOf}
 use Rattle.domain.specs.Slot.{sourceAt}
 use Rattle.domain.specs.Structure.{structureAt}
 use Rattle.domain_laws.proofs.OwnEffects.{isEnabled-same, byMessages-same}
@@ -38,13 +38,13 @@ module _ {d d′ : Domain} (x : DomainPendingOnly d d′) where
   unfolding sourceAt
   same-mode i = ap (λ (ws : List ℕ). getD ws i 0) (x .source)
 
-  same-config : configOf d′ ≡ configOf d
-  unfolding configOf
-  same-config = ap (λ (ws : List ℕ). getD ws 0 0) (x .source)
+  same-domaincfg : domaincfgOf d′ ≡ domaincfgOf d
+  unfolding domaincfgOf
+  same-domaincfg = ap (λ (ws : List ℕ). getD ws 0 0) (x .source)
 
-  same-generated : generatedAt d′ ≡ generatedAt d
-  unfolding generatedAt
-  same-generated = ap (λ (ws : List ℕ). getD ws 0 0) (x .target)
+  same-genmsi : genmsiOf d′ ≡ genmsiOf d
+  unfolding genmsiOf
+  same-genmsi = ap (λ (ws : List ℕ). getD ws 0 0) (x .target)
 
   same-structure : (h : ℕ) → structureAt d′ h ≡ structureAt d h
   unfolding structureAt
@@ -63,8 +63,8 @@ module _ {d d′ : Domain} (x : DomainPendingOnly d d′) where
         enabled = λ i l h e. same-enabled i ∙ k .enabled i l h e;
         target = λ i l h e. same-target i ∙ k .target i l h e;
         mode = λ i l h e. same-mode i ∙ k .mode i l h e;
-        config = λ e. same-config ∙ k .config e;
-        generated = λ e. same-generated ∙ k .generated e;
+        domaincfg = λ e. same-domaincfg ∙ k .domaincfg e;
+        genmsi = λ e. same-genmsi ∙ k .genmsi e;
         idelivery = λ h l e. ap (λ (y : Delivery). y .idelivery) (same-structure h) ∙ k .idelivery h l e;
         iforce = λ h l e. ap (λ (y : Delivery). y .iforce) (same-structure h) ∙ k .iforce h l e;
         ithreshold = λ h l e. ap (λ (y : Delivery). y .ithreshold) (same-structure h) ∙ k .ithreshold h l e;
@@ -103,8 +103,8 @@ module _ {d d′ : Domain} (x : DomainPendingOnly d d′) (c : Bool) (i : ℕ) (
         and-second (isActive (y .mode)) (y .pending)
             (and-first (isActive (y .mode) && y .pending) (y .enabled) stands),
         left ∙ rw went (and-false (y .pending)),
-        isEnabled-same d d′ (same-config x) ∙ and-first (isEnabled d) (byMessages d) sends,
-        byMessages-same d d′ (same-config x) ∙ and-second (isEnabled d) (byMessages d) sends,
+        isEnabled-same d d′ (same-domaincfg x) ∙ and-first (isEnabled d) (byMessages d) sends,
+        byMessages-same d d′ (same-domaincfg x) ∙ and-second (isEnabled d) (byMessages d) sends,
         subst (λ (t : ℕ). anyOf (eqb (messageTo c t)) ms ≡ true) (sym (same-target x i)) (brought went),
       )
 

@@ -46,7 +46,7 @@ use Rattle.board_move_laws.proofs.MoveEffects.{move-low, move-high}
 use Rattle.board_call_laws.proofs.FileCallEffects.{number-read}
 use Rattle.claims_board.specs.Closure.{partFile, touchesFile, Claim-152, Claim-153}
 use Rattle.claims_board.proofs.ClosureSent.{Addressed, silent-step, Silent}
-use Rattle.claims_board.proofs.ClosureSent.{step-addressed, generatedBy-addressed}
+use Rattle.claims_board.proofs.ClosureSent.{step-addressed, genmsiBy-addressed}
 
 -- ---- the file and the identity that a message names
 
@@ -151,7 +151,7 @@ module _ (b : Board) (fit : Fit b) (s : List ℕ) (h f : ℕ) (lh : h < 4) (lf :
   reaches (DomainRead d a) n = by-none (DomainRead d a) (silent-step b fit s (DomainRead d a) n refl)
   reaches (DomainWrite d a v) n =
       by-messages (DomainWrite d a v) (unfold change in refl)
-      (unfold change in generatedBy-addressed (eqb d 1) (domainIn (b .wired) (eqb d 1)) (wordAt a) v)
+      (unfold change in genmsiBy-addressed (eqb d 1) (domainIn (b .wired) (eqb d 1)) (wordAt a) v)
   reaches (PageRead h f a) n = by-none (PageRead h f a) (silent-step b fit s (PageRead h f a) n refl)
   reaches (PageWrite h f a v) n = by-none (PageWrite h f a v) (silent-step b fit s (PageWrite h f a v) n refl)
   reaches (Register h f kind x v) n =

@@ -23,16 +23,16 @@ use Rattle.domain.specs.Domain.{Domain, isEnabled, byMessages}
 use Rattle.domain.specs.Slot.{sourceAt}
 use Rattle.domain_sending.specs.Sending.{sent, Sent, candidate}
 use Rattle.domain_sending.proofs.SendingLaws.{sent-off}
-use Rattle.domain_genmsi.specs.Genmsi.{generatedOf, generatedSent}
+use Rattle.domain_genmsi.specs.Genmsi.{genmsiMessage, genmsiSent}
 use Rattle.domain_sending_laws.specs.Candidates.{candidates, messageAt, numbersFrom, thoseWith}
 use Rattle.domain_sending_laws.specs.Candidates.{DomainPendingOnly}
 use Rattle.domain_sending_laws.proofs.SendingEffects.{sent-messages, sent-rest, sent-source, spent-pending}
 use Rattle.domain_sending_laws.proofs.MessageEffects.{Every, every-none, every-one, every-append}
-use Rattle.domain_sending_laws.proofs.MessageEffects.{message-names, generated-names}
+use Rattle.domain_sending_laws.proofs.MessageEffects.{message-names, genmsi-names}
 use Rattle.wired_state.specs.Wires.{Wired, domainIn}
 use Rattle.wired_rules_laws.specs.Steady.{WiredQuiet}
 use Rattle.wired_rules_laws.proofs.WiredQuietEffects.{quiet-claimedIn}
-use Rattle.wired.specs.Controller.{flushed, generatedAs, generatedBy}
+use Rattle.wired.specs.Controller.{flushed, genmsiAs, genmsiBy}
 use Rattle.board_block.specs.Block.{Board}
 use Rattle.board_block.specs.Start.{startBoard}
 use Rattle.board_block_laws.proofs.StartEffects.{start-sound}
@@ -118,8 +118,8 @@ flushed-domain w false = refl
 flushed-any : (w : Wired) (c : Bool) (p : ℕ → Bool) → anyOf p (sent c (domainIn w c) .messages) ≡ true
     → anyOf p (flushed w .messages) ≡ true
 unfolding flushed domainIn
-flushed-any w true p e = any-right p (sent false (w .root) .messages) (sent true (w .child) .messages) e
-flushed-any w false p e = any-left p (sent false (w .root) .messages) (sent true (w .child) .messages) e
+flushed-any w true p e = any-right p (sent false (w .machine) .messages) (sent true (w .child) .messages) e
+flushed-any w false p e = any-left p (sent false (w .machine) .messages) (sent true (w .child) .messages) e
 
 pub claim-151 : Claim-151
 unfolding Claim-151 step thenSent candidate messageOf logWord
@@ -190,12 +190,12 @@ module _ (c : Bool) (t : ℕ) where
     message-names c t .exists,
   )
 
-  generated-addressed : Addressed (generatedOf c t)
-  unfolding generatedOf logWord
-  generated-addressed = (
+  genmsi-addressed : Addressed (genmsiMessage c t)
+  unfolding genmsiMessage logWord
+  genmsi-addressed = (
     tested c (λ y. rw y (omega (arith, hartOf-lt t, numberOf-lt t)))
         (λ n. rw n (omega (arith, hartOf-lt t, numberOf-lt t))),
-    generated-names c t .exists,
+    genmsi-names c t .exists,
   )
 
 all-map : (P : ℕ → Type 0) (g : ℕ → ℕ) (l : List ℕ) → ((i : ℕ) → P (g i)) → Every P (map g l)
@@ -212,24 +212,24 @@ sent-addressed c d =
 flushed-addressed : (w : Wired) → Every Addressed (flushed w .messages)
 unfolding flushed
 flushed-addressed w =
-    every-append Addressed (sent false (w .root) .messages) (sent true (w .child) .messages)
-    (sent-addressed false (w .root)) (sent-addressed true (w .child))
+    every-append Addressed (sent false (w .machine) .messages) (sent true (w .child) .messages)
+    (sent-addressed false (w .machine)) (sent-addressed true (w .child))
 
-pub generatedBy-addressed : (c : Bool) (d : Domain) (r : Word) (v : ℕ) → Every Addressed (generatedBy c d r v)
-unfolding generatedBy
-generatedBy-addressed c d r v = at (roleOf r)
+pub genmsiBy-addressed : (c : Bool) (d : Domain) (r : Word) (v : ℕ) → Every Addressed (genmsiBy c d r v)
+unfolding genmsiBy
+genmsiBy-addressed c d r v = at (roleOf r)
   where
-    one : Every Addressed (generatedSent c d v)
+    one : Every Addressed (genmsiSent c d v)
     one =
-        unfold generatedSent in
-        tested (byMessages d) (λ t. rw t (every-one Addressed _ (generated-addressed c v)))
+        unfold genmsiSent in
+        tested (byMessages d) (λ t. rw t (every-one Addressed _ (genmsi-addressed c v)))
         (λ f. rw f (every-none Addressed))
 
-    at : (x : Role) → Every Addressed (generatedAs c d v x)
-    at (Claims h) = unfold generatedAs in every-none Addressed
-    at (Configures i) = unfold generatedAs in every-none Addressed
-    at Generates = unfold generatedAs in one
-    at Plain = unfold generatedAs in every-none Addressed
+    at : (x : Role) → Every Addressed (genmsiAs c d v x)
+    at (Claims h) = unfold genmsiAs in every-none Addressed
+    at (Configures i) = unfold genmsiAs in every-none Addressed
+    at Generates = unfold genmsiAs in one
+    at Plain = unfold genmsiAs in every-none Addressed
 
 pub step-addressed : (c : Call) (b : Board) (s : List ℕ) → Every Addressed (change c b s .own)
     → Every Addressed (step c b s .messages)

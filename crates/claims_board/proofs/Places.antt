@@ -12,7 +12,7 @@ use Rattle.words.proofs.SetsLaws.{member-word}
 use Rattle.file_words.specs.Stored.{fileAt}
 use Rattle.files.specs.Files.{theFile, filesOf}
 use Rattle.files.proofs.FilesLaws.{theFile-filesOf}
-use Rattle.domain.specs.Domain.{domainOf, configOf, generatedAt}
+use Rattle.domain.specs.Domain.{domainOf, domaincfgOf, genmsiOf}
 use Rattle.domain.specs.Slot.{sourceAt}
 use Rattle.domain.specs.Structure.{structureAt}
 use Rattle.words.proofs.SegmentLaws.{segment-at}
@@ -76,14 +76,14 @@ module _ (l : List ℕ) (a : ℕ) (low : a ≤ 146) where
       ∙ ap (λ (q : ℕ). getD l q 0) same
 
   domain-places : DomainPlaces l at (domainOf words)
-  unfolding configOf generatedAt sourceAt structureAt
+  unfolding domaincfgOf genmsiOf sourceAt structureAt
   domain-places =
       record {
-        config = sym (read-source words 0 (omega arith)) ∙ word-at 0 at (omega arith) (omega arith);
+        domaincfg = sym (read-source words 0 (omega arith)) ∙ word-at 0 at (omega arith) (omega arith);
         mode =
             λ i some few. sym (read-source words i (omega arith))
             ∙ word-at i (at + i) (omega arith) (omega arith);
-        generated =
+        genmsi =
             sym (read-target words 0 (omega arith)) ∙ word-at 64 (at + 64) (omega arith) (omega arith);
         target =
             λ i some few. sym (read-target words i (omega arith))

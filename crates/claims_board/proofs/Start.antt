@@ -14,7 +14,7 @@ use Rattle.words.specs.Sets.{member}
 use Rattle.file.specs.declared.File.{File}
 use Rattle.files.specs.Files.{theFile}
 use Rattle.domain_region.specs.Region.{wordAt, wordIn, nameIn, registers, addressLegal}
-use Rattle.domain.specs.Domain.{configOf, generatedAt}
+use Rattle.domain.specs.Domain.{domaincfgOf, genmsiOf}
 use Rattle.domain.specs.Slot.{sourceAt}
 use Rattle.domain.specs.Structure.{structureAt}
 use Rattle.domain_sending.proofs.SendingLaws.{logged-none}
@@ -72,11 +72,11 @@ file-start h f hart file =
     subst (FileAtStart f) (sym (theFile-startFilesFrom 0 20 k (omega arith) ∙ number)) (file-is h f file)
 
 domain-start : DomainAtStart startDomain
-unfolding startDomain configOf generatedAt sourceAt structureAt
+unfolding startDomain domaincfgOf genmsiOf sourceAt structureAt
 domain-start =
     record {
-      config = refl;
-      generated = refl;
+      domaincfg = refl;
+      genmsi = refl;
       mode = λ i l u. zeros-at 64 i;
       target = λ i l u. zeros-at 64 i;
       pending = none-in 2;
@@ -92,10 +92,10 @@ domains-start true = domain-start
 domains-start false = domain-start
 
 -- in the machine domain, and in the child
-config-reads : (c : Bool) → readIn (startBoard .wired) c (wordAt 0) ≡ 0x80000000
-unfolding startBoard startDomain domainIn registerValue configOf wordAt wordIn nameIn registers
-config-reads true = refl
-config-reads false = refl
+domaincfg-reads : (c : Bool) → readIn (startBoard .wired) c (wordAt 0) ≡ 0x80000000
+unfolding startBoard startDomain domainIn registerValue domaincfgOf wordAt wordIn nameIn registers
+domaincfg-reads true = refl
+domaincfg-reads false = refl
 
 -- ---- the call
 
@@ -130,7 +130,7 @@ module _ (l g s : List ℕ) (long : length l ≡ 650) (full : length g ≡ 63) w
         outcome-done c (blockOf startBoard) g s done,
         board-back startBoard start-shaped,
         step-domainRead startBoard d 0 s,
-      ) (refl, config-reads (eqb d 1))
+      ) (refl, domaincfg-reads (eqb d 1))
 
 pub claim-160 : Claim-160
 unfolding Claim-160 startBoard

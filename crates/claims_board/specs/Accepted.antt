@@ -1,7 +1,7 @@
 -- Claims 171 to 174, on what an accepted call answers and leaves: the numbers, the two blocks, and which file
 -- or domain it works on, and how. 01, "Calls and their refusals", "The wired controller".
 -- Premises: of 171, what is lent is `Ready` (650 words of 32 bits that keep the state rules, a log of 63
--- words, a record of numbers of 64 bits) and a register's value has 64 bits (`Small`), as all that a
+-- words, saved numbers of 64 bits) and a register's value has 64 bits (`Small`), as all that a
 -- program can pass has, and no test refuses the call; 172 has none, and 174 a hart or a word that is
 -- there; of 173, the board has 20 files and keeps the state rules, and the hart and the file are there. A
 -- reset of a block that breaks the rules is Claim-87's. No axioms.
@@ -126,12 +126,12 @@ unfoldable pub Claim-174 : Type 0
 Claim-174 =
     (b : Board) (s : List ℕ)
     → ((h : ℕ) → h < 4
-    → (step (DomainRead 0 (0x4000 + 32 * h + 0x18)) b s .value ≡ topiOf (b .wired .root) h)
+    → (step (DomainRead 0 (0x4000 + 32 * h + 0x18)) b s .value ≡ topiOf (b .wired .machine) h)
     × (step (DomainRead 1 (0x4000 + 32 * h + 0x18)) b s .value ≡ topiOf (b .wired .child) h)
-    × (step (DomainRead 0 (0x4000 + 32 * h + 0x1C)) b s .value ≡ topiOf (b .wired .root) h)
+    × (step (DomainRead 0 (0x4000 + 32 * h + 0x1C)) b s .value ≡ topiOf (b .wired .machine) h)
     × (step (DomainRead 1 (0x4000 + 32 * h + 0x1C)) b s .value ≡ topiOf (b .wired .child) h))
     × ((k n : ℕ) → k < 2 → n < 32
     → let i = 32 * k + n in
     let wires = b .wired .wires in
-    WireRead (step (DomainRead 0 (0x1D00 + 4 * k)) b s .value) n i (b .wired .root) wires
+    WireRead (step (DomainRead 0 (0x1D00 + 4 * k)) b s .value) n i (b .wired .machine) wires
     × WireRead (step (DomainRead 1 (0x1D00 + 4 * k)) b s .value) n i (b .wired .child) wires)

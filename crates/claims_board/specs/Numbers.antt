@@ -1,7 +1,8 @@
 -- Claims 115 to 117, on the numbers that a call is given: which harts, files, domains, wires, levels and
 -- kinds of access there are, which addresses and select numbers are legal, which calls test the state rules,
 -- and each of these at both ends. Of a move Claim-101 says it. 01, "The board", "Calls and their refusals".
---   AtStart c n       on the block after a reset, with a log of 63 words and any record, the call c gets n
+--   AtStart c n       on the block after a reset, with a log of 63 words and any saved numbers, the call c
+--                     gets n
 -- Premises: none; Claim-117 speaks of one block. No axioms.
 use Prim.Native.Nat.{ℕ, _%_, _≤_, _<_}
 use mathlib.Core.Path.{_≡_}

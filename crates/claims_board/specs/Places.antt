@@ -12,7 +12,7 @@ use Rattle.words.specs.Bits.{hasBit}
 use Rattle.words.specs.Sets.{member}
 use Rattle.file.specs.declared.File.{File}
 use Rattle.files.specs.Files.{theFile}
-use Rattle.domain.specs.Domain.{Domain, configOf, generatedAt}
+use Rattle.domain.specs.Domain.{Domain, domaincfgOf, genmsiOf}
 use Rattle.domain.specs.Slot.{sourceAt}
 use Rattle.domain.specs.Structure.{structureAt}
 use Rattle.wired_state.specs.Wires.{domainIn}
@@ -25,9 +25,9 @@ pub record FilePlaces (l : List ℕ) (at : ℕ) (x : File) : Type 0 where
   pub enable : (i : ℕ) → i ≤ 255 → member (x .enable) i ≡ hasBit (getD l (at + 10 + i / 32) 0) (i % 32)
 
 pub record DomainPlaces (l : List ℕ) (at : ℕ) (d : Domain) : Type 0 where
-  pub config : configOf d ≡ getD l at 0
+  pub domaincfg : domaincfgOf d ≡ getD l at 0
   pub mode : (i : ℕ) → 1 ≤ i → i ≤ 63 → sourceAt d i .mode ≡ getD l (at + i) 0
-  pub generated : generatedAt d ≡ getD l (at + 64) 0
+  pub genmsi : genmsiOf d ≡ getD l (at + 64) 0
   pub target : (i : ℕ) → 1 ≤ i → i ≤ 63 → sourceAt d i .target ≡ getD l (at + 64 + i) 0
   pub pending : (i : ℕ) → i ≤ 63 → member (d .pending) i ≡ hasBit (getD l (at + 128 + i / 32) 0) (i % 32)
   pub enable : (i : ℕ) → i ≤ 63 → member (d .enable) i ≡ hasBit (getD l (at + 130 + i / 32) 0) (i % 32)

@@ -11,7 +11,7 @@ use lib.ListN.{length}
 use Rattle.words.specs.Sets.{member}
 use Rattle.file.specs.declared.File.{File}
 use Rattle.files.specs.Files.{theFile}
-use Rattle.domain.specs.Domain.{Domain, configOf, generatedAt}
+use Rattle.domain.specs.Domain.{Domain, domaincfgOf, genmsiOf}
 use Rattle.domain.specs.Slot.{sourceAt}
 use Rattle.domain.specs.Structure.{structureAt}
 use Rattle.wired_state.specs.Wires.{domainIn}
@@ -29,8 +29,8 @@ pub record FileAtStart (f : ℕ) (x : File) : Type 0 where
   pub enable : (i : ℕ) → member (x .enable) i ≡ false
 
 pub record DomainAtStart (d : Domain) : Type 0 where
-  pub config : configOf d ≡ 0
-  pub generated : generatedAt d ≡ 0
+  pub domaincfg : domaincfgOf d ≡ 0
+  pub genmsi : genmsiOf d ≡ 0
   pub mode : (i : ℕ) → 1 ≤ i → i ≤ 63 → sourceAt d i .mode ≡ 0
   pub target : (i : ℕ) → 1 ≤ i → i ≤ 63 → sourceAt d i .target ≡ 0
   pub pending : (i : ℕ) → sourceAt d i .pending ≡ false
@@ -39,9 +39,9 @@ pub record DomainAtStart (d : Domain) : Type 0 where
   pub iforce : (h : ℕ) → h < 4 → structureAt d h .iforce ≡ 0
   pub ithreshold : (h : ℕ) → h < 4 → structureAt d h .ithreshold ≡ 0
 
--- reset answers 0, sends nothing and leaves the log and any record. On what it leaves no call is refused for
--- its blocks, domaincfg reads 0x80000000 in both domains, delivery is 0x40000000 in files 0 and 1 of each
--- hart, the wires are low, and everything else is 0
+-- reset answers 0, sends nothing and leaves the log and any saved numbers. On what it leaves no call is
+-- refused for its blocks, domaincfg reads 0x80000000 in both domains, delivery is 0x40000000 in files 0 and 1
+-- of each hart, the wires are low, and everything else is 0
 -- [01 C20 R9 R10]
 unfoldable pub Claim-160 : Type 0
 Claim-160 =

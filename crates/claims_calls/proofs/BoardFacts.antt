@@ -16,7 +16,7 @@ use Rattle.files.proofs.FilesLaws.{theFile-withFile-other}
 use Rattle.domain_region.specs.Region.{addressLegal}
 use Rattle.board_block.specs.Block.{Board, boardOf, blockOf, boardSound}
 use Rattle.board_block.specs.Start.{startDomain, startBoard}
-use Rattle.domain.specs.Domain.{configOf, byMessages}
+use Rattle.domain.specs.Domain.{domaincfgOf, byMessages}
 use Rattle.words.specs.Bits.{bitOf, hasBit}
 use Rattle.board_block_laws.proofs.BlockBack.{board-back, length-blockOf}
 use Rattle.board_block_laws.proofs.StartEffects.{start-sound, start-shaped}
@@ -34,10 +34,10 @@ use Rattle.board_call.specs.Outcome.{Stepped, thenSent, step}
 use Rattle.board_call_laws.proofs.StepEffects.{step-onFile, step-answering}
 use Rattle.board_runs.specs.Ready.{boardIn}
 use Rattle.board_runs.proofs.RunsEffects.{ready-refusal}
-use Rattle.transfer_laws.specs.Premises.{ByMessages}
-use Rattle.transfer_laws.proofs.ShiftEffects.{started-ready}
-use Rattle.transfer_cases.specs.Example.{start as shift-start}
-use Rattle.transfer_cases.proofs.ExampleShift.{example}
+use Rattle.move_laws.specs.Premises.{ByMessages}
+use Rattle.move_laws.proofs.ShiftEffects.{started-ready}
+use Rattle.move_cases.specs.Example.{start as shift-start}
+use Rattle.move_cases.proofs.ExampleShift.{example}
 use Rattle.monitor_answer.specs.declared.VskAnswer.{VskAnswer}
 use Rattle.monitor_answer.proofs.ToldLaws.{told-one}
 use Rattle.claims_calls.specs.BoardCalls.{Passes, Claim-84}
@@ -130,7 +130,7 @@ module _ (c : Call) where
 
 -- after a reset the child domain is in direct mode
 direct : present (Move 0 2 1 3 1) (boardOf start) ≡ false
-unfolding rowOf isMove isGuestFile startBoard startDomain byMessages configOf hasBit bitOf
+unfolding rowOf isMove isGuestFile startBoard startDomain byMessages domaincfgOf hasBit bitOf
 direct = ap (λ (b : Board). byMessages (b .wired .child)) (board-back startBoard start-shaped)
 
 -- the shift of Claim-111 starts with a child domain that sends messages

@@ -44,8 +44,8 @@ use Rattle.board.proofs.apply.Statement as apply-code
 
 -- ---- nothing is asked
 
--- nothing is asked of a caller, for any numbers, any blocks and any record: each call, and the function of C
--- that makes it, may be called; of an access of a move Claim-100 says it
+-- nothing is asked of a caller, for any numbers, any blocks and any saved numbers: each call, and the
+-- function of C that makes it, may be called; of an access of a move Claim-100 says it
 unfoldable pub Claim-113 : Type 0
 Claim-113 =
     (b g : RefT (List ℕ))

@@ -4,10 +4,10 @@
 -- That the code meets the contracts that 80 to 82 and 90 speak of is what the check of its crate proves, and
 -- for `apply` and the functions of C Claim-114.
 -- Premises: of claims 80 to 82 and 90 what the contract ensures, `X.Learnt`, for which nothing is asked
--- (Claim-113); of Claim-86 a block of words of 32 bits that keep the rules (`WordsFit`), a value and a record
--- of 64 bits (`Small`, `SavedFit`), as every block, value and record of a program is, and that the call is
--- accepted; of Claim-88 650 words, or a board with its lengths (`BoardShaped`); of Claim-89 a file 0 to 4.
--- The others have none. No axioms.
+-- (Claim-113); of Claim-86 a block of words of 32 bits that keep the rules (`WordsFit`), a value and saved
+-- numbers of 64 bits (`Small`, `SavedFit`), as every block, value and saved number of a program is, and that
+-- the call is accepted; of Claim-88 650 words, or a board with its lengths (`BoardShaped`); of Claim-89 a
+-- file 0 to 4. The others have none. No axioms.
 use Prim.Native.Nat.{ℕ, _≤_, _<_}
 use mathlib.Core.Path.{_≡_}
 use mathlib.Core.Bool.{true, false}
@@ -100,7 +100,8 @@ Claim-90 =
     → apply.Learnt l (b, (g, (s, (c, tt)))) r (b′, (g′, (s′, (c, tt))))
     → Gives (outcome c (now b) (now g) (now s)) r (now b′) (now g′) (now s′)
 
--- two results that a call's contract allows are equal: the answer, both blocks and the record of a move
+-- two results that a call's contract allows are equal: the answer, both blocks and the saved numbers of a
+-- move
 -- [01 X3]
 unfoldable pub Claim-83 : Type 0
 Claim-83 =
@@ -128,7 +129,7 @@ Claim-84 =
     × (Passes c l g → present c b ≡ true → addressed c ≡ true → selected c ≡ false → refusalOf c l g ≡ 6)
     × (Passes c l g → present c b ≡ true → addressed c ≡ true → selected c ≡ true → refusalOf c l g ≡ 0)
 
--- a refused call answers its number, 0 and 0, and changes neither block, nor the record of a move
+-- a refused call answers its number, 0 and 0, and changes neither block, nor the saved numbers of a move
 -- [01 C19 V4]
 unfoldable pub Claim-85 : Type 0
 Claim-85 =
@@ -138,9 +139,9 @@ Claim-85 =
 
 -- ---- what an accepted call leaves
 
--- given a block of words of 32 bits that keep the rules, a value of 64 bits and a record of such, an accepted
--- call leaves a board that keeps the state rules and has its lengths, words of 32 bits in its files and a
--- record of numbers of 64 bits, and sends at most 63 messages
+-- given a block of words of 32 bits that keep the rules, a value and saved numbers of 64 bits, an accepted
+-- call leaves a board that keeps the state rules and has its lengths, words of 32 bits in its files and
+-- saved numbers of 64 bits, and sends at most 63 messages
 unfoldable pub Claim-86 : Type 0
 Claim-86 =
     (l g s : List ℕ) → WordsFit l → SavedFit s → (c : Call) → Small c → boardSound (boardOf l) ≡ true

@@ -119,7 +119,7 @@ Claim-93 =
     → Tells (Signals h) (now b) (now g) r (now b′) (now g′))
 
 -- two results that the contract of a function that C calls allows are equal: the refusal, the value and the
--- count, both blocks and the record of a move
+-- count, both blocks and the saved numbers of a move
 -- [01 X3]
 unfoldable pub Claim-162 : Type 0
 Claim-162 =

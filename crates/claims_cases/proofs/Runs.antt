@@ -1,6 +1,6 @@
 -- Claim 163: a run is computed on boards and not on blocks; that it is ready for the next call is shown once
 -- for every run. Assumes nothing.
---   Held              the board, the log and the record of what is lent
+--   Held              the board, the log and the saved numbers of what is lent
 --   stepOn c y        what the call c makes of them: refused, it leaves them
 --   boardRun cs y     what the calls cs make of them, in order
 --   answersOn c y     what the call c answers: refusal, value, count, and the first word of the log
@@ -31,12 +31,12 @@ use Rattle.source.specs.Pending.{settled, pended, cleared, switched, changed, m
 use Rattle.source.specs.Pending.{retargeted}
 use Rattle.domain_region.specs.Region.{addressLegal, registers, nameIn, wordIn, wordAt}
 use Rattle.domain_delivery.specs.Delivery.{lets}
-use Rattle.domain.specs.Domain.{configOf, isEnabled, byMessages, generatedAt, withConfig, withGenerated}
+use Rattle.domain.specs.Domain.{domaincfgOf, isEnabled, byMessages, genmsiOf, withDomaincfg, withGenmsi}
 use Rattle.domain.specs.Slot.{sourceAt, withSource}
 use Rattle.domain.specs.Structure.{structureAt, withStructure}
 use Rattle.domain_writes.specs.Writes.{numberChanged, changedAt, targetWritten}
-use Rattle.domain_config.specs.Config.{keptConfig, redeliveredAt, redeliveredFrom, modeSettled}
-use Rattle.domain_config.specs.Config.{configWritten}
+use Rattle.domain_domaincfg.specs.Domaincfg.{keptDomaincfg, redeliveredAt, redeliveredFrom, modeSettled}
+use Rattle.domain_domaincfg.specs.Domaincfg.{domaincfgWritten}
 use Rattle.domain_sending.specs.Sending.{candidate, servedAt, messagesAt, sentFrom, sent, logged}
 use Rattle.domain_topi.specs.Top.{standing, eligible, precedes, topFrom, topSource, topiOf}
 use Rattle.domain_direct.specs.Direct.{unforced, released, hartClaimed}
@@ -44,9 +44,9 @@ use Rattle.domain_values.specs.Values.{registerValue}
 use Rattle.domain_registers.specs.Read.{claimedAs, claimedBy}
 use Rattle.domain_registers.specs.Write.{registerWritten}
 use Rattle.wired_state.specs.Wires.{domainIn, withDomain, isDelegated}
-use Rattle.wired_sourcecfg.specs.Delegation.{sourceModed, childWritten, rootWritten, sourceWritten}
+use Rattle.wired_sourcecfg.specs.Delegation.{sourceModed, childWritten, machineWritten, sourceWritten}
 use Rattle.wired_registers.specs.Wired.{writtenAs, writtenIn}
-use Rattle.wired.specs.Controller.{flushed, generatedAs, generatedBy}
+use Rattle.wired.specs.Controller.{flushed, genmsiAs, genmsiBy}
 use Rattle.board_block.specs.Start.{startFile, startFilesFrom, startDomain, startBoard}
 use Rattle.board_block.specs.Block.{Board, blockOf}
 use Rattle.board_block_laws.proofs.BlockBack.{board-back, length-blockOf}
@@ -94,12 +94,12 @@ unfolding bitOf hasBit withBit withoutBit member insert remove put low high join
     identityIn fileNumber isGuest theFile withFile namedBy reached allReached isActive isLevel
     isRectified keptMode sourceWord hartOf guestOf numberOf startTarget priorityOf receiverOf keptTarget
     messageOf settled pended cleared switched changed moded redelivered retargeted lets addressLegal
-    registers nameIn wordIn wordAt configOf isEnabled byMessages generatedAt withConfig withGenerated
-    sourceAt withSource structureAt withStructure numberChanged changedAt targetWritten keptConfig
-    redeliveredAt redeliveredFrom modeSettled configWritten candidate servedAt messagesAt sentFrom sent
+    registers nameIn wordIn wordAt domaincfgOf isEnabled byMessages genmsiOf withDomaincfg withGenmsi
+    sourceAt withSource structureAt withStructure numberChanged changedAt targetWritten keptDomaincfg
+    redeliveredAt redeliveredFrom modeSettled domaincfgWritten candidate servedAt messagesAt sentFrom sent
     logged standing eligible precedes topFrom topSource topiOf unforced released hartClaimed
     registerValue claimedAs claimedBy registerWritten domainIn withDomain isDelegated sourceModed
-    childWritten rootWritten sourceWritten writtenAs writtenIn flushed generatedAs generatedBy startFile
+    childWritten machineWritten sourceWritten writtenAs writtenIn flushed genmsiAs genmsiBy startFile
     startFilesFrom startDomain startBoard kindOf change isFile isPageAddress rowOf firstFailed nameTests
     nameRefusalBy thenSent step
 answersOn c y =

@@ -19,10 +19,11 @@ use Rattle.file_message.specs.Message.{logWord}
 use Rattle.source_target.specs.Target.{hartOf, guestOf, numberOf, receiverOf, keptTarget, messageOf}
 use Rattle.domain_delivery.specs.Delivery.{lets}
 use Rattle.source.specs.Pending.{redelivered}
-use Rattle.domain.specs.Domain.{configOf, byMessages, withConfig, withGenerated}
+use Rattle.domain.specs.Domain.{domaincfgOf, byMessages, withDomaincfg, withGenmsi}
 use Rattle.domain.specs.Slot.{sourceAt, withSource}
 use Rattle.domain.specs.Structure.{structureAt}
-use Rattle.domain_config.specs.Config.{keptConfig, redeliveredAt, redeliveredFrom, modeSettled, configWritten}
+use Rattle.domain_domaincfg.specs.Domaincfg.{keptDomaincfg, redeliveredAt, redeliveredFrom, modeSettled}
+use Rattle.domain_domaincfg.specs.Domaincfg.{domaincfgWritten}
 use Rattle.domain_direct.specs.Direct.{standing, eligible, precedes, topFrom, topSource, topiOf}
 use Rattle.domain_registers.specs.Read.{registerValue as readOf}
 use Rattle.domain_region.specs.Region.{wordAt, wordIn, nameIn, registers, addressLegal}
@@ -34,9 +35,9 @@ use Rattle.claims_cases.specs.Table.{Claim-170, table, same, holds}
 pub table-holds : holds table ≡ true
 unfolding holds table same topOf topIdentity lowest qualifies passes member hasBit bitOf pageWritten
     arrived insert withBit reversed fileWords accessed accessedAt selectLegal registerOf held topiOf
-    topSource topFrom standing eligible precedes lets structureAt sourceAt byMessages configOf hartOf
-    guestOf numberOf fieldOf keptTarget receiverOf packed messageOf logWord readOf configWritten
-    modeSettled keptConfig withConfig withGenerated redeliveredFrom redeliveredAt redelivered withSource
+    topSource topFrom standing eligible precedes lets structureAt sourceAt byMessages domaincfgOf hartOf
+    guestOf numberOf fieldOf keptTarget receiverOf packed messageOf logWord readOf domaincfgWritten
+    modeSettled keptDomaincfg withDomaincfg withGenmsi redeliveredFrom redeliveredAt redelivered withSource
     isActive put remove withoutBit wordAt wordIn nameIn registers nameRefusalBy nameTests firstFailed
     rowOf addressLegal
 table-holds = refl

@@ -1,6 +1,6 @@
 -- Claim 163: the table cases of the paper, T1 to T11, by whole calls: what the last call of a run answers, on
 -- the block after a reset. 01, "Table cases", "Calls and their refusals".
---   atStart           the block after a reset, a log of 63 zeros and a record of ten
+--   atStart           the block after a reset, a log of 63 zeros and ten as the saved numbers
 --   answered cs c     what the call c answers after the calls cs: refusal, value, count, and then the first
 --                     word of the log
 --   fiveAndNineAt t   identities 5 and 9 enabled and sent to guest file 1 of hart 0, and its threshold t

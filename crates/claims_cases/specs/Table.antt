@@ -20,7 +20,7 @@ use Rattle.domain_region.specs.declared.Word.the-variants.{Domaincfg}
 use Rattle.domain_region.specs.declared.role.Role.{Role}
 use Rattle.domain_region.specs.declared.role.Role.the-variants.{Claims, Configures, Generates, Plain}
 use Rattle.domain.specs.Domain.{Domain}
-use Rattle.domain_config.specs.Config.{configWritten}
+use Rattle.domain_domaincfg.specs.Domaincfg.{domaincfgWritten}
 use Rattle.domain_direct.specs.Direct.{topiOf}
 use Rattle.domain_region.specs.Region.{wordAt}
 use Rattle.domain_region.specs.Role.{roleOf}
@@ -97,7 +97,7 @@ table =
     }
     ∷ record {
       case = 9;
-      given = readOf (configWritten quiet wires 0x104) wires Domaincfg ∷ [];
+      given = readOf (domaincfgWritten quiet wires 0x104) wires Domaincfg ∷ [];
       says = 0x80000104 ∷ [];
     }
     ∷ record { case = 10; given = claimHarts (roleOf (wordAt 0x407C)); says = 3 ∷ [] }

@@ -12,7 +12,7 @@ use Rattle.source.specs.declared.Source.{Source}
 use Rattle.domain_delivery.specs.declared.Delivery.{Delivery}
 use Rattle.words.specs.Threshold.{passes}
 use Rattle.domain_delivery.specs.Delivery.{lets}
-use Rattle.domain.specs.Domain.{Domain, configOf, generatedAt}
+use Rattle.domain.specs.Domain.{Domain, domaincfgOf, genmsiOf}
 use Rattle.domain.specs.Slot.{sourceAt}
 use Rattle.domain.specs.Structure.{structureAt}
 use Rattle.domain_direct.specs.Direct.{standing, eligible, topSource, hartClaimed}
@@ -88,8 +88,8 @@ claim-48 d h i =
 
 -- domaincfg and genmsi stand in the places of a source 0
 own-same : (d e : Domain) → sourceAt e 0 ≡ sourceAt d 0
-    → (configOf e ≡ configOf d) × (generatedAt e ≡ generatedAt d)
-unfolding configOf generatedAt sourceAt
+    → (domaincfgOf e ≡ domaincfgOf d) × (genmsiOf e ≡ genmsiOf d)
+unfolding domaincfgOf genmsiOf sourceAt
 own-same d e z = (ap (λ (s : Source). s .mode) z, ap (λ (s : Source). s .target) z)
 
 pub claim-49 : Claim-49

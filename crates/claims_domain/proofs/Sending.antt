@@ -1,10 +1,10 @@
 -- Claims 50 to 54, from the laws of sending. Assumes nothing.
 use mathlib.Core.Path.{ap}
 use Rattle.file_message.specs.Message.{logWord}
-use Rattle.domain_genmsi.specs.Genmsi.{generatedOf}
+use Rattle.domain_genmsi.specs.Genmsi.{genmsiMessage}
 use Rattle.domain_sending.specs.Sending.{Sent}
 use Rattle.domain_sending.proofs.SendingLaws.{sent-off}
-use Rattle.domain_genmsi.proofs.GenmsiLaws.{generated-on, generated-off}
+use Rattle.domain_genmsi.proofs.GenmsiLaws.{genmsi-on, genmsi-off}
 use Rattle.domain_sending_laws.proofs.SendingEffects.{sent-count, sent-rest, sent-quiet, sent-pending}
 use Rattle.domain_sending_laws.proofs.SendingEffects.{sent-messages}
 use Rattle.domain_sending_laws.proofs.MessageEffects.{sent-named}
@@ -31,5 +31,5 @@ unfolding Claim-53
 claim-53 c d = (sent-rest c d, λ on i l h. sent-pending c d on i l h)
 
 pub claim-54 : Claim-54
-unfolding Claim-54 generatedOf logWord
-claim-54 c d v = (generated-on c d v, generated-off c d v)
+unfolding Claim-54 genmsiMessage logWord
+claim-54 c d v = (genmsi-on c d v, genmsi-off c d v)

@@ -12,7 +12,7 @@ use Rattle.source_mode.specs.Mode.{isLevel}
 use Rattle.source_target.specs.Target.{hartOf, numberOf}
 use Rattle.source.specs.Pending.{withPending}
 use Rattle.domain_delivery.specs.Delivery.{withoutForce}
-use Rattle.domain.specs.Domain.{Domain, configOf, isEnabled, byMessages, generatedAt}
+use Rattle.domain.specs.Domain.{Domain, domaincfgOf, isEnabled, byMessages, genmsiOf}
 use Rattle.domain.specs.Slot.{sourceAt}
 use Rattle.domain.specs.Structure.{structureAt, withStructure}
 use Rattle.domain_laws.specs.Shape.{DomainShaped}
@@ -79,7 +79,7 @@ Claim-48 =
 unfoldable pub Claim-49 : Type 0
 Claim-49 =
     (d : Domain) (h : ℕ) → DomainShaped d → byMessages d ≡ false → topiOf d h ≢ 0
-    → (configOf (hartClaimed d h) ≡ configOf d) × (generatedAt (hartClaimed d h) ≡ generatedAt d)
+    → (domaincfgOf (hartClaimed d h) ≡ domaincfgOf d) × (genmsiOf (hartClaimed d h) ≡ genmsiOf d)
     × ((g : ℕ) → structureAt (hartClaimed d h) g ≡ structureAt d g)
     × ((j : ℕ) → j ≢ topSource d h → sourceAt (hartClaimed d h) j ≡ sourceAt d j)
     × (let top = sourceAt d (topSource d h) in let after = sourceAt (hartClaimed d h) (topSource d h) in

@@ -15,7 +15,7 @@ use Rattle.source_target.specs.Target.{hartOf, numberOf}
 use Rattle.domain.specs.Domain.{Domain, isEnabled, byMessages}
 use Rattle.domain.specs.Slot.{sourceAt}
 use Rattle.domain_sending.specs.Sending.{candidate, sent}
-use Rattle.domain_genmsi.specs.Genmsi.{generatedSent}
+use Rattle.domain_genmsi.specs.Genmsi.{genmsiSent}
 use Rattle.files_laws.specs.Messages.{anyOf}
 use Rattle.domain_sending_laws.specs.Candidates.{candidates, messageAt, DomainPendingOnly, Names}
 
@@ -69,5 +69,5 @@ Claim-53 =
 unfoldable pub Claim-54 : Type 0
 Claim-54 =
     (c : Bool) (d : Domain) (v : ℕ)
-    → (byMessages d ≡ true → generatedSent c d v ≡ (hartOf v * 2048 + cond c 1 0 * 256 + numberOf v) ∷ [])
-    × (byMessages d ≡ false → generatedSent c d v ≡ [])
+    → (byMessages d ≡ true → genmsiSent c d v ≡ (hartOf v * 2048 + cond c 1 0 * 256 + numberOf v) ∷ [])
+    × (byMessages d ≡ false → genmsiSent c d v ≡ [])

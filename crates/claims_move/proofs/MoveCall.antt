@@ -23,7 +23,7 @@ use Rattle.file.specs.Shape.{Shaped}
 use Rattle.file.proofs.RegisterLaws.{written-illegal}
 use Rattle.source_target.specs.Target.{hartOf, guestOf}
 use Rattle.source.specs.declared.Source.{Source}
-use Rattle.domain.specs.Domain.{byMessages, generatedAt}
+use Rattle.domain.specs.Domain.{byMessages, genmsiOf}
 use Rattle.domain.specs.Slot.{sourceAt}
 use Rattle.wired_state.specs.Wires.{Wired}
 use Rattle.files.specs.Files.{fileNumber, theFile}
@@ -54,13 +54,13 @@ use Rattle.board_call_laws.proofs.FitEffects.{fit-steady, fit-rules}
 use Rattle.board_move_laws.proofs.MoveEffects.{guest-hart, guest-low, guest-high, guest-number, move-old}
 use Rattle.board_move_laws.proofs.MoveEffects.{move-new}
 use Rattle.board_move_laws.proofs.MoveEffects.{move-apart, move-low, move-high, step-move}
-use Rattle.transfer_laws.proofs.ArrivalEffects.{three}
-use Rattle.transfer_laws.proofs.ActedEffects.{acted-three, acted-others, acted-wired}
-use Rattle.transfer_laws.proofs.ActedEffects as board
+use Rattle.move_laws.proofs.ArrivalEffects.{three}
+use Rattle.move_laws.proofs.ActedEffects.{acted-three, acted-others, acted-wired}
+use Rattle.move_laws.proofs.ActedEffects as board
 use Rattle.claims_move.specs.MoveCall.{Renamed}
 use Rattle.claims_move.specs.MoveCall.{Claim-100, Claim-101, Claim-102, Claim-103}
 use Rattle.claims_move.proofs.MoveParts.{word-of, word-read, became-cleared, became-set}
-use Rattle.claims_move.proofs.MoveParts.{became-written, renames, next-other, next-generated}
+use Rattle.claims_move.proofs.MoveParts.{became-written, renames, next-other, next-genmsi}
 use Rattle.claims_move.proofs.MoveParts.{next-own}
 
 pub claim-100 : Claim-100
@@ -162,7 +162,7 @@ module _ (b : Board) (fit : Fit b) (oh of nh nf n : ℕ) (there : isMove oh of n
   is-after : x ≡ after
   is-after = step-move b fit oh of nh nf n there s
 
-  -- old, new and the record after the access
+  -- old, new and the saved numbers after the access
   abbrev Leaves : Three → Type 0
   Leaves y =
       (theFile (x .board .files) old ≡ y .old) × (theFile (x .board .files) new ≡ y .new)
@@ -237,7 +237,7 @@ module _ (b : Board) (fit : Fit b) (oh of nh nf n : ℕ) (there : isMove oh of n
         written-illegal identities true f v (legal-other true v h),
       ))
 
-  -- whatever delivery is saved, access 89 leaves old and the record
+  -- whatever delivery is saved, access 89 leaves old and the saved numbers
   switched : n ≡ 89 → (theFile (x .board .files) old ≡ o) × (x .saved ≡ s)
   switched e = at (decLt (getD s 0 0) 2)
     where
@@ -285,11 +285,11 @@ module _ (b : Board) (fit : Fit b) (oh of nh nf n : ℕ) (there : isMove oh of n
       wired-cases (λ c e. rw e (only-start w))
       (λ l h e. rw e (retargeted-only oh of nh nf w (n - 8) (only-start w)))
 
-  generated : generatedAt (w′ .child) ≡ generatedAt (w .child)
-  generated =
-      wired-cases (λ c e. ap (λ (z : Wired). generatedAt (z .child)) e)
-      (λ l h e. ap (λ (z : Wired). generatedAt (z .child)) e
-      ∙ next-generated oh of nh nf w (n - 8) (omega arith))
+  genmsi : genmsiOf (w′ .child) ≡ genmsiOf (w .child)
+  genmsi =
+      wired-cases (λ c e. ap (λ (z : Wired). genmsiOf (z .child)) e)
+      (λ l h e. ap (λ (z : Wired). genmsiOf (z .child)) e
+      ∙ next-genmsi oh of nh nf w (n - 8) (omega arith))
 
   module _ (i : ℕ) (l : 1 ≤ i) (h : i ≤ 63) where
     abbrev t : ℕ
@@ -371,11 +371,11 @@ claim-103 b fit oh of nh nf n there s =
       ap (λ (z : Stepped). z .messages) e,
       others b fit oh of nh nf n there s,
       r .wires,
-      r .root,
+      r .machine,
       r .source,
       r .pending,
       r .enable,
       r .delivery,
-      generated b fit oh of nh nf n there s,
+      genmsi b fit oh of nh nf n there s,
       (λ i l h. (rewritten b fit oh of nh nf n there s i l h, kept b fit oh of nh nf n there s i l h)),
     )

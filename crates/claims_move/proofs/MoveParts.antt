@@ -31,7 +31,7 @@ use Rattle.source_target.proofs.TargetLaws.{numberOf-lt, kept-first, kept-prior
 use Rattle.source.specs.declared.Source.{Source}
 use Rattle.source.proofs.PendingLaws.{retargeted-active}
 use Rattle.source_laws.proofs.SteadyParts.{steady-target}
-use Rattle.domain.specs.Domain.{byMessages, generatedAt}
+use Rattle.domain.specs.Domain.{byMessages, genmsiOf}
 use Rattle.domain.specs.Slot.{sourceAt}
 use Rattle.wired_state.specs.Wires.{Wired, domainIn}
 use Rattle.wired_rules_laws.specs.Steady.{WiredSteady}
@@ -178,9 +178,9 @@ module _ (oh of nh nf : ℕ) (w : Wired) (i : ℕ) where
       ∙ target-other w true i (renamed here nh nf) j d)
       (λ e. ap (λ (z : Wired). sourceAt (z .child) j) (next-miss oh of nh nf w i e))
 
-  pub next-generated : 1 ≤ i → generatedAt (next .child) ≡ generatedAt (w .child)
-  unfolding generatedAt sourceAt
-  next-generated l = ap (λ (z : Source). z .target) (next-other 0 (λ q. omega arith))
+  pub next-genmsi : 1 ≤ i → genmsiOf (next .child) ≡ genmsiOf (w .child)
+  unfolding genmsiOf sourceAt
+  next-genmsi l = ap (λ (z : Source). z .target) (next-other 0 (λ q. omega arith))
 
   module _ (s : WiredSteady w) (l : 1 ≤ i) (h : i < 64) (lo : 2 ≤ of)
       (names : namesFile here oh of ≡ true) where

@@ -22,10 +22,10 @@ use Rattle.board_call_laws.proofs.FitEffects.{fit-block}
 use Rattle.board_move_laws.proofs.MoveEffects.{guest-hart, guest-low, guest-high}
 use Rattle.board_runs.specs.Runs.{Lent, outcomeOn, after, ran}
 use Rattle.board_runs.specs.Ready.{boardIn}
-use Rattle.transfer_laws.specs.Shift.{Stations, Event, accessOf, withMove, withoutMove}
-use Rattle.transfer_laws.specs.Premises.{TwoGuests, ByMessages, NoneNamesNew, accessesIn}
-use Rattle.transfer_laws.specs.Premises.{AllAccesses, PagesKept}
-use Rattle.transfer_laws.specs.Moved.{AccessesDone}
+use Rattle.move_laws.specs.Shift.{Stations, Event, accessOf, withMove, withoutMove}
+use Rattle.move_laws.specs.Premises.{TwoGuests, ByMessages, NoneNamesNew, accessesIn}
+use Rattle.move_laws.specs.Premises.{AllAccesses, PagesKept}
+use Rattle.move_laws.specs.Moved.{AccessesDone}
 use Rattle.claims_registers.proofs.Registers.{active-iff}
 use Rattle.claims_move.specs.Premises.{Claim-175, Claim-178}
 use Rattle.claims_move.proofs.MoveCall.{guest-joined}
@@ -98,14 +98,14 @@ claim-175 m x es c cs n j level h f a v =
       ),
       ((λ p. p), (λ p. p)),
       (
-        (λ s. (s .block, s .words, s .rules, s .log, s .record-long, s .record-fit)),
+        (λ s. (s .block, s .words, s .rules, s .log, s .saved-long, s .saved-fit)),
         (λ p. record {
           block = p .0;
           words = p .1;
           rules = p .2;
           log = p .3;
-          record-long = p .4;
-          record-fit = p .5;
+          saved-long = p .4;
+          saved-fit = p .5;
         }),
       ),
       ((λ p. p), (λ p. p)),

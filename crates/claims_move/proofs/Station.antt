@@ -18,20 +18,20 @@ use Rattle.board_runs.specs.Ready.{boardIn}
 use Rattle.board_runs.specs.Reading.{onlyReads}
 use Rattle.board_runs.proofs.RunsEffects.{ready-refusal, after-refused, after-board, after-saved, ready-after}
 use Rattle.board_runs.proofs.ReadingEffects.{reads-word, after-read, ran-storing}
-use Rattle.transfer_laws.specs.Shift.{Stations, Event, withMove, withoutMove}
-use Rattle.transfer_laws.specs.Premises.{Started, TwoGuests, ByMessages, NoneNamesNew, AllAccesses, PagesKept}
-use Rattle.transfer_laws.specs.Premises.{Premises}
-use Rattle.transfer_laws.specs.Moved.{newNumber, oldIn, newIn, Moved, MoveKeeps, MoveDone}
-use Rattle.transfer_laws.specs.After.{FileCall, SameSignal, MoveLeaves}
-use Rattle.transfer_laws.proofs.Invariant.{new-lt}
-use Rattle.transfer_laws.proofs.ShiftEffects.{move-beside, move-keeps, move-done}
-use Rattle.transfer_laws.proofs.AfterEffects.{said-same, file-same, claim-said, claim-left, goes-on}
-use Rattle.transfer_laws.proofs.AfterEffects.{same-signal}
-use Rattle.transfer_laws.proofs.LeftEffects.{wire-leaves, move-leaves}
-use Rattle.transfer_cases.proofs.ExampleShift.{example}
-use Rattle.transfer_cases.proofs.NeededShifts.{pages-are, needs-all, needs-pages-new, needs-pages-old}
-use Rattle.transfer_cases.proofs.NeededShifts.{needs-fresh, needs-messages, needs-guest-old, needs-guest-new}
-use Rattle.transfer_cases.proofs.NeededShifts.{needs-started}
+use Rattle.move_laws.specs.Shift.{Stations, Event, withMove, withoutMove}
+use Rattle.move_laws.specs.Premises.{Started, TwoGuests, ByMessages, NoneNamesNew, AllAccesses, PagesKept}
+use Rattle.move_laws.specs.Premises.{Premises}
+use Rattle.move_laws.specs.Moved.{newNumber, oldIn, newIn, Moved, MoveKeeps, MoveDone}
+use Rattle.move_laws.specs.After.{FileCall, SameSignal, MoveLeaves}
+use Rattle.move_laws.proofs.Invariant.{new-lt}
+use Rattle.move_laws.proofs.ShiftEffects.{move-beside, move-keeps, move-done}
+use Rattle.move_laws.proofs.AfterEffects.{said-same, file-same, claim-said, claim-left, goes-on}
+use Rattle.move_laws.proofs.AfterEffects.{same-signal}
+use Rattle.move_laws.proofs.LeftEffects.{wire-leaves, move-leaves}
+use Rattle.move_cases.proofs.ExampleShift.{example}
+use Rattle.move_cases.proofs.NeededShifts.{pages-are, needs-all, needs-pages-new, needs-pages-old}
+use Rattle.move_cases.proofs.NeededShifts.{needs-fresh, needs-messages, needs-guest-old, needs-guest-new}
+use Rattle.move_cases.proofs.NeededShifts.{needs-started}
 use Rattle.claims_move.specs.Station.{Claim-104, Claim-105, Claim-106, Claim-107, Claim-108, Claim-109}
 use Rattle.claims_move.specs.Station.{Claim-110, Claim-111, Claim-112, Claim-180, Claim-181}
 

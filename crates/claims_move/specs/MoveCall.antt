@@ -1,5 +1,5 @@
 -- Claims 100 to 103: one access of the move of a station: what the call gives; and, in numbers and bits,
--- when it is barred, what it does to the file old, to the file new and to the record, and that it does
+-- when it is barred, what it does to the file old, to the file new and to the saved numbers, and that it does
 -- nothing else. 01, "The move, with its premises"; the standard 6.1.2.
 --   Fit b                  b has its lengths, its files have words of 32 bits, and it keeps the state rules
 --   isMove .. n            what Claim-101 says of old, new and n, without the child domain
@@ -8,8 +8,8 @@
 --   EnableBecame f f′ p    the same of the enable set
 --   Renamed t t′ h f       the target t′ names file f of hart h, with the identity of t, and has no other bit
 -- oh and of are the hart and the file of old, nh and nf those of new, n is the number of the access, and s is
--- the record of ten numbers: at 0 the delivery, at 1 the threshold, at 2 to 5 the words of pending bits, at 6
--- to 9 those of enable bits. What is past the end of a shorter record is read as 0 and is not stored.
+-- the ten saved numbers: at 0 the delivery, at 1 the threshold, at 2 to 5 the words of pending bits, at 6
+-- to 9 those of enable bits. What is past the end of a shorter list is read as 0 and is not stored.
 -- Premises: of claims 102 and 103 `Fit b`, as the board of every block of words of 32 bits is that is not
 -- refused, and that old, new and n are not barred (`isMove`). Claims 100 and 101 have none but, in Claim-100,
 -- what the contract ensures. No axioms.
@@ -28,7 +28,7 @@ use Rattle.file_select.specs.Halves.{doubleword}
 use Rattle.file.specs.declared.File.{File}
 use Rattle.file.specs.Parts.{withDelivery, withThreshold}
 use Rattle.source_target.specs.Target.{hartOf, guestOf, numberOf}
-use Rattle.domain.specs.Domain.{byMessages, generatedAt}
+use Rattle.domain.specs.Domain.{byMessages, genmsiOf}
 use Rattle.domain.specs.Slot.{sourceAt}
 use Rattle.files.specs.Files.{fileNumber, theFile}
 use Rattle.board_block.specs.Block.{Board}
@@ -45,8 +45,8 @@ use Rattle.monitor.proofs.vsk_move.Reads as vsk-move
 
 -- ---- what the call gives
 
--- the call, and the function that C calls, for any numbers, any blocks and any record: the answer, both
--- blocks and the record are those of the outcome; and nothing is asked of the caller
+-- the call, and the function that C calls, for any numbers, any blocks and any saved numbers: the answer,
+-- both blocks and the saved numbers are those of the outcome; and nothing is asked of the caller
 -- [01 C4 C17 V1 V2 V3 V4 X2]
 unfoldable pub Claim-100 : Type 0
 Claim-100 =
@@ -75,7 +75,7 @@ Claim-101 =
     ↔ ((oh < 4) × (2 ≤ of) × (of ≤ 4) × (nh < 4) × (2 ≤ nf) × (nf ≤ 4) × (oh ≡ nh → of ≡ nf → ⊥)
     × (1 ≤ n) × (n ≤ 89) × (byMessages (b .wired .child) ≡ true))
 
--- ---- old, new and the record
+-- ---- old, new and the saved numbers
 
 pub record WordOf (ws : List ℕ) (k w : ℕ) : Type 0 where
   pub bits : (j : ℕ) → j < 64 → hasBit w j ≡ member ws (64 * k + j)
@@ -94,8 +94,8 @@ pub record EnableBecame (f f′ : File) (p : ℕ → Bool) : Type 0 where
   pub enable : (i : ℕ) → member (f′ .enable) i ≡ p i
 
 -- what each of the 89 accesses leaves: o and f are old and new before it, o′ and f′ after it, and x .saved is
--- the record after it. Each access is one of these twelve, in the six steps of 01. Identity i of a set is bit
--- i % 64 of its word i / 64; identity 0 is never set
+-- the saved numbers after it. Each access is one of these twelve, in the six steps of 01. Identity i of a set
+-- is bit i % 64 of its word i / 64; identity 0 is never set
 -- [01 V5 V6 V15 V16 V19 V20 V21 V30 M3 X9]
 unfoldable pub Claim-102 : Type 0
 Claim-102 =
@@ -161,10 +161,10 @@ Claim-103 =
     (x .value ≡ 0) × (x .messages ≡ [])
     × ((k : ℕ) → k ≢ fileNumber oh of → k ≢ fileNumber nh nf
     → theFile (x .board .files) k ≡ theFile (b .files) k)
-    × (w′ .wires ≡ w .wires) × (w′ .root ≡ w .root)
+    × (w′ .wires ≡ w .wires) × (w′ .machine ≡ w .machine)
     × (w′ .child .source ≡ w .child .source) × (w′ .child .pending ≡ w .child .pending)
     × (w′ .child .enable ≡ w .child .enable) × (w′ .child .delivery ≡ w .child .delivery)
-    × (generatedAt (w′ .child) ≡ generatedAt (w .child))
+    × (genmsiOf (w′ .child) ≡ genmsiOf (w .child))
     × ((i : ℕ) → 1 ≤ i → i ≤ 63
     → let t = sourceAt (w .child) i .target in
     let t′ = sourceAt (w′ .child) i .target in

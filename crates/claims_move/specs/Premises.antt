@@ -27,20 +27,20 @@ use Rattle.board_call_laws.specs.Fit.{Fit}
 use Rattle.board_call_laws.specs.Small.{Small}
 use Rattle.board_runs.specs.Runs.{Lent, after, ran}
 use Rattle.board_runs.specs.Ready.{boardIn, Ready}
-use Rattle.transfer_laws.specs.Shift.{Stations, Event, withMove, withoutMove}
-use Rattle.transfer_laws.specs.Shift.Event.{wire, page, access}
-use Rattle.transfer_laws.specs.Premises.{Started, TwoGuests, ByMessages, NoneNamesNew, accessesIn}
-use Rattle.transfer_laws.specs.Premises.{AllAccesses, PagesKept}
-use Rattle.transfer_laws.specs.Moved.{AccessesDone}
-use Rattle.transfer_laws.specs.After.{FileCall, SmallCalls}
-use Rattle.transfer_laws.specs.After.FileCall.{pageRead, pageWrite, register, top, claim}
+use Rattle.move_laws.specs.Shift.{Stations, Event, withMove, withoutMove}
+use Rattle.move_laws.specs.Shift.Event.{wire, page, access}
+use Rattle.move_laws.specs.Premises.{Started, TwoGuests, ByMessages, NoneNamesNew, accessesIn}
+use Rattle.move_laws.specs.Premises.{AllAccesses, PagesKept}
+use Rattle.move_laws.specs.Moved.{AccessesDone}
+use Rattle.move_laws.specs.After.{FileCall, SmallCalls}
+use Rattle.move_laws.specs.After.FileCall.{pageRead, pageWrite, register, top, claim}
 
 -- the premises of a move, and the two shifts that are compared, ask this and no more: old and new are two
 -- different files 2 to 4 of harts 0 to 3; at the start no active source of the child names new, the child is
 -- not in direct mode, and what is lent has its lengths and keeps the rules; the accesses are 89, with their
 -- numbers in order; nobody writes to new before access 8, nor to old from access 72 on; and the compared
 -- shift has the same wires and page writes, those to new going to old, and no access. A run makes its calls
--- in order and hands on the block, the log and the record that each leaves; and AccessesDone, which
+-- in order and hands on the block, the log and the saved numbers that each leaves; and AccessesDone, which
 -- Claim-106 says of a shift, means that each access, made where the shift makes it, is done
 -- [01 V3 V12 V13 V14 V18 V22 V23 V24 V25 V26 V27 V28 V29]
 unfoldable pub Claim-175 : Type 0

@@ -1,10 +1,10 @@
 -- Claims 104 to 112, 180 and 181, the auditor's question: when the monitor moves a station in the middle of a
 -- shift, can a scan be dropped, doubled or handed to the wrong station? 01, "The move, with its premises".
 --   MovedWhere P     P holds of what is lent after every shift with a move and after the same shift without
---                    it, where the premises of 01 are met: each is a definition of Rattle.transfer_laws,
+--                    it, where the premises of 01 are met: each is a definition of Rattle.move_laws,
 --                    Premises
 -- Premises: of Claim-104 `Ready x`, 650 words of a board that keeps the rules and whose files have words of
--- 32 bits, 63 words of log and a record of numbers of 64 bits, and `Small c`, a value of 64 bits; of claims
+-- 32 bits, 63 words of log and saved numbers of 64 bits, and `Small c`, a value of 64 bits; of claims
 -- 105 to 110 and 180 the six of 01, `Started`, `TwoGuests`, `ByMessages`, `NoneNamesNew`, `AllAccesses` and
 -- `PagesKept`, which Claim-111 shows can be met, and Claim-112 that each is needed; of Claim-110 besides
 -- `SmallCalls cs`, register values of 64 bits in the calls afterwards. Claims 111, 112 and 181 have none.
@@ -33,17 +33,17 @@ use Rattle.board_call_laws.specs.Small.{Small}
 use Rattle.board_runs.specs.Runs.{Lent, outcomeOn, after, ran}
 use Rattle.board_runs.specs.Ready.{boardIn, Ready}
 use Rattle.board_runs.specs.Reading.{onlyReads, storing}
-use Rattle.transfer_laws.specs.Shift.{Stations, Event, withMove, withoutMove}
-use Rattle.transfer_laws.specs.Premises.{Started, TwoGuests, ByMessages, NoneNamesNew, AllAccesses, PagesKept}
-use Rattle.transfer_laws.specs.Moved.{oldNumber, newNumber, oldIn, newIn, AccessesDone}
-use Rattle.transfer_laws.specs.After.{FileCall, callOn, saidOf, saidOn, SmallCalls}
-use Rattle.transfer_cases.specs.Example.{Example}
-use Rattle.transfer_cases.specs.Needed.{PagesAre, NeedsAll, NeedsPagesNew, NeedsPagesOld, NeedsFresh}
-use Rattle.transfer_cases.specs.Needed.{NeedsMessages, NeedsGuestOld, NeedsGuestNew, NeedsStarted}
+use Rattle.move_laws.specs.Shift.{Stations, Event, withMove, withoutMove}
+use Rattle.move_laws.specs.Premises.{Started, TwoGuests, ByMessages, NoneNamesNew, AllAccesses, PagesKept}
+use Rattle.move_laws.specs.Moved.{oldNumber, newNumber, oldIn, newIn, AccessesDone}
+use Rattle.move_laws.specs.After.{FileCall, callOn, saidOf, saidOn, SmallCalls}
+use Rattle.move_cases.specs.Example.{Example}
+use Rattle.move_cases.specs.Needed.{PagesAre, NeedsAll, NeedsPagesNew, NeedsPagesOld, NeedsFresh}
+use Rattle.move_cases.specs.Needed.{NeedsMessages, NeedsGuestOld, NeedsGuestNew, NeedsStarted}
 
 -- calls one after the other: what a call leaves is ready for the next one, whether it is refused or not; a
--- refused one leaves all as it was, and an accepted one the board and the record that `step` says. So a
--- run, which folds the outcome of each call, speaks of the blocks that the code leaves
+-- refused one leaves all as it was, and an accepted one the board and the saved numbers that `step` says. So
+-- a run, which folds the outcome of each call, speaks of the blocks that the code leaves
 -- [01 X7 X8]
 unfoldable pub Claim-104 : Type 0
 Claim-104 =
@@ -76,7 +76,7 @@ Claim-105 =
     × (b .wired .wires ≡ b′ .wired .wires)
     × ((c : Bool) → domainIn (b .wired) c .pending ≡ domainIn (b′ .wired) c .pending)
     × ((c : Bool) → domainIn (b .wired) c .enable ≡ domainIn (b′ .wired) c .enable)
-    × (b .wired .root ≡ b′ .wired .root) × (b .wired .child .source ≡ b′ .wired .child .source)
+    × (b .wired .machine ≡ b′ .wired .machine) × (b .wired .child .source ≡ b′ .wired .child .source)
     × (b .wired .child .delivery ≡ b′ .wired .child .delivery))
 
 -- with the premises of a move every one of the 89 accesses is done, and none is refused
@@ -140,7 +140,8 @@ Claim-180 =
 
 -- what only reads may be called at any moment of a shift, in the middle of a move too: a page read, a top,
 -- the signals, a read of a file's register or of a word of a domain that is no claimi leave the block, the
--- log and the record as they were, accepted or refused, and so a run leaves what it leaves without them
+-- log and the saved numbers as they were, accepted or refused, and so a run leaves what it leaves without
+-- them
 unfoldable pub Claim-181 : Type 0
 Claim-181 =
     ((x : Lent) (h f a s v d : ℕ)

@@ -30,10 +30,10 @@ use Rattle.domain.specs.Domain.{Domain, byMessages}
 use Rattle.domain.specs.Slot.{sourceAt}
 use Rattle.domain.specs.Structure.{structureAt}
 use Rattle.domain_laws.specs.Shape.{DomainShaped}
-use Rattle.domain_config.specs.Config.{keptConfig}
+use Rattle.domain_domaincfg.specs.Domaincfg.{keptDomaincfg}
 use Rattle.domain_writes.specs.Writes.{wordChanged}
 use Rattle.domain_writes_laws.specs.Named.{named}
-use Rattle.domain_writes_laws.proofs.ConfigEffects.{became-configWritten}
+use Rattle.domain_writes_laws.proofs.DomaincfgEffects.{became-domaincfgWritten}
 use Rattle.domain_writes_laws.proofs.WritesEffects.{touched-wordChanged, sourceAt-targetWritten-same}
 use Rattle.domain_inputs.specs.Inputs.{inputBit, inputsTo, inputWord}
 use Rattle.domain_direct.specs.declared.Setting.the-variants as setting
@@ -79,7 +79,7 @@ claim-140 = (
   λ d r n. claimed-none d r (no-claim r n),
   λ w c r n. claimedIn-none w c r (no-claim r n),
   λ w h. unfold withDomain domainIn in (
-    rw (claimed-by (w .root) (Claimi h) h refl),
+    rw (claimed-by (w .machine) (Claimi h) h refl),
     rw (claimed-by (w .child) (Claimi h) h refl),
   ),
 )
@@ -93,9 +93,9 @@ part-back w c v r e =
     let d′ = registerWritten c (domainIn w c) (w .wires) r v in
     ap (λ (x : Wired). readIn x c r) e ∙ rw (own-with w c d′, wires-with w c d′)
 
-config-plain : (v : ℕ) → keptConfig v ≡ v / 256 % 2 * 256 + v / 4 % 2 * 4
-unfolding keptConfig packed fieldOf
-config-plain v = omega arith
+domaincfg-plain : (v : ℕ) → keptDomaincfg v ≡ v / 256 % 2 * 256 + v / 4 % 2 * 4
+unfolding keptDomaincfg packed fieldOf
+domaincfg-plain v = omega arith
 
 -- what a target keeps
 target-plain : (c m : Bool) (v : ℕ)
@@ -183,8 +183,8 @@ module _ (w : Wired) (sound : Sound w) (i : ℕ) (l : 1 ≤ i) (h : i ≤ 63) (v
 
   child-back : (c : Bool) → c ≡ true
       → (v / 1024 % 2 ≡ 1 → readBack w c v (Sourcecfg i) ≡ 0)
-      × (sourceAt (w .root) i .mode ≢ 1024 → readBack w c v (Sourcecfg i) ≡ 0)
-      × (v / 1024 % 2 ≡ 0 → sourceAt (w .root) i .mode ≡ 1024 → ModeOf v (readBack w c v (Sourcecfg i)))
+      × (sourceAt (w .machine) i .mode ≢ 1024 → readBack w c v (Sourcecfg i) ≡ 0)
+      × (v / 1024 % 2 ≡ 0 → sourceAt (w .machine) i .mode ≡ 1024 → ModeOf v (readBack w c v (Sourcecfg i)))
   unfolding Claim-137 registerValue domainIn
   child-back false e = absurd (false≢true e)
   child-back true e =
@@ -202,7 +202,7 @@ module _ (w : Wired) (sound : Sound w) (c : Bool) (v : ℕ) where
   unfolding writtenIn writtenAs registerValue registerWritten
   domaincfg-back =
       part-back w c v Domaincfg refl
-      ∙ omega (arith, became-configWritten own (w .wires) v shaped .config, config-plain v)
+      ∙ omega (arith, became-domaincfgWritten own (w .wires) v shaped .domaincfg, domaincfg-plain v)
 
   -- a source after a write to a word of a family
   word-made : (family : Change) (k n : ℕ) → k < 2 → n < 32 → 1 ≤ 32 * k + n

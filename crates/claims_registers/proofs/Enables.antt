@@ -52,8 +52,8 @@ module _ (on : Bool) (test : ℕ → Bool) (Names : ℕ → Type 0) (iff : (j : 
             (λ t. rw (t, switched-off (sourceAt d j) on off)) (λ f. rw f)));
         sources = λ j l h. rw (p .source j l (omega arith)) (tested (test j)
             (λ t. rw t (switched-rest (sourceAt d j) on)) (λ f. rw f (refl, refl, refl)));
-        config = p .config;
-        generated = p .generated;
+        domaincfg = p .domaincfg;
+        genmsi = p .genmsi;
         structures = p .structure;
         zero = (p .pending-zero, p .enable-zero);
       }

@@ -17,7 +17,7 @@ use Rattle.domain.specs.Domain.{Domain}
 use Rattle.domain.specs.Slot.{sourceAt}
 use Rattle.domain_laws.proofs.SlotEffects.{sourceAt-withSource-same, sourceAt-withSource-other}
 use Rattle.wired_state.specs.Wires.{Wired, isDelegated}
-use Rattle.wired_sourcecfg.proofs.DelegationLaws.{root-stays, root-moves}
+use Rattle.wired_sourcecfg.proofs.DelegationLaws.{machine-stays, machine-moves}
 use Rattle.wired_registers.specs.Wired.{writtenIn, writtenAs}
 use Rattle.wired_sourcecfg.specs.Delegation.{sourceWritten}
 use Rattle.claims_registers.specs.Modes.{Claim-94, Claim-95}
@@ -59,12 +59,12 @@ unfolding Claim-95 writtenIn writtenAs sourceWritten
 claim-95 w i v shaped h =
     let word = leb 1024 (sourceWord false false v) in
     let child : Wired → Domain = λ x. x .child in (
-      (λ e. ap child (root-stays w i v (beq-same (isDelegated w i) word (e ∙ sym (delegates v))))),
+      (λ e. ap child (machine-stays w i v (beq-same (isDelegated w i) word (e ∙ sym (delegates v))))),
       (λ n. ap (λ (x : Wired). sourceAt (x .child) i)
-          (root-moves w i v (beq-differs (isDelegated w i) word (λ e. n (e ∙ delegates v))))
+          (machine-moves w i v (beq-differs (isDelegated w i) word (λ e. n (e ∙ delegates v))))
           ∙ sourceAt-withSource-same (w .child) i (inactive 0) shaped h),
       (λ j d. tested (Bool·beq (isDelegated w i) word)
-          (λ t. ap (λ (x : Wired). sourceAt (x .child) j) (root-stays w i v t))
-          (λ f. ap (λ (x : Wired). sourceAt (x .child) j) (root-moves w i v f)
+          (λ t. ap (λ (x : Wired). sourceAt (x .child) j) (machine-stays w i v t))
+          (λ f. ap (λ (x : Wired). sourceAt (x .child) j) (machine-moves w i v f)
           ∙ sourceAt-withSource-other (w .child) i (inactive 0) j d)),
     )

@@ -17,7 +17,7 @@ use Rattle.words.proofs.BitsLaws.{withBit-lt, withoutBit-le}
 use Rattle.words.proofs.TestsLaws.{tested, and-first, and-second, and-both, or-cases, or-left, or-right}
 use Rattle.words.proofs.TestsLaws.{not-same}
 use Rattle.source_mode.specs.Mode.{isActive, isLevel, isRectified}
-use Rattle.domain.specs.Domain.{Domain, configOf, isEnabled, byMessages}
+use Rattle.domain.specs.Domain.{Domain, domaincfgOf, isEnabled, byMessages}
 use Rattle.domain.specs.Slot.{sourceAt}
 use Rattle.domain_inputs.specs.Inputs.{inputBit, inputsTo, inputWord}
 use Rattle.domain_registers.specs.Read.{registerValue}
@@ -124,22 +124,22 @@ claim-132 d wires k = (
 pub rules-in : (w : Wired) → Sound w → (c : Bool) → DomainRules c (w .wires) (domainIn w c)
 unfolding Claim-73 domainIn
 rules-in w sound true = claim-73 w (sound .0) .0 (sound .1) .child
-rules-in w sound false = claim-73 w (sound .0) .0 (sound .1) .root
+rules-in w sound false = claim-73 w (sound .0) .0 (sound .1) .machine
 
-config-word : (x : ℕ) (e m : Bool) → x ≡ cond e 256 0 + cond m 4 0
+domaincfg-word : (x : ℕ) (e m : Bool) → x ≡ cond e 256 0 + cond m 4 0
     → let word = 0x80000000 + x in
     (word ≡ 0x80000000 + cond e 256 0 + cond m 4 0) × (word / 2 ^ 24 ≡ 0x80) × Bit word 8 e × Bit word 2 m
     × (word % 2 ≡ 0)
-config-word x true true h = omega arith
-config-word x true false h = omega arith
-config-word x false true h = omega arith
-config-word x false false h = omega arith
+domaincfg-word x true true h = omega arith
+domaincfg-word x true false h = omega arith
+domaincfg-word x false true h = omega arith
+domaincfg-word x false false h = omega arith
 
 pub claim-133 : Claim-133
 unfolding Claim-133 registerValue
 claim-133 w sound c =
     let d = domainIn w c in
-    config-word (configOf d) (isEnabled d) (byMessages d) (rules-in w sound c .config)
+    domaincfg-word (domaincfgOf d) (isEnabled d) (byMessages d) (rules-in w sound c .domaincfg)
 
 -- ---- the modes
 

@@ -13,16 +13,16 @@ use Rattle.words.proofs.TestsLaws.{tested, not-same}
 use Rattle.source_mode.specs.Mode.{isActive}
 use Rattle.source_mode.proofs.ModeLaws.{active-zero}
 use Rattle.domain_delivery.proofs.DeliveryLaws.{sound-iff}
-use Rattle.domain.specs.Domain.{Domain, configOf, isEnabled, byMessages, generatedAt}
+use Rattle.domain.specs.Domain.{Domain, domaincfgOf, isEnabled, byMessages, genmsiOf}
 use Rattle.domain.specs.Slot.{sourceAt}
 use Rattle.domain.specs.Structure.{structureAt}
 use Rattle.domain_laws.specs.Shape.{DomainShaped}
 use Rattle.domain_laws.proofs.SlotEffects.{domainOf-shaped}
 use Rattle.wired_state.specs.Wires.{Wired, wiredOf, isDelegated}
-use Rattle.wired_state.proofs.WiresLaws.{root-long, child-long}
+use Rattle.wired_state.proofs.WiresLaws.{machine-long, child-long}
 use Rattle.source_laws.proofs.ModeEffects.{active-delegated}
-use Rattle.wired_rules.specs.Rules.{configRange, generatedRange, structureRange, sourceZeroRule}
-use Rattle.wired_rules.specs.Rules.{generatedRule}
+use Rattle.wired_rules.specs.Rules.{domaincfgRange, genmsiRange, structureRange, sourceZeroRule}
+use Rattle.wired_rules.specs.Rules.{genmsiRule}
 use Rattle.wired_rules.specs.Rules.{delegatedRule, wiredSound}
 use Rattle.wired_rules_laws.specs.Steady.{Steady, Quiet, WiredSteady, passed}
 use Rattle.wired_rules_laws.proofs.SoundParts.{wired-sound-steady, wired-sound-quiet, wired-sound-joined}
@@ -33,7 +33,7 @@ use Rattle.wired_rules_laws.proofs.DelegationEffects.{steady-writtenIn}
 use Rattle.wired_rules_laws.proofs.WiredSameEffects.{delegated-word}
 use Rattle.claims_registers.specs.Rules.{Long, Sound, DomainRules}
 use Rattle.claims_registers.specs.Rules.{WiredRules, Claim-72, Claim-73, Claim-74, Claim-75}
-use Rattle.claims_registers.proofs.SourceRules.{config-is, generated-is, source-on, source-of}
+use Rattle.claims_registers.proofs.SourceRules.{domaincfg-is, genmsi-is, source-on, source-of}
 use Rattle.claims_registers.proofs.SourceRules.{source-sent}
 
 pub claim-72 : Claim-72
@@ -42,7 +42,7 @@ claim-72 = (
   (λ l b r learnt. learnt),
   λ l long. (
     simp length-take (omega arith),
-    domainOf-shaped _ (root-long l long),
+    domainOf-shaped _ (machine-long l long),
     domainOf-shaped _ (child-long l long),
   ),
 )
@@ -51,14 +51,14 @@ claim-72 = (
 
 module _ (c : Bool) (ws : List ℕ) (d : Domain) where
   domain-on : Steady c ws d → Quiet d → DomainRules c ws d
-  unfolding configRange generatedRange structureRange sourceZeroRule generatedRule isEnabled byMessages
+  unfolding domaincfgRange genmsiRange structureRange sourceZeroRule genmsiRule isEnabled byMessages
   domain-on s q =
-      let range = eqb-true (configOf d) _ (s .config) in
-      let generated = eqb-true (generatedAt d) _ (s .generated-range) in
+      let range = eqb-true (domaincfgOf d) _ (s .domaincfg) in
+      let genmsi = eqb-true (genmsiOf d) _ (s .genmsi-range) in
       record {
-        config = range ∙ config-is (configOf d);
-        generated = generated ∙ generated-is (generatedAt d);
-        direct = λ f. eqb-true (generatedAt d) 0 (rw f at (s .generated));
+        domaincfg = range ∙ domaincfg-is (domaincfgOf d);
+        genmsi = genmsi ∙ genmsi-is (genmsiOf d);
+        direct = λ f. eqb-true (genmsiOf d) 0 (rw f at (s .genmsi));
         structures = λ h l. let p = sound-iff (structureAt d h) .0 (s .structures h l) in
             (p .0, p .1, omega (arith, p .2));
         zero = (not-true _ (s .pending-zero), not-true _ (s .enable-zero));
@@ -68,14 +68,14 @@ module _ (c : Bool) (ws : List ℕ) (d : Domain) where
 
   module _ (r : DomainRules c ws d) where
     domain-of : DomainShaped d → Steady c ws d
-    unfolding configRange generatedRange structureRange sourceZeroRule generatedRule isEnabled byMessages
+    unfolding domaincfgRange genmsiRange structureRange sourceZeroRule genmsiRule isEnabled byMessages
     domain-of shaped =
         record {
           shaped = shaped;
-          config = eq-eqb (configOf d) _ (r .config ∙ sym (config-is (configOf d)));
-          generated-range = eq-eqb (generatedAt d) _ (r .generated ∙ sym (generated-is (generatedAt d)));
-          generated = tested (byMessages d) (λ t. rw t)
-              (λ f. rw f (eq-eqb (generatedAt d) 0 (r .direct f)));
+          domaincfg = eq-eqb (domaincfgOf d) _ (r .domaincfg ∙ sym (domaincfg-is (domaincfgOf d)));
+          genmsi-range = eq-eqb (genmsiOf d) _ (r .genmsi ∙ sym (genmsi-is (genmsiOf d)));
+          genmsi = tested (byMessages d) (λ t. rw t)
+              (λ f. rw f (eq-eqb (genmsiOf d) 0 (r .direct f)));
           structures = λ h l. let p = r .structures h l in
               sound-iff (structureAt d h) .1 (p .0, p .1, omega (arith, p .2));
           pending-zero = rw (r .zero .0);
@@ -99,7 +99,7 @@ module _ (w : Wired) where
       let q = wired-sound-quiet w e in
       record {
         zero = not-true _ (s .zero);
-        root = domain-on false (w .wires) (w .root) (s .root) (q .root);
+        machine = domain-on false (w .wires) (w .machine) (s .machine) (q .machine);
         child = domain-on true (w .wires) (w .child) (s .child) (q .child);
         undelegated = λ i l h n. let at = s .delegated i l (omega arith) in
             tested (isDelegated w i) (λ t. absurd (n (delegated-word w s i l (omega arith) t)))
@@ -111,7 +111,7 @@ module _ (w : Wired) where
   delegated-of r i l h =
       tested (isDelegated w i) (delegated-yes w i)
       (λ f. delegated-zero w i (r .undelegated i l (omega arith)
-      (λ e. omega (arith, leb-false 1024 (sourceAt (w .root) i .mode) f))))
+      (λ e. omega (arith, leb-false 1024 (sourceAt (w .machine) i .mode) f))))
 
   rules-of : Long w → WiredRules w → wiredSound w ≡ true
   unfolding sourceZeroRule
@@ -120,12 +120,12 @@ module _ (w : Wired) where
       record {
         long = long .0;
         zero = rw (r .zero);
-        root = domain-of false (w .wires) (w .root) (r .root) (long .1);
+        machine = domain-of false (w .wires) (w .machine) (r .machine) (long .1);
         child = domain-of true (w .wires) (w .child) (r .child) (long .2);
         delegated = delegated-of r;
       }
       record {
-        root = domain-sent false (w .wires) (w .root) (r .root);
+        machine = domain-sent false (w .wires) (w .machine) (r .machine);
         child = domain-sent true (w .wires) (w .child) (r .child);
       }
 
@@ -141,7 +141,7 @@ sound-steady w p = wired-sound-steady w (p .1) (p .0 .0) (p .0 .1) (p .0 .2)
 sound-after : (w : Wired) → WiredSteady w → Sound (passed w)
 sound-after w s =
     let after = steady-passed w s in
-    ((after .long, after .root .shaped, after .child .shaped), sound-passed w s)
+    ((after .long, after .machine .shaped, after .child .shaped), sound-passed w s)
 
 pub claim-74 : Claim-74
 unfolding Claim-74
@@ -155,6 +155,6 @@ claim-74 w p =
 pub claim-75 : Claim-75
 unfolding Claim-75
 claim-75 w p i l h a =
-    let other : sourceAt (w .root) i .mode ≢ 1024 =
-    λ e. not-same (isActive (sourceAt (w .root) i .mode)) a (ap isActive e ∙ active-delegated) in
+    let other : sourceAt (w .machine) i .mode ≢ 1024 =
+    λ e. not-same (isActive (sourceAt (w .machine) i .mode)) a (ap isActive e ∙ active-delegated) in
     active-zero (sourceAt (w .child) i .mode) (rules-on w (p .0) (p .1) .undelegated i l h other)

@@ -12,17 +12,17 @@ use Rattle.source_target.proofs.TargetLaws.{numberOf-lt}
 use Rattle.domain_delivery.specs.declared.Delivery.{Delivery}
 use Rattle.domain_delivery.specs.Delivery.{withIdelivery, withIforce, withIthreshold, withoutForce}
 use Rattle.domain_delivery.proofs.DeliveryLaws.{switch-new, switch-kept}
-use Rattle.domain.specs.Domain.{Domain, byMessages, generatedAt}
+use Rattle.domain.specs.Domain.{Domain, byMessages, genmsiOf}
 use Rattle.domain.specs.Structure.{structureAt, withStructure}
 use Rattle.domain_laws.specs.Shape.{DomainShaped}
-use Rattle.domain_laws.proofs.BecameEffects.{became-withGenerated}
+use Rattle.domain_laws.proofs.BecameEffects.{became-withGenmsi}
 use Rattle.domain_laws.proofs.StructureEffects.{structureAt-withStructure-same}
 use Rattle.domain_laws.proofs.StructureEffects.{structureAt-withStructure-other, sourceAt-withStructure}
-use Rattle.domain_laws.proofs.OwnEffects.{configOf-withStructure, byMessages-withStructure}
-use Rattle.domain_laws.proofs.OwnEffects.{generatedAt-withStructure, byMessages-withGenerated}
-use Rattle.domain_laws.proofs.OwnEffects.{generatedAt-withGenerated}
-use Rattle.domain_genmsi.specs.Genmsi.{generatedRead}
-use Rattle.domain_genmsi.proofs.GenmsiLaws.{generated-messages, generated-direct}
+use Rattle.domain_laws.proofs.OwnEffects.{domaincfgOf-withStructure, byMessages-withStructure}
+use Rattle.domain_laws.proofs.OwnEffects.{genmsiOf-withStructure, byMessages-withGenmsi}
+use Rattle.domain_laws.proofs.OwnEffects.{genmsiOf-withGenmsi}
+use Rattle.domain_genmsi.specs.Genmsi.{genmsiRead}
+use Rattle.domain_genmsi.proofs.GenmsiLaws.{genmsi-messages, genmsi-direct}
 use Rattle.domain_direct.specs.declared.Setting.{Setting}
 use Rattle.domain_direct.specs.declared.Setting.the-variants.{Idelivery, Iforce, Ithreshold}
 use Rattle.domain_direct.specs.Direct.{numberAt, writtenAt, settingWritten}
@@ -33,7 +33,7 @@ use Rattle.domain_registers.specs.Read.{registerValue}
 use Rattle.domain_registers.specs.Write.{registerWritten}
 use Rattle.wired_state.specs.Wires.{domainIn}
 use Rattle.claims_registers.specs.Settings.{NumbersAre, Claim-135, Claim-136, Claim-142}
-use Rattle.claims_registers.proofs.SourceRules.{generated-is}
+use Rattle.claims_registers.proofs.SourceRules.{genmsi-is}
 use Rattle.claims_registers.proofs.Registers.{rules-in}
 
 -- ---- the settable numbers
@@ -62,8 +62,8 @@ module _ (d : Domain) (wires : List ℕ) (h : ℕ) (shaped : DomainShaped d) (l 
           setting-direct d′ h Ithreshold mode ∙ ap (λ (y : Delivery). y .ithreshold) same,
         );
         others = structureAt-withStructure-other d h x;
-        config = configOf-withStructure d h x;
-        generated = generatedAt-withStructure d h x;
+        domaincfg = domaincfgOf-withStructure d h x;
+        genmsi = genmsiOf-withStructure d h x;
         sources = sourceAt-withStructure d h x;
       }
 
@@ -130,28 +130,28 @@ claim-142 d wires h shaped l direct none =
 
 -- ---- genmsi
 
-generated-plain : (v : ℕ) → hartOf v * 2 ^ 18 + numberOf v ≡ v / 2 ^ 18 % 4 * 2 ^ 18 + v % 256
+genmsi-plain : (v : ℕ) → hartOf v * 2 ^ 18 + numberOf v ≡ v / 2 ^ 18 % 4 * 2 ^ 18 + v % 256
 unfolding hartOf numberOf fieldOf
-generated-plain v = omega arith
+genmsi-plain v = omega arith
 
 -- a hart and an identity leave bit 12 free
 idle : (t h n : ℕ) → n < 256 → t ≡ h * 2 ^ 18 + n → t / 2 ^ 12 % 2 ≡ 0
 idle t h n l e = let above : t / 2 ^ 12 ≡ h * 64 = omega arith in rw above (omega arith)
 
 pub claim-136 : Claim-136
-unfolding Claim-136 registerValue registerWritten generatedRead
+unfolding Claim-136 registerValue registerWritten genmsiRead
 claim-136 = (
   λ c d wires v shaped. (
     λ m.
-        let word = generated-is v ∙ generated-plain v in
-        rw (generated-messages d v m, word) (
-          became-withGenerated d _ shaped,
-          rw (byMessages-withGenerated, m) (generatedAt-withGenerated d _ shaped),
+        let word = genmsi-is v ∙ genmsi-plain v in
+        rw (genmsi-messages d v m, word) (
+          became-withGenmsi d _ shaped,
+          rw (byMessages-withGenmsi, m) (genmsiOf-withGenmsi d _ shaped),
         ),
-    λ f. (generated-direct d v f, rw f),
+    λ f. (genmsi-direct d v f, rw f),
   ),
   λ w sound c.
       let d = domainIn w c in
-      tested (byMessages d) (λ m. rw m (idle (generatedAt d) _ _ (numberOf-lt (generatedAt d))
-      (rules-in w sound c .generated))) (λ f. rw f),
+      tested (byMessages d) (λ m. rw m (idle (genmsiOf d) _ _ (numberOf-lt (genmsiOf d))
+      (rules-in w sound c .genmsi))) (λ f. rw f),
 )

@@ -15,11 +15,11 @@ use Rattle.words.proofs.TestsLaws.{tested}
 use Rattle.source_mode.specs.Mode.{isActive, isLevel, isRectified, sourceWord}
 use Rattle.source_mode.proofs.ModeLaws.{kept-other, word-child-has, word-machine}
 use Rattle.source_target.specs.Target.{hartOf, numberOf, receiverOf, keptTarget}
-use Rattle.domain_genmsi.specs.Genmsi.{keptGenerated}
+use Rattle.domain_genmsi.specs.Genmsi.{keptGenmsi}
 use Rattle.source_target.proofs.TargetLaws.{kept-first, kept-priority}
 use Rattle.source.specs.declared.Source.{Source}
 use Rattle.source.specs.Pending.{inactive, candidate}
-use Rattle.domain_config.specs.Config.{keptConfig}
+use Rattle.domain_domaincfg.specs.Domaincfg.{keptDomaincfg}
 use Rattle.source_rules.specs.SourceRules.{levelRule, sourceSteady, sentRule}
 use Rattle.source_laws.proofs.ModeEffects.{range-cases, range-delegated}
 use Rattle.source_laws.proofs.SteadyParts.{steady-mode, steady-target, steady-inactive, steady-level}
@@ -36,13 +36,13 @@ bit-is v k x =
     rw none (omega arith))
 
 -- a stored domaincfg is its two bits
-pub config-is : (v : ℕ) → keptConfig v ≡ cond (hasBit v 8) (2 ^ 8) 0 + cond (hasBit v 2) (2 ^ 2) 0
-unfolding keptConfig packed fieldOf bitOf
-config-is v = omega (arith, bit-is v 8 (2 ^ 8), bit-is v 2 (2 ^ 2))
+pub domaincfg-is : (v : ℕ) → keptDomaincfg v ≡ cond (hasBit v 8) (2 ^ 8) 0 + cond (hasBit v 2) (2 ^ 2) 0
+unfolding keptDomaincfg packed fieldOf bitOf
+domaincfg-is v = omega (arith, bit-is v 8 (2 ^ 8), bit-is v 2 (2 ^ 2))
 
-pub generated-is : (v : ℕ) → keptGenerated v ≡ hartOf v * 2 ^ 18 + numberOf v
-unfolding keptGenerated packed
-generated-is v = refl
+pub genmsi-is : (v : ℕ) → keptGenmsi v ≡ hartOf v * 2 ^ 18 + numberOf v
+unfolding keptGenmsi packed
+genmsi-is v = refl
 
 -- a sourcecfg
 mode-on : (c : Bool) (v : ℕ) → v ≡ sourceWord c true v → ModeStored c v

@@ -20,11 +20,11 @@ use Rattle.domain.specs.Slot.{sourceAt, withSource}
 use Rattle.domain_laws.specs.Shape.{DomainShaped}
 use Rattle.domain_laws.proofs.SlotEffects.{sourceAt-withSource-same, sourceAt-withSource-other}
 use Rattle.domain_laws.proofs.SlotEffects.{structureAt-withSource}
-use Rattle.domain_laws.proofs.OwnEffects.{configOf-withSource, generatedAt-withSource}
+use Rattle.domain_laws.proofs.OwnEffects.{domaincfgOf-withSource, genmsiOf-withSource}
 use Rattle.wired_state.specs.Wires.{Wired, domainIn, isDelegated}
 use Rattle.wired_state.proofs.WiresLaws.{delegated-mode}
-use Rattle.wired_sourcecfg.specs.Delegation.{sourceModed, childWritten, rootWritten, sourceWritten}
-use Rattle.wired_sourcecfg.proofs.DelegationLaws.{root-stays, root-moves}
+use Rattle.wired_sourcecfg.specs.Delegation.{sourceModed, childWritten, machineWritten, sourceWritten}
+use Rattle.wired_sourcecfg.proofs.DelegationLaws.{machine-stays, machine-moves}
 use Rattle.wired_rules.specs.Rules.{wiredSound}
 use Rattle.claims_registers.specs.Rules.{Long}
 use Rattle.claims_registers.specs.Modes.{Claim-94}
@@ -54,14 +54,14 @@ module _ (v : ℕ) where
 module _ (d : Domain) (i : ℕ) where
   alone-none : SourceAlone i d d
   alone-none =
-      record { others = λ j n. refl; config = refl; generated = refl; structures = λ h. refl }
+      record { others = λ j n. refl; domaincfg = refl; genmsi = refl; structures = λ h. refl }
 
   pub alone-put : 1 ≤ i → (s : Source) → SourceAlone i d (withSource d i s)
   alone-put l s =
       record {
         others = sourceAt-withSource-other d i s;
-        config = configOf-withSource d i s l;
-        generated = generatedAt-withSource d i s l;
+        domaincfg = domaincfgOf-withSource d i s l;
+        genmsi = genmsiOf-withSource d i s l;
         structures = structureAt-withSource d i s;
       }
 
@@ -74,11 +74,11 @@ module _ (d : Domain) (i : ℕ) where
       ∙ claim-94 (byMessages d) wire (sourceAt d i) m .mode
 
 -- the child after a write to the machine domain
-root-alone : (w : Wired) (i v : ℕ) → 1 ≤ i → SourceAlone i (w .child) (rootWritten w i v .child)
-root-alone w i v l =
+machine-alone : (w : Wired) (i v : ℕ) → 1 ≤ i → SourceAlone i (w .child) (machineWritten w i v .child)
+machine-alone w i v l =
     tested (Bool·beq (isDelegated w i) (leb 1024 (sourceWord false false v)))
-    (λ t. rw (root-stays w i v t) (alone-none (w .child) i))
-    (λ f. rw (root-moves w i v f) (alone-put (w .child) i l (inactive 0)))
+    (λ t. rw (machine-stays w i v t) (alone-none (w .child) i))
+    (λ f. rw (machine-moves w i v f) (alone-put (w .child) i l (inactive 0)))
 
 -- what is stored, from the word that a write makes
 mode-as : (v m : ℕ) → m ≡ keptMode v → ModeOf v m
@@ -87,22 +87,22 @@ mode-as v m e = (λ r. e ∙ kept-plain v .0 r, λ a b. e ∙ kept-plain v .1 a 
 module _ (w : Wired) (long : Long w) (i : ℕ) (l : 1 ≤ i) (h : i ≤ 63) (v : ℕ) where
   in-machine : WrittenInMachine w i v
   in-machine =
-      let word = stored-word (w .root) i (long .1) (omega arith) (sourceWord false false v)
+      let word = stored-word (w .machine) i (long .1) (omega arith) (sourceWord false false v)
       (member (w .wires) i) in
-      rw (word-written w false i v) (unfold sourceWritten rootWritten in (
+      rw (word-written w false i v) (unfold sourceWritten machineWritten in (
         λ t. word ∙ word-delegated v false false refl (bit-one v 10 .0 t),
         λ z. mode-as v _ (word ∙ word-machine v false false refl (bit-clear v z)),
-        unfold sourceModed in alone-put (w .root) i l _,
-        root-alone w i v l,
+        unfold sourceModed in alone-put (w .machine) i l _,
+        machine-alone w i v l,
         refl,
       ))
 
   -- a sound machine domain has a mode or 1024
-  undelegated : wiredSound w ≡ true → sourceAt (w .root) i .mode ≢ 1024 → isDelegated w i ≡ false
+  undelegated : wiredSound w ≡ true → sourceAt (w .machine) i .mode ≢ 1024 → isDelegated w i ≡ false
   unfolding domainIn
   undelegated sound n =
       delegated-mode w i
-      ∙ lt-leb 1024 (sourceAt (w .root) i .mode)
+      ∙ lt-leb 1024 (sourceAt (w .machine) i .mode)
       (⊎-elim (λ p. omega (arith, p .0)) (λ p. absurd (n (p .1)))
       (rules-in w (long, sound) false .sources i l h .mode))
 
@@ -114,7 +114,7 @@ module _ (w : Wired) (long : Long w) (i : ℕ) (l : 1 ≤ i) (h : i ≤ 63) (v :
         λ t. word ∙ word-child-bit v true (isDelegated w i) refl (bit-one v 10 .0 t),
         λ sound n. word ∙ word-child-not v true (isDelegated w i) refl (undelegated sound n),
         λ z e. mode-as v _ (word ∙ word-child-has v true (isDelegated w i) refl
-            (delegated-mode w i ∙ le-leb 1024 (sourceAt (w .root) i .mode) (omega arith)) (bit-clear v z)),
+            (delegated-mode w i ∙ le-leb 1024 (sourceAt (w .machine) i .mode) (omega arith)) (bit-clear v z)),
         unfold sourceModed in alone-put (w .child) i l _,
         refl,
         refl,

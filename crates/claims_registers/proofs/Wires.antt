@@ -13,6 +13,6 @@ claim-141 w long i l h level =
     let there : i / 32 < length (w .wires) = omega (arith, long .0) in (
       member-put-same (w .wires) i level there,
       member-put-other (w .wires) i level,
-      alone-put (w .root) i l _,
+      alone-put (w .machine) i l _,
       alone-put (w .child) i l _,
     )

@@ -19,20 +19,21 @@ use Rattle.source_target.proofs.TargetLaws.{hartOf-lt, guestOf-lt, numberOf-lt}
 use Rattle.source.specs.declared.Source.{Source}
 use Rattle.source.specs.Pending.{settled, redelivered}
 use Rattle.source.proofs.PendingLaws.{retargeted-inactive, retargeted-active}
-use Rattle.domain.specs.Domain.{Domain, byMessages, withConfig}
+use Rattle.domain.specs.Domain.{Domain, byMessages, withDomaincfg}
 use Rattle.domain.specs.Slot.{sourceAt}
 use Rattle.domain_laws.specs.Shape.{DomainShaped}
 use Rattle.domain_laws.specs.Became.{Became}
 use Rattle.domain_laws.proofs.SlotEffects.{withSource-back}
-use Rattle.domain_laws.proofs.BecameEffects.{became-withConfig, became-messages, touched-as}
+use Rattle.domain_laws.proofs.BecameEffects.{became-withDomaincfg, became-messages, touched-as}
 use Rattle.domain_writes.specs.Writes.{targetWritten}
-use Rattle.domain_config.specs.Config.{keptConfig, configWritten}
-use Rattle.domain_config.proofs.ConfigLaws.{mode-same}
+use Rattle.domain_domaincfg.specs.Domaincfg.{keptDomaincfg, domaincfgWritten}
+use Rattle.domain_domaincfg.proofs.DomaincfgLaws.{mode-same}
 use Rattle.domain_writes_laws.specs.Named.{named}
 use Rattle.domain_writes_laws.proofs.WritesEffects.{touched-wordChanged, touched-numberChanged}
 use Rattle.domain_writes_laws.proofs.WritesEffects.{touched-targetWritten}
-use Rattle.domain_writes_laws.proofs.ConfigEffects.{keptConfig-messages, became-configWritten}
-use Rattle.domain_writes_laws.proofs.ConfigEffects.{byMessages-configWritten, isEnabled-configWritten}
+use Rattle.domain_writes_laws.proofs.DomaincfgEffects.{keptDomaincfg-messages, became-domaincfgWritten}
+use Rattle.domain_writes_laws.proofs.DomaincfgEffects.{byMessages-domaincfgWritten}
+use Rattle.domain_writes_laws.proofs.DomaincfgEffects.{isEnabled-domaincfgWritten}
 use Rattle.source_laws.proofs.ModeEffects.{active-level}
 use Rattle.source_laws.proofs.TargetEffects.{keptTarget-back}
 use Rattle.wired_state.specs.Wires.{Wired}
@@ -43,7 +44,7 @@ use Rattle.wired_rules_laws.proofs.SoundParts.{wired-sound-steady}
 use Rattle.wired_rules_laws.proofs.WiredSameEffects.{wireSet-same, delegated-again}
 use Rattle.claims_registers.specs.Rules.{TargetStored}
 use Rattle.claims_registers.specs.Writes.{Restarted, TargetKept, Claim-55, Claim-56, Claim-57, Claim-58}
-use Rattle.claims_registers.proofs.SourceRules.{config-is, target-iff}
+use Rattle.claims_registers.proofs.SourceRules.{domaincfg-is, target-iff}
 
 pub claim-55 : Claim-55
 unfolding Claim-55 named
@@ -76,26 +77,27 @@ restarted m x s =
     })
 
 module _ (d : Domain) (wires : List ℕ) (v : ℕ) (shaped : DomainShaped d) where
-  same-mode : byMessages d ≡ hasBit v 2 → configWritten d wires v ≡ withConfig d (keptConfig v)
-  unfolding configWritten
+  same-mode : byMessages d ≡ hasBit v 2 → domaincfgWritten d wires v ≡ withDomaincfg d (keptDomaincfg v)
+  unfolding domaincfgWritten
   same-mode e =
-      let stored = withConfig d (keptConfig v) in
-      let mode = became-messages (became-withConfig d (keptConfig v) shaped) ∙ keptConfig-messages v in
+      let stored = withDomaincfg d (keptDomaincfg v) in
+      let mode =
+      became-messages (became-withDomaincfg d (keptDomaincfg v) shaped) ∙ keptDomaincfg-messages v in
       mode-same d wires stored (beq-same (byMessages d) (byMessages stored) (e ∙ sym mode))
 
   other-mode : byMessages d ≢ hasBit v 2
-      → Became d (configWritten d wires v) (keptConfig v) 0
+      → Became d (domaincfgWritten d wires v) (keptDomaincfg v) 0
       (λ j s. redelivered s (hasBit v 2) (member wires j))
-  other-mode n = rw (beq-differs (byMessages d) (hasBit v 2) n) at (became-configWritten d wires v shaped)
+  other-mode n = rw (beq-differs (byMessages d) (hasBit v 2) n) at (became-domaincfgWritten d wires v shaped)
 
 pub claim-56 : Claim-56
 unfolding Claim-56
 claim-56 = (
   λ d wires v shaped. (
-    isEnabled-configWritten d wires v shaped,
-    byMessages-configWritten d wires v shaped,
-    λ e. same-mode d wires v shaped e ∙ ap (withConfig d) (config-is v),
-    λ n. rw (config-is v) at (other-mode d wires v shaped n),
+    isEnabled-domaincfgWritten d wires v shaped,
+    byMessages-domaincfgWritten d wires v shaped,
+    λ e. same-mode d wires v shaped e ∙ ap (withDomaincfg d) (domaincfg-is v),
+    λ n. rw (domaincfg-is v) at (other-mode d wires v shaped n),
   ),
   restarted,
 )

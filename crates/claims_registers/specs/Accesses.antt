@@ -52,8 +52,8 @@ pub record ReadsBack (w : Wired) (c : Bool) (v : ℕ) : Type 0 where
       × (v / 1024 % 2 ≡ 0 → ModeOf v (readBack w c v (Sourcecfg i)))
   pub child-sourcecfg : (i : ℕ) → 1 ≤ i → i ≤ 63 → c ≡ true
       → (v / 1024 % 2 ≡ 1 → readBack w c v (Sourcecfg i) ≡ 0)
-      × (sourceAt (w .root) i .mode ≢ 1024 → readBack w c v (Sourcecfg i) ≡ 0)
-      × (v / 1024 % 2 ≡ 0 → sourceAt (w .root) i .mode ≡ 1024 → ModeOf v (readBack w c v (Sourcecfg i)))
+      × (sourceAt (w .machine) i .mode ≢ 1024 → readBack w c v (Sourcecfg i) ≡ 0)
+      × (v / 1024 % 2 ≡ 0 → sourceAt (w .machine) i .mode ≡ 1024 → ModeOf v (readBack w c v (Sourcecfg i)))
   -- bit n of word k, which is source 32 k + n: what it was, or set; source 0 reads 0
   pub setip : (k n : ℕ) → k < 2 → n < 32 → 1 ≤ 32 * k + n
       → Bit (readBack w c v (Setip k)) n
@@ -110,6 +110,6 @@ Claim-140 =
     × ((w : Wired) (c : Bool) (r : Word) → ((h : ℕ) → r ≢ Claimi h) → claimedIn w c r ≡ w)
     × ((w : Wired) (h : ℕ)
     → (claimedIn w false (Claimi h)
-    ≡ record { wires = w .wires; root = hartClaimed (w .root) h; child = w .child })
+    ≡ record { wires = w .wires; machine = hartClaimed (w .machine) h; child = w .child })
     × (claimedIn w true (Claimi h)
-    ≡ record { wires = w .wires; root = w .root; child = hartClaimed (w .child) h }))
+    ≡ record { wires = w .wires; machine = w .machine; child = hartClaimed (w .child) h }))

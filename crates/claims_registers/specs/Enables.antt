@@ -12,7 +12,7 @@ use Rattle.words.specs.Sets.{member}
 use Rattle.source_mode.specs.Mode.{isActive}
 use Rattle.domain_region.specs.declared.Word.{Word}
 use Rattle.domain_region.specs.declared.Word.the-variants.{Setie, Setienum, Clrie, Clrienum}
-use Rattle.domain.specs.Domain.{Domain, configOf, generatedAt}
+use Rattle.domain.specs.Domain.{Domain, domaincfgOf, genmsiOf}
 use Rattle.domain.specs.Slot.{sourceAt}
 use Rattle.domain.specs.Structure.{structureAt}
 use Rattle.domain_laws.specs.Shape.{DomainShaped}
@@ -29,8 +29,8 @@ pub record EnablesWritten (on : Bool) (Names : ℕ → Type 0) (d d′ : Domain)
   pub sources : (j : ℕ) → 1 ≤ j → j ≤ 63
       → (sourceAt d′ j .mode ≡ sourceAt d j .mode) × (sourceAt d′ j .target ≡ sourceAt d j .target)
       × (sourceAt d′ j .pending ≡ sourceAt d j .pending)
-  pub config : configOf d′ ≡ configOf d
-  pub generated : generatedAt d′ ≡ generatedAt d
+  pub domaincfg : domaincfgOf d′ ≡ domaincfgOf d
+  pub genmsi : genmsiOf d′ ≡ genmsiOf d
   pub structures : (h : ℕ) → structureAt d′ h ≡ structureAt d h
   -- number 0, which is no source
   pub zero : (member (d′ .pending) 0 ≡ member (d .pending) 0) × (member (d′ .enable) 0 ≡ member (d .enable) 0)

@@ -22,7 +22,7 @@ use Rattle.source_target.specs.Target.{hartOf, guestOf, numberOf}
 use Rattle.domain_region.specs.Region.{Within}
 use Rattle.domain_region.specs.declared.Word.{Word}
 use Rattle.source.specs.declared.Source.{Source}
-use Rattle.domain.specs.Domain.{Domain, configOf, isEnabled, byMessages, generatedAt}
+use Rattle.domain.specs.Domain.{Domain, domaincfgOf, isEnabled, byMessages, genmsiOf}
 use Rattle.domain.specs.Slot.{sourceAt}
 use Rattle.domain.specs.Structure.{structureAt}
 use Rattle.domain_laws.specs.Shape.{DomainShaped}
@@ -33,7 +33,7 @@ use Rattle.wired_rules_laws.specs.Steady.{passed}
 use Rattle.wired_rules.proofs.sound.Reads as sound
 
 abbrev pub Long : Wired → Type 0
-Long w = (length (w .wires) ≡ 2) × DomainShaped (w .root) × DomainShaped (w .child)
+Long w = (length (w .wires) ≡ 2) × DomainShaped (w .machine) × DomainShaped (w .child)
 
 abbrev pub Sound : Wired → Type 0
 Sound w = Long w × (wiredSound w ≡ true)
@@ -72,10 +72,10 @@ pub record SourceRules (c m sends wire : Bool) (s : Source) : Type 0 where
 
 pub record DomainRules (c : Bool) (wires : List ℕ) (d : Domain) : Type 0 where
   -- no bits but those of IE and DM, of a hart and an identity, and of the settable numbers
-  pub config : configOf d ≡ cond (isEnabled d) (2 ^ 8) 0 + cond (byMessages d) (2 ^ 2) 0
-  pub generated : generatedAt d ≡ hartOf (generatedAt d) * 2 ^ 18 + numberOf (generatedAt d)
+  pub domaincfg : domaincfgOf d ≡ cond (isEnabled d) (2 ^ 8) 0 + cond (byMessages d) (2 ^ 2) 0
+  pub genmsi : genmsiOf d ≡ hartOf (genmsiOf d) * 2 ^ 18 + numberOf (genmsiOf d)
   -- genmsi is 0 in direct mode
-  pub direct : byMessages d ≡ false → generatedAt d ≡ 0
+  pub direct : byMessages d ≡ false → genmsiOf d ≡ 0
   pub structures : (h : ℕ) → h < 4
       → (structureAt d h .idelivery ≤ 1) × (structureAt d h .iforce ≤ 1) × (structureAt d h .ithreshold ≤ 255)
   -- there is no source 0, and no wire 0
@@ -85,10 +85,10 @@ pub record DomainRules (c : Bool) (wires : List ℕ) (d : Domain) : Type 0 where
 
 pub record WiredRules (w : Wired) : Type 0 where
   pub zero : member (w .wires) 0 ≡ false
-  pub root : DomainRules false (w .wires) (w .root)
+  pub machine : DomainRules false (w .wires) (w .machine)
   pub child : DomainRules true (w .wires) (w .child)
   -- the child's sourcecfg is 0 where the machine domain's does not delegate
-  pub undelegated : (i : ℕ) → 1 ≤ i → i ≤ 63 → sourceAt (w .root) i .mode ≢ 1024
+  pub undelegated : (i : ℕ) → 1 ≤ i → i ≤ 63 → sourceAt (w .machine) i .mode ≢ 1024
       → sourceAt (w .child) i .mode ≡ 0
 
 -- the test of the state rules passes exactly if the rules hold as plain statements
@@ -110,5 +110,5 @@ Claim-74 =
 -- [01 W21]
 unfoldable pub Claim-75 : Type 0
 Claim-75 =
-    (w : Wired) → Sound w → (i : ℕ) → 1 ≤ i → i ≤ 63 → isActive (sourceAt (w .root) i .mode) ≡ true
+    (w : Wired) → Sound w → (i : ℕ) → 1 ≤ i → i ≤ 63 → isActive (sourceAt (w .machine) i .mode) ≡ true
     → isActive (sourceAt (w .child) i .mode) ≡ false

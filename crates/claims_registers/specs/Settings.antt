@@ -15,7 +15,7 @@ use mathlib.Core.List.{List}
 use mathlib.Core.Logic.{_≢_}
 use Rattle.domain_region.specs.declared.Word.{Word}
 use Rattle.domain_region.specs.declared.Word.the-variants.{Genmsi, Idelivery, Iforce, Ithreshold}
-use Rattle.domain.specs.Domain.{Domain, configOf, byMessages, generatedAt}
+use Rattle.domain.specs.Domain.{Domain, domaincfgOf, byMessages, genmsiOf}
 use Rattle.domain.specs.Slot.{sourceAt}
 use Rattle.domain.specs.Structure.{structureAt}
 use Rattle.domain_laws.specs.Shape.{DomainShaped}
@@ -33,8 +33,8 @@ pub record NumbersAre (d d′ : Domain) (wires : List ℕ) (h a b t : ℕ) : Typ
   pub ithreshold : (structureAt d′ h .ithreshold ≡ t) × (registerValue d′ wires (Ithreshold h) ≡ t)
   -- the other harts, domaincfg, genmsi and every source
   pub others : (g : ℕ) → g ≢ h → structureAt d′ g ≡ structureAt d g
-  pub config : configOf d′ ≡ configOf d
-  pub generated : generatedAt d′ ≡ generatedAt d
+  pub domaincfg : domaincfgOf d′ ≡ domaincfgOf d
+  pub genmsi : genmsiOf d′ ≡ genmsiOf d
   pub sources : (i : ℕ) → sourceAt d′ i ≡ sourceAt d i
 
 -- in direct mode idelivery and iforce store 0 and 1 and keep the old value otherwise, and ithreshold keeps
@@ -64,7 +64,7 @@ Claim-136 =
     ((c : Bool) (d : Domain) (wires : List ℕ) (v : ℕ) → DomainShaped d
     → let after = registerWritten c d wires Genmsi v in let word = v / 2 ^ 18 % 4 * 2 ^ 18 + v % 256 in
     (byMessages d ≡ true
-    → Became d after (configOf d) word (λ j s. s) × (registerValue after wires Genmsi ≡ word))
+    → Became d after (domaincfgOf d) word (λ j s. s) × (registerValue after wires Genmsi ≡ word))
     × (byMessages d ≡ false → (after ≡ d) × (registerValue d wires Genmsi ≡ 0)))
     × ((w : Wired) → Sound w → (c : Bool) → readIn w c Genmsi / 2 ^ 12 % 2 ≡ 0)
 

@@ -19,4 +19,4 @@ Claim-141 =
     → let after = wireSet w i level in
     (member (after .wires) i ≡ level)
     × ((j : ℕ) → j ≢ i → member (after .wires) j ≡ member (w .wires) j)
-    × SourceAlone i (w .root) (after .root) × SourceAlone i (w .child) (after .child)
+    × SourceAlone i (w .machine) (after .machine) × SourceAlone i (w .child) (after .child)

@@ -23,12 +23,12 @@ use Rattle.domain_region.specs.declared.Word.the-variants.{Sourcecfg}
 use Rattle.source.specs.declared.Source.{Source}
 use Rattle.source.specs.declared.Change.{Change}
 use Rattle.source.specs.Pending.{withTarget, changed, redelivered}
-use Rattle.domain.specs.Domain.{Domain, isEnabled, byMessages, withConfig}
+use Rattle.domain.specs.Domain.{Domain, isEnabled, byMessages, withDomaincfg}
 use Rattle.domain.specs.Slot.{sourceAt}
 use Rattle.domain_laws.specs.Shape.{DomainShaped}
 use Rattle.domain_laws.specs.Became.{Became, Touched}
 use Rattle.domain_writes.specs.Writes.{wordChanged, numberChanged, targetWritten}
-use Rattle.domain_config.specs.Config.{configWritten}
+use Rattle.domain_domaincfg.specs.Domaincfg.{domaincfgWritten}
 use Rattle.wired_state.specs.Wires.{Wired, wireSet, isDelegated}
 use Rattle.wired_registers.specs.Wired.{writtenIn}
 use Rattle.claims_registers.specs.Rules.{Sound, TargetStored}
@@ -62,10 +62,11 @@ unfoldable pub Claim-56 : Type 0
 Claim-56 =
     ((d : Domain) (wires : List ℕ) (v : ℕ) → DomainShaped d
     → let word = cond (hasBit v 8) (2 ^ 8) 0 + cond (hasBit v 2) (2 ^ 2) 0 in
-    (isEnabled (configWritten d wires v) ≡ hasBit v 8) × (byMessages (configWritten d wires v) ≡ hasBit v 2)
-    × (byMessages d ≡ hasBit v 2 → configWritten d wires v ≡ withConfig d word)
+    (isEnabled (domaincfgWritten d wires v) ≡ hasBit v 8)
+    × (byMessages (domaincfgWritten d wires v) ≡ hasBit v 2)
+    × (byMessages d ≡ hasBit v 2 → domaincfgWritten d wires v ≡ withDomaincfg d word)
     × (byMessages d ≢ hasBit v 2
-    → Became d (configWritten d wires v) word 0 (λ j s. redelivered s (hasBit v 2) (member wires j))))
+    → Became d (domaincfgWritten d wires v) word 0 (λ j s. redelivered s (hasBit v 2) (member wires j))))
     × ((m x : Bool) (s : Source) → Restarted m x s (redelivered s m x))
 
 -- a wire set as it is, and a delegation of what is delegated, change nothing

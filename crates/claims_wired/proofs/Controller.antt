@@ -11,11 +11,11 @@ use Rattle.domain_region.proofs.RoleLaws.{generates-only}
 use Rattle.wired_state.specs.Wires.{Wired, domainIn, wireSet}
 use Rattle.wired_registers.specs.Wired.{writtenIn}
 use Rattle.domain_sending.specs.Sending.{Sent}
-use Rattle.domain_genmsi.specs.Genmsi.{generatedSent}
+use Rattle.domain_genmsi.specs.Genmsi.{genmsiSent}
 use Rattle.wired_rules_laws.specs.Steady.{WiredSteady, WiredQuiet}
 use Rattle.wired_rules_laws.proofs.SoundParts.{wired-sound-steady, wired-sound-quiet}
-use Rattle.wired.specs.Controller.{flushed, generatedAs, generatedBy, wireCall, writeCall, OneSends}
-use Rattle.wired.proofs.ControllerLaws.{generated-else}
+use Rattle.wired.specs.Controller.{flushed, genmsiAs, genmsiBy, wireCall, writeCall, OneSends}
+use Rattle.wired.proofs.ControllerLaws.{genmsi-else}
 use Rattle.wired.proofs.CallLaws.{one-wireSet, one-writtenIn, read-silent, genmsi-silent}
 use Rattle.wired_laws.proofs.OutEffects.{wire-count, wire-exists, write-count, write-exists}
 use Rattle.wired_laws.proofs.OutEffects.{wire-sound, read-sound, write-sound}
@@ -45,16 +45,16 @@ one w (inr e) = inr (ap (λ (s : Sent). s .messages) e)
 genmsi-alone : (w : Wired) (c : Bool) (v : ℕ)
     → flushed (writtenIn w c Genmsi v) ≡ record { wired = writtenIn w c Genmsi v; messages = [] }
     → writeCall w c Genmsi v
-    ≡ record { wired = writtenIn w c Genmsi v; messages = generatedSent c (domainIn w c) v }
-unfolding writeCall generatedBy generatedAs
-genmsi-alone w c v silent = rw (silent, append-nil (generatedSent c (domainIn w c) v))
+    ≡ record { wired = writtenIn w c Genmsi v; messages = genmsiSent c (domainIn w c) v }
+unfolding writeCall genmsiBy genmsiAs
+genmsi-alone w c v silent = rw (silent, append-nil (genmsiSent c (domainIn w c) v))
 
 -- a write to any other register, with what is to be sent after it
 change-alone : (w : Wired) (c : Bool) (r : Word) (v : ℕ) → r ≢ Genmsi
     → Sends (writtenIn w c r v) (writeCall w c r v)
 unfolding writeCall flushed
 change-alone w c r v n =
-    rw (generated-else c (domainIn w c) r v (λ e. n (generates-only r e))) (refl, refl)
+    rw (genmsi-else c (domainIn w c) r v (λ e. n (generates-only r e))) (refl, refl)
 
 pub claim-77 : Claim-77
 unfolding Claim-77 wireCall flushed

@@ -15,20 +15,20 @@ use Rattle.source.specs.declared.Source.{Source}
 use Rattle.source.specs.declared.Change.the-variants.{Pend, Clear, Enable, Disable}
 use Rattle.source.specs.Pending.{settled, pended, cleared, switched, changed, redelivered, retargeted}
 use Rattle.domain_delivery.specs.declared.Delivery.{Delivery}
-use Rattle.domain.specs.Domain.{Domain, configOf, byMessages, generatedAt}
+use Rattle.domain.specs.Domain.{Domain, domaincfgOf, byMessages, genmsiOf}
 use Rattle.domain.specs.Slot.{sourceAt}
 use Rattle.domain.specs.Structure.{structureAt, withStructure}
 use Rattle.domain_laws.specs.Shape.{DomainShaped}
 use Rattle.domain_laws.specs.Became.{Became, Touched}
-use Rattle.domain_laws.proofs.OwnEffects.{configOf-withStructure, generatedAt-withStructure}
+use Rattle.domain_laws.proofs.OwnEffects.{domaincfgOf-withStructure, genmsiOf-withStructure}
 use Rattle.domain_laws.proofs.StructureEffects.{structureAt-withStructure-same}
 use Rattle.domain_laws.proofs.StructureEffects.{structureAt-withStructure-other, sourceAt-withStructure}
 use Rattle.domain_writes.specs.Writes.{targetWritten}
-use Rattle.domain_config.specs.Config.{configWritten}
-use Rattle.domain_genmsi.specs.Genmsi.{generatedWritten}
+use Rattle.domain_domaincfg.specs.Domaincfg.{domaincfgWritten}
+use Rattle.domain_genmsi.specs.Genmsi.{genmsiWritten}
 use Rattle.domain_writes_laws.specs.Named.{changing, keepsMode}
 use Rattle.domain_writes_laws.proofs.WritesEffects.{touched-targetWritten}
-use Rattle.domain_writes_laws.proofs.ConfigEffects.{became-configWritten, became-generatedWritten}
+use Rattle.domain_writes_laws.proofs.DomaincfgEffects.{became-domaincfgWritten, became-genmsiWritten}
 use Rattle.wired_rules_laws.proofs.ModeEffects.{changed-mode, redelivered-mode, retargeted-mode}
 use Rattle.claims_wired.specs.Kept.{Touch, none, sources, configures, generates, Spares}
 
@@ -61,8 +61,8 @@ kept-same t d =
       enabled = λ i l h e. refl;
       target = λ i l h e. refl;
       mode = λ i l h e. refl;
-      config = λ e. refl;
-      generated = λ e. refl;
+      domaincfg = λ e. refl;
+      genmsi = λ e. refl;
       idelivery = λ h l e. refl;
       iforce = λ h l e. refl;
       ithreshold = λ h l e. refl;
@@ -74,15 +74,15 @@ module _ {d d′ : Domain} {w g : ℕ} {f : ℕ → Source → Source} (x : Beca
       → ((j : ℕ) → t .enabled j ≡ false → f j (sourceAt d j) .enabled ≡ sourceAt d j .enabled)
       → ((j : ℕ) → t .target j ≡ false → f j (sourceAt d j) .target ≡ sourceAt d j .target)
       → ((j : ℕ) → t .mode j ≡ false → f j (sourceAt d j) .mode ≡ sourceAt d j .mode)
-      → (t .config ≡ false → w ≡ configOf d) → (t .generated ≡ false → g ≡ generatedAt d) → Spares t d d′
+      → (t .domaincfg ≡ false → w ≡ domaincfgOf d) → (t .genmsi ≡ false → g ≡ genmsiOf d) → Spares t d d′
   kept-became p e r m c v =
       record {
         pending = λ i l h q. ap pendingOf (x .source i l (omega arith)) ∙ p i q;
         enabled = λ i l h q. ap enabledOf (x .source i l (omega arith)) ∙ e i q;
         target = λ i l h q. ap targetOf (x .source i l (omega arith)) ∙ r i q;
         mode = λ i l h q. ap modeOf (x .source i l (omega arith)) ∙ m i q;
-        config = λ q. x .config ∙ c q;
-        generated = λ q. x .generated ∙ v q;
+        domaincfg = λ q. x .domaincfg ∙ c q;
+        genmsi = λ q. x .genmsi ∙ v q;
         idelivery = λ h l q. ap (λ (y : Delivery). y .idelivery) (x .structure h);
         iforce = λ h l q. ap (λ (y : Delivery). y .iforce) (x .structure h);
         ithreshold = λ h l q. ap (λ (y : Delivery). y .ithreshold) (x .structure h);
@@ -188,11 +188,11 @@ not-false true e = refl
 not-false false e = absurd (true≢false e)
 
 module _ (d : Domain) (shaped : DomainShaped d) where
-  pub kept-config : (ws : List ℕ) (v : ℕ)
-      → Spares (configures (not (Bool·beq (byMessages d) (hasBit v 2)))) d (configWritten d ws v)
-  kept-config ws v =
+  pub kept-domaincfg : (ws : List ℕ) (v : ℕ)
+      → Spares (configures (not (Bool·beq (byMessages d) (hasBit v 2)))) d (domaincfgWritten d ws v)
+  kept-domaincfg ws v =
       let same = keepsMode d v in
-      kept-became (became-configWritten d ws v shaped) (configures (not same))
+      kept-became (became-domaincfgWritten d ws v shaped) (configures (not same))
       (λ j n. rw (not-false same n))
       (λ j n. tested same (λ t. rw t)
       (λ f. rw f (redelivered-enabled (sourceAt d j) (hasBit v 2) (member ws j))))
@@ -201,9 +201,9 @@ module _ (d : Domain) (shaped : DomainShaped d) where
       (λ f. rw f (redelivered-mode (sourceAt d j) (hasBit v 2) (member ws j))))
       (λ n. absurd (true≢false n)) (λ n. rw (not-false same n))
 
-  pub kept-generated : (v : ℕ) → Spares (generates (byMessages d)) d (generatedWritten d v)
-  kept-generated v =
-      kept-became (became-generatedWritten d v shaped) (generates (byMessages d)) (λ j n. refl) (λ j n. refl)
+  pub kept-genmsi : (v : ℕ) → Spares (generates (byMessages d)) d (genmsiWritten d v)
+  kept-genmsi v =
+      kept-became (became-genmsiWritten d v shaped) (generates (byMessages d)) (λ j n. refl) (λ j n. refl)
       (λ j n. refl) (λ j n. refl) (λ n. refl) (λ n. rw n)
 
   pub kept-target : (c : Bool) (i v : ℕ) → 1 ≤ i → i ≤ 63
@@ -238,8 +238,8 @@ module _ (d : Domain) (shaped : DomainShaped d) where
           enabled = λ i l u e. ap enabledOf (sourceAt-withStructure d h x i);
           target = λ i l u e. ap targetOf (sourceAt-withStructure d h x i);
           mode = λ i l u e. ap modeOf (sourceAt-withStructure d h x i);
-          config = λ e. configOf-withStructure d h x;
-          generated = λ e. generatedAt-withStructure d h x;
+          domaincfg = λ e. domaincfgOf-withStructure d h x;
+          genmsi = λ e. genmsiOf-withStructure d h x;
           idelivery = λ g l e. numbers (λ (y : Delivery). y .idelivery) (t .idelivery) a g l e;
           iforce = λ g l e. numbers (λ (y : Delivery). y .iforce) (t .iforce) b g l e;
           ithreshold = λ g l e. numbers (λ (y : Delivery). y .ithreshold) (t .ithreshold) c g l e;

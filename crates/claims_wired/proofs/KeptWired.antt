@@ -42,7 +42,7 @@ use Rattle.domain_direct.proofs.DirectLaws.{written-direct}
 use Rattle.domain_registers.specs.Write.{registerWritten}
 use Rattle.domain_registers.specs.Read.{claimedAs, claimedBy}
 use Rattle.wired_state.specs.Wires.{Wired, domainIn, withDomain, isDelegated, sourceWired, wireSet}
-use Rattle.wired_sourcecfg.specs.Delegation.{sourceModed, childWritten, rootWritten, sourceWritten}
+use Rattle.wired_sourcecfg.specs.Delegation.{sourceModed, childWritten, machineWritten, sourceWritten}
 use Rattle.wired_registers.specs.Wired.{claimedIn, partWritten, writtenAs, writtenIn}
 use Rattle.claims_registers.specs.Rules.{Long}
 use Rattle.claims_wired.specs.Kept.{Touch, none, sources, harts, whileDirect, writes, claims, reads}
@@ -50,7 +50,7 @@ use Rattle.claims_wired.specs.Kept.{writesIn, readsIn, Spares, Claim-155
 use Rattle.claims_registers.proofs.Accesses.{wires-with}
 use Rattle.claims_wired.proofs.Kept.{out, keep, pendingOf, enabledOf, targetOf, modeOf, kept-same}
 use Rattle.claims_wired.proofs.Kept.{kept-became, kept-pendings, kept-wholes, kept-pend, kept-clear}
-use Rattle.claims_wired.proofs.Kept.{kept-enable, kept-disable, kept-config, kept-generated}
+use Rattle.claims_wired.proofs.Kept.{kept-enable, kept-disable, kept-domaincfg, kept-genmsi}
 use Rattle.claims_wired.proofs.Kept.{kept-target, kept-structure}
 
 module _ (d : Domain) (shaped : DomainShaped d) where
@@ -99,7 +99,7 @@ module _ (d : Domain) (shaped : DomainShaped d) where
   kept-written : (c : Bool) (ws : List ℕ) (r : Word) → Within r → (v : ℕ)
       → Spares (writes d r v) d (registerWritten c d ws r v)
   unfolding writes registerWritten named
-  kept-written c ws Domaincfg q v = kept-config d shaped ws v
+  kept-written c ws Domaincfg q v = kept-domaincfg d shaped ws v
   kept-written c ws (Sourcecfg i) q v = kept-same _ d
   kept-written c ws (Setip k) q v = kept-pend d ws (named k v) (touched-wordChanged d ws Pend v shaped k q)
   kept-written c ws Setipnum q v = kept-pend d ws (eqb v) (touched-numberChanged d ws Pend v shaped)
@@ -115,7 +115,7 @@ module _ (d : Domain) (shaped : DomainShaped d) where
   kept-written c ws SetipnumLe q v = kept-pend d ws (eqb v) (touched-numberChanged d ws Pend v shaped)
   kept-written c ws SetipnumBe q v =
       kept-pend d ws (eqb (reversed v)) (touched-numberChanged d ws Pend (reversed v) shaped)
-  kept-written c ws Genmsi q v = kept-generated d shaped v
+  kept-written c ws Genmsi q v = kept-genmsi d shaped v
   kept-written c ws (Target i) q v = kept-target d shaped c i v (q .0) (q .1)
   kept-written c ws (Idelivery h) q v = kept-idelivery h v
   kept-written c ws (Iforce h) q v = kept-iforce h v
@@ -219,9 +219,9 @@ module _ (w : Wired) (long : Long w) where
       → Spares (writesIn w c r v e) (domainIn w e) (domainIn (partWritten w c r v) e)
   unfolding writesIn domainIn withDomain
   kept-part true r q v true = kept-written (w .child) (long .2) true (w .wires) r q v
-  kept-part true r q v false = kept-same _ (w .root)
+  kept-part true r q v false = kept-same _ (w .machine)
   kept-part false r q v true = kept-same _ (w .child)
-  kept-part false r q v false = kept-written (w .root) (long .1) false (w .wires) r q v
+  kept-part false r q v false = kept-written (w .machine) (long .1) false (w .wires) r q v
 
   module _ (i : ℕ) (l : 1 ≤ i) (h : i ≤ 63) (v : ℕ) where
     modes : Domain → ℕ → ℕ → Source → Source
@@ -229,17 +229,17 @@ module _ (w : Wired) (long : Long w) where
 
     kept-source : (c e : Bool)
         → Spares (writesIn w c (Sourcecfg i) v e) (domainIn w e) (domainIn (sourceWritten w c i v) e)
-    unfolding writesIn writes domainIn sourceWritten childWritten rootWritten sourceModed modes
+    unfolding writesIn writes domainIn sourceWritten childWritten machineWritten sourceModed modes
     kept-source true true = kept-replaced (w .child) (long .2) i l h (modes (w .child) _)
-    kept-source true false = kept-same _ (w .root)
+    kept-source true false = kept-same _ (w .machine)
     kept-source false true =
         tested (Bool·beq (isDelegated w i) (leb 1024 (sourceWord false false v)))
         (λ t. rw t (kept-same _ (w .child)))
         (λ f. rw f (kept-replaced (w .child) (long .2) i l h (λ j s. inactive 0)))
-    kept-source false false = kept-replaced (w .root) (long .1) i l h (modes (w .root) _)
+    kept-source false false = kept-replaced (w .machine) (long .1) i l h (modes (w .machine) _)
 
     wires-source : (c : Bool) → sourceWritten w c i v .wires ≡ w .wires
-    unfolding sourceWritten childWritten rootWritten
+    unfolding sourceWritten childWritten machineWritten
     wires-source true = refl
     wires-source false = refl
 
@@ -268,9 +268,9 @@ module _ (w : Wired) (long : Long w) where
       → Spares (readsIn w c r e) (domainIn w e) (domainIn (claimedIn w c r) e)
   unfolding readsIn domainIn withDomain
   kept-claimedIn true r true = kept-read (w .child) (long .2) r
-  kept-claimedIn true r false = kept-same _ (w .root)
+  kept-claimedIn true r false = kept-same _ (w .machine)
   kept-claimedIn false r true = kept-same _ (w .child)
-  kept-claimedIn false r false = kept-read (w .root) (long .1) r
+  kept-claimedIn false r false = kept-read (w .machine) (long .1) r
 
 pub claim-155 : Claim-155
 unfolding Claim-155

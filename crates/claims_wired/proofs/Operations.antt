@@ -29,7 +29,7 @@ use Rattle.domain_registers.specs.Read.{claimedBy}
 use Rattle.domain_registers.proofs.ReadLaws.{claimed-by}
 use Rattle.domain_sending_laws.proofs.SendingEffects.{sent-source, spent-hit}
 use Rattle.wired_state.specs.Wires.{wireSet, sourceWired}
-use Rattle.wired_sourcecfg.specs.Delegation.{sourceModed, childWritten, rootWritten}
+use Rattle.wired_sourcecfg.specs.Delegation.{sourceModed, childWritten, machineWritten}
 use Rattle.wired_sourcecfg.specs.Delegation.{sourceWritten}
 use Rattle.claims_domain.specs.Causes.{happens}
 use Rattle.claims_wired.specs.Operations.{Claim-59}
@@ -74,12 +74,12 @@ claim-59 = (
         λ on to. sent-source c d on i l u ∙ spent-hit (sourceAt d i) to,
       ),
   λ w long i l h level. unfold wireSet sourceWired in (
-    sourceAt-withSource-same (w .root) i _ (long .1) (omega arith),
+    sourceAt-withSource-same (w .machine) i _ (long .1) (omega arith),
     sourceAt-withSource-same (w .child) i _ (long .2) (omega arith),
   ),
   λ w long i l h v. (
-    rw (word-written w false i v) (unfold sourceWritten rootWritten sourceModed in
-        sourceAt-withSource-same (w .root) i _ (long .1) (omega arith)),
+    rw (word-written w false i v) (unfold sourceWritten machineWritten sourceModed in
+        sourceAt-withSource-same (w .machine) i _ (long .1) (omega arith)),
     rw (word-written w true i v) (unfold sourceWritten childWritten sourceModed in
         sourceAt-withSource-same (w .child) i _ (long .2) (omega arith)),
   ),

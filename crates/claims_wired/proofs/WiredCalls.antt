@@ -78,7 +78,7 @@ claim-67 l m hl hm e =
     claim-66 (take 144 (drop a l)) (take 144 (drop a m)) (segment-long l a 144 (omega arith))
     (segment-long m a 144 (omega arith)) q in
     stretch l m 0 2 (ap (λ (w : Wired). w .wires) e)
-    (stretch l m 2 144 (same 2 (omega arith) (ap (λ (w : Wired). w .root) e))
+    (stretch l m 2 144 (same 2 (omega arith) (ap (λ (w : Wired). w .machine) e))
     (last-stretch l m 146 144 hl hm (same 146 (omega arith) (ap (λ (w : Wired). w .child) e))))
 
 pub claim-68 : Claim-68

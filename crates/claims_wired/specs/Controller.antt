@@ -19,7 +19,7 @@ use Rattle.wired_state.specs.Wires.{Wired, wiredOf, domainIn, wireSet}
 use Rattle.wired_registers.specs.Wired.{readIn, claimedIn, writtenIn}
 use Rattle.wired_rules.specs.Rules.{wiredSound}
 use Rattle.domain_sending.specs.Sending.{sent}
-use Rattle.domain_genmsi.specs.Genmsi.{generatedSent}
+use Rattle.domain_genmsi.specs.Genmsi.{genmsiSent}
 use Rattle.wired.specs.Controller.{Out, wireCall, readCall, writeCall, Leaves}
 use Rattle.wired.proofs.set_wire.Reads as set-wire
 use Rattle.wired.proofs.read.Reads as read
@@ -42,17 +42,17 @@ Claim-76 =
 -- what a controller after a change sends: the machine domain's messages first
 abbrev pub Sends : Wired → Out → Type 0
 Sends w o =
-    (o .messages ≡ sent false (w .root) .messages ++ sent true (w .child) .messages)
+    (o .messages ≡ sent false (w .machine) .messages ++ sent true (w .child) .messages)
     × (o .wired
     ≡ record {
       wires = w .wires;
-      root = sent false (w .root) .domain;
+      machine = sent false (w .machine) .domain;
       child = sent true (w .child) .domain;
     })
 
 -- one of the two domains has nothing to send
 abbrev pub OneAtMost : Wired → Type 0
-OneAtMost w = (sent false (w .root) .messages ≡ []) ⊎ (sent true (w .child) .messages ≡ [])
+OneAtMost w = (sent false (w .machine) .messages ≡ []) ⊎ (sent true (w .child) .messages ≡ [])
 
 -- the messages of a call: those of the change, machine domain first, of which one domain at most sends; a
 -- read sends nothing; the message of a genmsi is the only one of its call
@@ -68,7 +68,7 @@ Claim-77 =
     → Sends (writtenIn w c r v) (writeCall w c r v) × OneAtMost (writtenIn w c r v))
     × ((c : Bool) (v : ℕ)
     → writeCall w c Genmsi v
-    ≡ record { wired = writtenIn w c Genmsi v; messages = generatedSent c (domainIn w c) v })
+    ≡ record { wired = writtenIn w c Genmsi v; messages = genmsiSent c (domainIn w c) v })
 
 -- 63 log words suffice for every call, and every message names a file that there is
 unfoldable pub Claim-78 : Type 0

@@ -19,7 +19,7 @@ use Rattle.source.specs.declared.Change.the-variants.{Pend, Clear, Enable, Disa
 use Rattle.source.specs.Pending.{changed}
 use Rattle.domain.specs.Domain.{Domain}
 use Rattle.domain_writes.specs.Writes.{wordChanged, numberChanged, targetWritten}
-use Rattle.domain_config.specs.Config.{configWritten}
+use Rattle.domain_domaincfg.specs.Domaincfg.{domaincfgWritten}
 use Rattle.domain_registers.specs.Write.{registerWritten}
 use Rattle.wired_state.specs.Wires.{Wired}
 use Rattle.wired_registers.specs.Wired.{writtenIn}
@@ -45,16 +45,27 @@ ChangesMade =
     × (written Clrienum ≡ numberChanged d wires Disable v)
     × (written SetipnumLe ≡ numberChanged d wires Pend v)
     × (written SetipnumBe ≡ numberChanged d wires Pend (swapped v))
-    × (written Domaincfg ≡ configWritten d wires v) × ((i : ℕ) → written (Target i) ≡ targetWritten c d i v)
+    × (written Domaincfg ≡ domaincfgWritten d wires v)
+    × ((i : ℕ) → written (Target i) ≡ targetWritten c d i v)
 
 -- in the controller: a write to any register but a sourcecfg changes its own domain alone
 abbrev pub OneDomain : Type 0
 OneDomain =
     (w : Wired) (r : Word) (v : ℕ) → ((i : ℕ) → r ≢ Sourcecfg i)
     → (writtenIn w false r v
-    ≡ record { wires = w .wires; root = registerWritten false (w .root) (w .wires) r v; child = w .child })
+    ≡ record {
+      wires =
+          w .wires;
+      machine = registerWritten false (w .machine) (w .wires) r v;
+      child = w .child;
+    })
     × (writtenIn w true r v
-    ≡ record { wires = w .wires; root = w .root; child = registerWritten true (w .child) (w .wires) r v })
+    ≡ record {
+      wires =
+          w .wires;
+      machine = w .machine;
+      child = registerWritten true (w .child) (w .wires) r v;
+    })
 
 -- which change the write to each register makes, and that it changes its own domain alone if it is no
 -- sourcecfg

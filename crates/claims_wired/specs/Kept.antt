@@ -30,7 +30,7 @@ use Rattle.domain_region.specs.declared.Word.the-variants.{Domaincfg, Sourcecfg
 use Rattle.domain_region.specs.declared.Word.the-variants.{Clripnum, Setie, Setienum, Clrie, Clrienum}
 use Rattle.domain_region.specs.declared.Word.the-variants.{SetipnumLe, SetipnumBe, Genmsi, Target, Idelivery}
 use Rattle.domain_region.specs.declared.Word.the-variants.{Iforce, Ithreshold, Topi, Claimi, Unused}
-use Rattle.domain.specs.Domain.{Domain, configOf, byMessages, generatedAt}
+use Rattle.domain.specs.Domain.{Domain, domaincfgOf, byMessages, genmsiOf}
 use Rattle.domain.specs.Slot.{sourceAt}
 use Rattle.domain.specs.Structure.{structureAt}
 use Rattle.domain_direct.specs.Direct.{topSource}
@@ -43,8 +43,8 @@ pub record Touch : Type 0 where
   pub enabled : ℕ → Bool
   pub target : ℕ → Bool
   pub mode : ℕ → Bool
-  pub config : Bool
-  pub generated : Bool
+  pub domaincfg : Bool
+  pub genmsi : Bool
   pub idelivery : ℕ → Bool
   pub iforce : ℕ → Bool
   pub ithreshold : ℕ → Bool
@@ -59,8 +59,8 @@ sources p e t m =
       enabled = e;
       target = t;
       mode = m;
-      config = false;
-      generated = false;
+      domaincfg = false;
+      genmsi = false;
       idelivery = none;
       iforce = none;
       ithreshold = none;
@@ -73,8 +73,8 @@ harts d f t =
       enabled = none;
       target = none;
       mode = none;
-      config = false;
-      generated = false;
+      domaincfg = false;
+      genmsi = false;
       idelivery = d;
       iforce = f;
       ithreshold = t;
@@ -91,8 +91,8 @@ configures changes =
       enabled = none;
       target = λ i. changes;
       mode = none;
-      config = true;
-      generated = changes;
+      domaincfg = true;
+      genmsi = changes;
       idelivery = none;
       iforce = none;
       ithreshold = none;
@@ -106,8 +106,8 @@ generates there =
       enabled = none;
       target = none;
       mode = none;
-      config = false;
-      generated = there;
+      domaincfg = false;
+      genmsi = there;
       idelivery = none;
       iforce = none;
       ithreshold = none;
@@ -186,8 +186,8 @@ pub record Spares (t : Touch) (d d′ : Domain) : Type 0 where
       → sourceAt d′ i .enabled ≡ sourceAt d i .enabled
   pub target : (i : ℕ) → 1 ≤ i → i ≤ 63 → t .target i ≡ false → sourceAt d′ i .target ≡ sourceAt d i .target
   pub mode : (i : ℕ) → 1 ≤ i → i ≤ 63 → t .mode i ≡ false → sourceAt d′ i .mode ≡ sourceAt d i .mode
-  pub config : t .config ≡ false → configOf d′ ≡ configOf d
-  pub generated : t .generated ≡ false → generatedAt d′ ≡ generatedAt d
+  pub domaincfg : t .domaincfg ≡ false → domaincfgOf d′ ≡ domaincfgOf d
+  pub genmsi : t .genmsi ≡ false → genmsiOf d′ ≡ genmsiOf d
   pub idelivery : (h : ℕ) → h < 4 → t .idelivery h ≡ false
       → structureAt d′ h .idelivery ≡ structureAt d h .idelivery
   pub iforce : (h : ℕ) → h < 4 → t .iforce h ≡ false → structureAt d′ h .iforce ≡ structureAt d h .iforce

@@ -53,14 +53,16 @@ abbrev pub WiresDo : Type 0
 WiresDo =
     (w : Wired) → Long w → (i : ℕ) → 1 ≤ i → i ≤ 63 → (level : Bool)
     → let change = wire (member (w .wires) i) level in
-    Does (w .root) (wireSet w i level .root) i change × Does (w .child) (wireSet w i level .child) i change
+    Does (w .machine) (wireSet w i level .machine) i change
+    × Does (w .child) (wireSet w i level .child) i change
 
 -- beside the causes: a sourcecfg, in the domain that it is written in, is what `moded` says
 abbrev pub SourcecfgsDo : Type 0
 SourcecfgsDo =
     (w : Wired) → Long w → (i : ℕ) → 1 ≤ i → i ≤ 63 → (v : ℕ)
-    → (sourceAt (writtenIn w false (Sourcecfg i) v .root) i
-    ≡ moded (sourceAt (w .root) i) (byMessages (w .root)) (sourceWord false false v) (member (w .wires) i))
+    → (sourceAt (writtenIn w false (Sourcecfg i) v .machine) i
+    ≡ moded (sourceAt (w .machine) i) (byMessages (w .machine)) (sourceWord false false v)
+    (member (w .wires) i))
     × (sourceAt (writtenIn w true (Sourcecfg i) v .child) i
     ≡ moded (sourceAt (w .child) i) (byMessages (w .child)) (sourceWord true (isDelegated w i) v)
     (member (w .wires) i))

@@ -21,7 +21,7 @@ use Rattle.domain_direct.specs.Direct.{signalOf}
 use Rattle.domain_registers.specs.Read.{registerValue, claimedBy}
 use Rattle.domain_registers.specs.Write.{registerWritten}
 use Rattle.domain_sending.specs.Sending.{sent, logged}
-use Rattle.domain_genmsi.specs.Genmsi.{generatedSent}
+use Rattle.domain_genmsi.specs.Genmsi.{genmsiSent}
 use Rattle.files.specs.Files.{filesOf, wordsOf, allReached}
 use Rattle.wired_state.specs.Wires.{wiredOf, wireSet}
 use Rattle.wired_sourcecfg.specs.Delegation.{sourceWritten}
@@ -32,7 +32,7 @@ use Rattle.domain_registers.proofs.write.Reads as write
 use Rattle.domain_direct.proofs.signal.Reads as signal
 use Rattle.domain_sending.proofs.send.Reads as send
 use Rattle.files.proofs.deliver.Reads as deliver
-use Rattle.domain_genmsi.proofs.send_generated.Reads as send-generated
+use Rattle.domain_genmsi.proofs.send_genmsi.Reads as send-genmsi
 use Rattle.wired_state.proofs.set_wire.Reads as set-wire
 use Rattle.wired_registers.proofs.read.Reads as wired-read
 use Rattle.wired_registers.proofs.write.Reads as wired-write
@@ -112,10 +112,10 @@ Claim-70 =
     × (((i : ℕ) → w ≢ Sourcecfg i) → wired-write.Learnt l (b, (c, (w, (v, tt)))) tt (b′, (c, (w, (v, tt))))
     → wiredOf (now b′) ≡ partWritten (wiredOf (now b)) c w v)
 
--- `send_generated` leaves the log with the message of a write to genmsi, and answers how many
+-- `send_genmsi` leaves the log with the message of a write to genmsi, and answers how many
 unfoldable pub Claim-71 : Type 0
 Claim-71 =
     (l : Lfts 2) (b g g′ : RefT (List ℕ)) (c : Bool) (v r : ℕ)
-    → send-generated.Learnt l (b, (c, (v, (g, tt)))) r (b, (c, (v, (g′, tt))))
-    → (now g′ ≡ logged (now g) (generatedSent c (domainOf (now b)) v))
-    × (r ≡ length (generatedSent c (domainOf (now b)) v))
+    → send-genmsi.Learnt l (b, (c, (v, (g, tt)))) r (b, (c, (v, (g′, tt))))
+    → (now g′ ≡ logged (now g) (genmsiSent c (domainOf (now b)) v))
+    × (r ≡ length (genmsiSent c (domainOf (now b)) v))

@@ -3,11 +3,11 @@
 --                          [63]; pending, enable: sets of sources; delivery: three numbers of each hart
 --   domainOf l             the domain whose 144 words are l
 --   ieBit, dmBit           where domaincfg has IE and DM
---   configOf d             the stored domaincfg: IE at bit 8, DM at bit 2
+--   domaincfgOf d          the stored domaincfg: IE at bit 8, DM at bit 2
 --   isEnabled d            IE
 --   byMessages d           DM: true by messages, false direct
 --   sends d                the domain sends: IE and DM
---   generatedAt d          the stored genmsi
+--   genmsiOf d             the stored genmsi
 -- There is no source 0: place 0 of source has domaincfg, and place 0 of target genmsi, as in the region.
 use Prim.Native.Nat.{ℕ}
 use mathlib.Core.Bool.{Bool, _&&_}
@@ -41,23 +41,23 @@ ieBit = 8
 abbrev pub dmBit : ℕ
 dmBit = 2
 
-unfoldable pub configOf : Domain → ℕ
-configOf d = getD (d .source) 0 0
+unfoldable pub domaincfgOf : Domain → ℕ
+domaincfgOf d = getD (d .source) 0 0
 
 -- [01 W8]
 unfoldable pub isEnabled : Domain → Bool
-isEnabled d = hasBit (configOf d) ieBit
+isEnabled d = hasBit (domaincfgOf d) ieBit
 
 -- [01 W8]
 unfoldable pub byMessages : Domain → Bool
-byMessages d = hasBit (configOf d) dmBit
+byMessages d = hasBit (domaincfgOf d) dmBit
 
 -- [01 W46]
 abbrev pub sends : Domain → Bool
 sends d = isEnabled d && byMessages d
 
-unfoldable pub generatedAt : Domain → ℕ
-generatedAt d = getD (d .target) 0 0
+unfoldable pub genmsiOf : Domain → ℕ
+genmsiOf d = getD (d .target) 0 0
 
 abbrev pub withSources : Domain → List ℕ → Domain
 withSources d ws =
@@ -107,8 +107,8 @@ abbrev pub withDeliveries : Domain → List ℕ → Domain
 withDeliveries d ws =
     record { source = d .source; target = d .target; pending = d .pending; enable = d .enable; delivery = ws }
 
-unfoldable pub withConfig : Domain → ℕ → Domain
-withConfig d v = withSources d (set (d .source) 0 v)
+unfoldable pub withDomaincfg : Domain → ℕ → Domain
+withDomaincfg d v = withSources d (set (d .source) 0 v)
 
-unfoldable pub withGenerated : Domain → ℕ → Domain
-withGenerated d v = withTargets d (set (d .target) 0 v)
+unfoldable pub withGenmsi : Domain → ℕ → Domain
+withGenmsi d v = withTargets d (set (d .target) 0 v)

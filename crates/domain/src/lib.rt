@@ -1,17 +1,17 @@
 // One domain of the wired controller, in its own 144 words of the block: sources and delivery structures.
-mod own;
+mod domain_words;
 mod slot;
 mod structure;
 
-pub use own::by_messages;
-pub use own::config;
-pub use own::enable_word;
-pub use own::enabled;
-pub use own::generated;
-pub use own::pending_word;
-pub use own::put_config;
-pub use own::put_generated;
-pub use own::standing;
+pub use domain_words::by_messages;
+pub use domain_words::domaincfg;
+pub use domain_words::enable_word;
+pub use domain_words::enabled;
+pub use domain_words::genmsi;
+pub use domain_words::pending_word;
+pub use domain_words::put_domaincfg;
+pub use domain_words::put_genmsi;
+pub use domain_words::standing;
 pub use slot::load;
 pub use slot::put_enabled;
 pub use slot::put_pending;

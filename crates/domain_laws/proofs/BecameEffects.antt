@@ -8,8 +8,8 @@ use lib.Dec.{eqb}
 use borrow.Author.Tests.{eq-eqb, ne-eqb}
 use Rattle.words.specs.Bits.{hasBit}
 use Rattle.source.specs.declared.Source.{Source}
-use Rattle.domain.specs.Domain.{Domain, configOf, isEnabled, byMessages, generatedAt, withConfig}
-use Rattle.domain.specs.Domain.{withGenerated}
+use Rattle.domain.specs.Domain.{Domain, domaincfgOf, isEnabled, byMessages, genmsiOf, withDomaincfg}
+use Rattle.domain.specs.Domain.{withGenmsi}
 use Rattle.domain.specs.Slot.{sourceAt, withSource}
 use Rattle.domain_laws.specs.Shape.{DomainShaped}
 use Rattle.domain_laws.specs.Became.{Became, Touched}
@@ -25,8 +25,8 @@ pub touched-none : (d : Domain) → DomainShaped d → Touched d d (λ j s. s)
 touched-none d shaped =
     record {
       shaped = shaped;
-      config = refl;
-      generated = refl;
+      domaincfg = refl;
+      genmsi = refl;
       source = λ j l h. refl;
       structure = λ h. refl;
       pending-zero = refl;
@@ -40,8 +40,8 @@ module _ {d e : Domain} {w g : ℕ} {f : ℕ → Source → Source} (p : Became 
   became-joined {e′} {w′} {g′} {f′} q =
       record {
         shaped = q .shaped;
-        config = q .config;
-        generated = q .generated;
+        domaincfg = q .domaincfg;
+        genmsi = q .genmsi;
         source = λ j l h. q .source j l h ∙ ap (f′ j) (p .source j l h);
         structure = λ h. q .structure h ∙ p .structure h;
         pending-zero = q .pending-zero ∙ p .pending-zero;
@@ -54,8 +54,8 @@ module _ {d e : Domain} {w g : ℕ} {f : ℕ → Source → Source} (p : Became 
   became-as w′ g′ f′ ew eg ef =
       record {
         shaped = p .shaped;
-        config = p .config ∙ ew;
-        generated = p .generated ∙ eg;
+        domaincfg = p .domaincfg ∙ ew;
+        genmsi = p .genmsi ∙ eg;
         source = λ j l h. p .source j l h ∙ ef j l h;
         structure = p .structure;
         pending-zero = p .pending-zero;
@@ -64,28 +64,28 @@ module _ {d e : Domain} {w g : ℕ} {f : ℕ → Source → Source} (p : Became 
 
   pub became-messages : byMessages e ≡ hasBit w 2
   unfolding byMessages
-  became-messages = ap (λ (x : ℕ). hasBit x 2) (p .config)
+  became-messages = ap (λ (x : ℕ). hasBit x 2) (p .domaincfg)
 
   pub became-enabled : isEnabled e ≡ hasBit w 8
   unfolding isEnabled
-  became-enabled = ap (λ (x : ℕ). hasBit x 8) (p .config)
+  became-enabled = ap (λ (x : ℕ). hasBit x 8) (p .domaincfg)
 
 -- after a change one that touches the sources
 pub became-touched : {d e e′ : Domain} {w g : ℕ} {f f′ : ℕ → Source → Source} → Became d e w g f
     → Touched e e′ f′ → Became d e′ w g (λ j s. f′ j (f j s))
 became-touched {d} {e} {e′} {w} {g} {f} {f′} p q =
-    became-as (became-joined p q) w g (λ j s. f′ j (f j s)) (p .config) (p .generated) (λ j l h. refl)
+    became-as (became-joined p q) w g (λ j s. f′ j (f j s)) (p .domaincfg) (p .genmsi) (λ j l h. refl)
 
 module _ {d e : Domain} {f : ℕ → Source → Source} (p : Touched d e f) where
   pub touched-messages : byMessages e ≡ byMessages d
-  touched-messages = own.byMessages-same d e (p .config)
+  touched-messages = own.byMessages-same d e (p .domaincfg)
 
   pub touched-enabled : isEnabled e ≡ isEnabled d
-  touched-enabled = own.isEnabled-same d e (p .config)
+  touched-enabled = own.isEnabled-same d e (p .domaincfg)
 
   pub touched-as : (f′ : ℕ → Source → Source)
       → ((j : ℕ) → 1 ≤ j → j < 64 → f j (sourceAt d j) ≡ f′ j (sourceAt d j)) → Touched d e f′
-  touched-as f′ ef = became-as p (configOf d) (generatedAt d) f′ refl refl ef
+  touched-as f′ ef = became-as p (domaincfgOf d) (genmsiOf d) f′ refl refl ef
 
 -- ---- one part replaced
 
@@ -107,8 +107,8 @@ module _ (d : Domain) (i : ℕ) (g : ℕ → Source → Source) (shaped : Domain
       let s = g i (sourceAt d i) in
       record {
         shaped = shaped-withSource d i s shaped;
-        config = own.configOf-withSource d i s l;
-        generated = own.generatedAt-withSource d i s l;
+        domaincfg = own.domaincfgOf-withSource d i s l;
+        genmsi = own.genmsiOf-withSource d i s l;
         source = λ j _ _. each h j (ℕ-discrete i j);
         structure = structureAt-withSource d i s;
         pending-zero = pending-zero-withSource d i s l;
@@ -116,26 +116,26 @@ module _ (d : Domain) (i : ℕ) (g : ℕ → Source → Source) (shaped : Domain
       }
 
 module _ (d : Domain) (v : ℕ) (shaped : DomainShaped d) where
-  pub became-withConfig : Became d (withConfig d v) v (generatedAt d) (λ j s. s)
-  became-withConfig =
+  pub became-withDomaincfg : Became d (withDomaincfg d v) v (genmsiOf d) (λ j s. s)
+  became-withDomaincfg =
       record {
-        shaped = own.shaped-withConfig d v shaped;
-        config = own.configOf-withConfig d v shaped;
-        generated = own.generatedAt-withConfig d v;
-        source = λ j l h. own.sourceAt-withConfig d v j l;
-        structure = own.structureAt-withConfig d v;
-        pending-zero = unfold withConfig in refl;
-        enable-zero = unfold withConfig in refl;
+        shaped = own.shaped-withDomaincfg d v shaped;
+        domaincfg = own.domaincfgOf-withDomaincfg d v shaped;
+        genmsi = own.genmsiOf-withDomaincfg d v;
+        source = λ j l h. own.sourceAt-withDomaincfg d v j l;
+        structure = own.structureAt-withDomaincfg d v;
+        pending-zero = unfold withDomaincfg in refl;
+        enable-zero = unfold withDomaincfg in refl;
       }
 
-  pub became-withGenerated : Became d (withGenerated d v) (configOf d) v (λ j s. s)
-  became-withGenerated =
+  pub became-withGenmsi : Became d (withGenmsi d v) (domaincfgOf d) v (λ j s. s)
+  became-withGenmsi =
       record {
-        shaped = own.shaped-withGenerated d v shaped;
-        config = own.configOf-withGenerated d v;
-        generated = own.generatedAt-withGenerated d v shaped;
-        source = λ j l h. own.sourceAt-withGenerated d v j l;
-        structure = own.structureAt-withGenerated d v;
-        pending-zero = unfold withGenerated in refl;
-        enable-zero = unfold withGenerated in refl;
+        shaped = own.shaped-withGenmsi d v shaped;
+        domaincfg = own.domaincfgOf-withGenmsi d v;
+        genmsi = own.genmsiOf-withGenmsi d v shaped;
+        source = λ j l h. own.sourceAt-withGenmsi d v j l;
+        structure = own.structureAt-withGenmsi d v;
+        pending-zero = unfold withGenmsi in refl;
+        enable-zero = unfold withGenmsi in refl;
       }

@@ -8,19 +8,19 @@ use mathlib.Core.Path.{_≡_}
 use Rattle.sizes.specs.Sizes.{slotCount}
 use Rattle.words.specs.Sets.{member}
 use Rattle.source.specs.declared.Source.{Source}
-use Rattle.domain.specs.Domain.{Domain, configOf, generatedAt}
+use Rattle.domain.specs.Domain.{Domain, domaincfgOf, genmsiOf}
 use Rattle.domain.specs.Slot.{sourceAt}
 use Rattle.domain.specs.Structure.{structureAt}
 use Rattle.domain_laws.specs.Shape.{DomainShaped}
 
 pub record Became (d d′ : Domain) (w g : ℕ) (f : ℕ → Source → Source) : Type 0 where
   pub shaped : DomainShaped d′
-  pub config : configOf d′ ≡ w
-  pub generated : generatedAt d′ ≡ g
+  pub domaincfg : domaincfgOf d′ ≡ w
+  pub genmsi : genmsiOf d′ ≡ g
   pub source : (j : ℕ) → 1 ≤ j → j < slotCount → sourceAt d′ j ≡ f j (sourceAt d j)
   pub structure : (h : ℕ) → structureAt d′ h ≡ structureAt d h
   pub pending-zero : member (d′ .pending) 0 ≡ member (d .pending) 0
   pub enable-zero : member (d′ .enable) 0 ≡ member (d .enable) 0
 
 abbrev pub Touched : (d d′ : Domain) → (ℕ → Source → Source) → Type 0
-Touched d d′ f = Became d d′ (configOf d) (generatedAt d) f
+Touched d d′ f = Became d d′ (domaincfgOf d) (genmsiOf d) f

@@ -20,8 +20,8 @@ use Rattle.domain_region.specs.declared.Word.the-variants.{Unused}
 use Rattle.source.specs.declared.Change.the-variants.{Pend, Clear, Enable, Disable}
 use Rattle.domain.specs.Domain.{Domain}
 use Rattle.domain_writes.specs.Writes.{wordChanged, numberChanged, targetWritten}
-use Rattle.domain_config.specs.Config.{configWritten}
-use Rattle.domain_genmsi.specs.Genmsi.{generatedWritten}
+use Rattle.domain_domaincfg.specs.Domaincfg.{domaincfgWritten}
+use Rattle.domain_genmsi.specs.Genmsi.{genmsiWritten}
 use Rattle.domain_direct.specs.declared.Setting.the-variants as setting
 use Rattle.domain_direct.specs.Direct.{settingWritten}
 
@@ -31,7 +31,7 @@ writtenElsewhere d = d
 
 -- [01 W40]
 unfoldable pub registerWritten : Bool → Domain → List ℕ → Word → ℕ → Domain
-registerWritten c d ws Domaincfg v = configWritten d ws v
+registerWritten c d ws Domaincfg v = domaincfgWritten d ws v
 registerWritten c d ws (Sourcecfg i) v = writtenElsewhere d
 registerWritten c d ws (Setip k) v = wordChanged d ws Pend k v
 registerWritten c d ws Setipnum v = numberChanged d ws Pend v
@@ -43,7 +43,7 @@ registerWritten c d ws (Clrie k) v = wordChanged d ws Disable k v
 registerWritten c d ws Clrienum v = numberChanged d ws Disable v
 registerWritten c d ws SetipnumLe v = numberChanged d ws Pend v
 registerWritten c d ws SetipnumBe v = numberChanged d ws Pend (reversed v)
-registerWritten c d ws Genmsi v = generatedWritten d v
+registerWritten c d ws Genmsi v = genmsiWritten d v
 registerWritten c d ws (Target i) v = targetWritten c d i v
 registerWritten c d ws (Idelivery h) v = settingWritten d h setting.Idelivery v
 registerWritten c d ws (Iforce h) v = settingWritten d h setting.Iforce v

@@ -3,9 +3,9 @@ ghost use mathlib.Core.Path.{_≡_};
 ghost use Prim.Native.Nat.{_<_};
 ghost use lib.ListN.{length};
 ghost use Rattle.sizes.specs.Sizes.{domainSize};
-ghost use Rattle.domain_values.specs.Values.{configMark};
+ghost use Rattle.domain_values.specs.Values.{domaincfgMark};
 ghost use Rattle.domain_region.specs.Region.{Within};
-ghost use Rattle.domain.specs.Domain.{domainOf, configOf};
+ghost use Rattle.domain.specs.Domain.{domainOf, domaincfgOf};
 ghost use Rattle.domain_registers.specs.Read.{registerValue, claimedBy};
 ghost use Rattle.domain_registers.specs.Write.{registerWritten};
 use domain_direct::Setting;
@@ -18,7 +18,7 @@ use source::Change;
 
 // A read, with what it does.
 pub fn read(part: &mut [u32], wires: [u32; SOURCE_SET_SIZE], word: Word) -> u32
-    requires { ⌜ (length (now part) ≡ domainSize) × (configOf (domainOf (now part)) < configMark)
+    requires { ⌜ (length (now part) ≡ domainSize) × (domaincfgOf (domainOf (now part)) < domaincfgMark)
         × Within word ⌝ }
     ensures { λ r. ⌜ (r ≡ registerValue (domainOf (now (part .entry))) wires word)
         × (domainOf (now (part .exit)) ≡ claimedBy (domainOf (now (part .entry))) word) ⌝ }
@@ -35,7 +35,7 @@ pub fn write(part: &mut [u32], child: bool, wires: [u32; SOURCE_SET_SIZE], word:
         ≡ registerWritten child (domainOf (now (part .entry))) wires word value ⌝ }
 {
     match word {
-        Word::Domaincfg => domain_config::write_config(part, wires, value),
+        Word::Domaincfg => domain_domaincfg::write_domaincfg(part, wires, value),
         Word::Sourcecfg(_) => {}
         Word::Setip(k) => domain_writes::change_word(part, wires, Change::Pend, k as usize, value),
         Word::Setipnum => domain_writes::change_number(part, wires, Change::Pend, value),
@@ -70,7 +70,7 @@ pub fn write(part: &mut [u32], child: bool, wires: [u32; SOURCE_SET_SIZE], word:
             Change::Pend,
             words::reversed32(value),
         ),
-        Word::Genmsi => domain_genmsi::write_generated(part, value),
+        Word::Genmsi => domain_genmsi::write_genmsi(part, value),
         Word::Target(i) => domain_writes::write_target(part, child, i as usize, value),
         Word::Idelivery(h) => domain_direct::put_setting(
             part,

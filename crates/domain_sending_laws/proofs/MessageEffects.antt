@@ -11,11 +11,11 @@ use lib.Seq.{getD-append-add, take-at}
 use Rattle.words.proofs.TestsLaws.{tested, not-same}
 use Rattle.file_message.specs.Message.{logWord, fileIn}
 use Rattle.source_target.specs.Target.{hartOf, guestOf, numberOf, messageOf}
-use Rattle.domain_genmsi.specs.Genmsi.{generatedOf}
+use Rattle.domain_genmsi.specs.Genmsi.{genmsiMessage}
 use Rattle.source_target.proofs.TargetLaws.{hartOf-lt, guestOf-lt, numberOf-lt, message-child}
 use Rattle.source_target.proofs.TargetLaws.{message-machine}
 use Rattle.file_message.proofs.MessageLaws.{fileIn-logWord}
-use Rattle.domain_genmsi.proofs.GenmsiLaws.{generated-child, generated-machine}
+use Rattle.domain_genmsi.proofs.GenmsiLaws.{genmsi-child, genmsi-machine}
 use Rattle.domain.specs.Domain.{Domain, sends}
 use Rattle.domain.specs.Slot.{sourceAt}
 use Rattle.domain_sending.specs.Sending.{candidate, servedAt, messagesAt, sentFrom, sent, logged}
@@ -56,13 +56,13 @@ module _ (c : Bool) (t : ℕ) where
       (λ n. names-machine c (messageOf c t) 0 (fileIn-machine n) n refl)
 
   -- the message of a genmsi write, to the machine file or the supervisor file
-  pub generated-names : Names c (generatedOf c t)
-  generated-names =
+  pub genmsi-names : Names c (genmsiMessage c t)
+  genmsi-names =
       tested c
-      (λ y. names-child c (generatedOf c t) 1
-      (ap fileIn (generated-child c t y) ∙ fileIn-wordTo 1 (omega arith)) y (omega arith) (omega arith))
-      (λ n. names-machine c (generatedOf c t) 0
-      (ap fileIn (generated-machine c t n) ∙ fileIn-wordTo 0 (omega arith)) n refl)
+      (λ y. names-child c (genmsiMessage c t) 1
+      (ap fileIn (genmsi-child c t y) ∙ fileIn-wordTo 1 (omega arith)) y (omega arith) (omega arith))
+      (λ n. names-machine c (genmsiMessage c t) 0
+      (ap fileIn (genmsi-machine c t n) ∙ fileIn-wordTo 0 (omega arith)) n refl)
 
 -- ---- what holds of every word of a list
 

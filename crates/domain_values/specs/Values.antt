@@ -1,6 +1,6 @@
 -- What a read of a register gives. 01, "The wired controller", "Direct delivery and signals". Assumes
 -- nothing.
---   configMark            what domaincfg reads above the stored word
+--   domaincfgMark         what domaincfg reads above the stored word
 --   registerValue d ws w  what register w of d reads; ws are the wires
 -- domaincfg reads 0x80 in bits 31:24. clrie and the number registers read 0, and so does what is not named.
 use Prim.Native.Nat.{ℕ, _+_}
@@ -14,20 +14,20 @@ use Rattle.domain_region.specs.declared.Word.the-variants.{SetipnumBe}
 use Rattle.domain_region.specs.declared.Word.the-variants.{Genmsi, Target, Idelivery, Iforce, Ithreshold}
 use Rattle.domain_region.specs.declared.Word.the-variants.{Topi}
 use Rattle.domain_region.specs.declared.Word.the-variants.{Claimi, Unused}
-use Rattle.domain.specs.Domain.{Domain, configOf}
+use Rattle.domain.specs.Domain.{Domain, domaincfgOf}
 use Rattle.domain.specs.Slot.{sourceAt}
-use Rattle.domain_genmsi.specs.Genmsi.{generatedRead}
+use Rattle.domain_genmsi.specs.Genmsi.{genmsiRead}
 use Rattle.domain_inputs.specs.Inputs.{inputWord}
 use Rattle.domain_direct.specs.declared.Setting.the-variants as setting
 use Rattle.domain_direct.specs.Direct.{topiOf, settingOf}
 
 -- [01 W9 R10 T9]
-abbrev pub configMark : ℕ
-configMark = 0x80000000
+abbrev pub domaincfgMark : ℕ
+domaincfgMark = 0x80000000
 
 -- [01 B13 W36 W38 S11]
 unfoldable pub registerValue : Domain → List ℕ → Word → ℕ
-registerValue d ws Domaincfg = configMark + configOf d
+registerValue d ws Domaincfg = domaincfgMark + domaincfgOf d
 registerValue d ws (Sourcecfg i) = sourceAt d i .mode
 registerValue d ws (Setip k) = getD (d .pending) k 0
 registerValue d ws Setipnum = 0
@@ -39,7 +39,7 @@ registerValue d ws (Clrie k) = 0
 registerValue d ws Clrienum = 0
 registerValue d ws SetipnumLe = 0
 registerValue d ws SetipnumBe = 0
-registerValue d ws Genmsi = generatedRead d
+registerValue d ws Genmsi = genmsiRead d
 registerValue d ws (Target i) = sourceAt d i .target
 registerValue d ws (Idelivery h) = settingOf d h setting.Idelivery
 registerValue d ws (Iforce h) = settingOf d h setting.Iforce

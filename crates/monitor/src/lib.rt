@@ -6,7 +6,7 @@ ghost use Rattle.monitor_answer.specs.Told.{Told, Tells};
 use board_move_calls::make_access;
 use monitor_answer::VskAnswer;
 use monitor_answer::numbers;
-use sizes::RECORD_SIZE;
+use sizes::SAVED_SIZE;
 
 #[no_mangle]
 pub extern "C" fn vsk_reset(state: &mut [u32], log: &mut [u32]) -> VskAnswer
@@ -120,7 +120,7 @@ pub extern "C" fn vsk_signals(state: &mut [u32], log: &mut [u32], hart: u64) -> 
     numbers(board_hart_calls::signals(state, log, hart))
 }
 
-// C gives the record as a pointer to ten numbers, the same one at each access of a move.
+// C gives the saved numbers as a pointer to ten numbers, the same one at each access of a move.
 #[no_mangle]
 pub extern "C" fn vsk_move(
     state: &mut [u32],
@@ -130,7 +130,7 @@ pub extern "C" fn vsk_move(
     newhart: u64,
     newfile: u64,
     access: u64,
-    saved: &mut [u64; RECORD_SIZE],
+    saved: &mut [u64; SAVED_SIZE],
 ) -> VskAnswer
     ensures { λ r. ⌜ Told (outcome (the.Move oldhart oldfile newhart newfile access) (now (state .entry))
         (now (log .entry)) (now (saved .entry))) r

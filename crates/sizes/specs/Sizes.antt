@@ -8,7 +8,7 @@
 --   fileSetSize, sourceSetSize          the words of a set of identities, and of a set of sources
 --   ..Size                              how many words something takes: a file, the files, a delivery
 --                                       structure, the four of a domain, a domain, the wired controller,
---                                       the block, the log; recordSize: the 64-bit numbers that a move saves
+--                                       the block, the log; savedSize: the 64-bit numbers that a move saves
 --   fieldsSize                          the words of a file's four fields, which stand first among its words
 --   slotCount                           a domain has a word at each number 0 to 63, twice: number 0 is the
 --                                       domain's own, the others are the sources'
@@ -98,11 +98,11 @@ domainSize = structuresPlace + structuresSize
 
 -- ---- the wired controller
 
-abbrev pub rootPlace : ℕ
-rootPlace = sourceSetSize
+abbrev pub machinePlace : ℕ
+machinePlace = sourceSetSize
 
 abbrev pub childPlace : ℕ
-childPlace = rootPlace + domainSize
+childPlace = machinePlace + domainSize
 
 abbrev pub wiredSize : ℕ
 wiredSize = childPlace + domainSize
@@ -121,5 +121,5 @@ abbrev pub logSize : ℕ
 logSize = 63
 
 -- [01 V3]
-abbrev pub recordSize : ℕ
-recordSize = 10
+abbrev pub savedSize : ℕ
+savedSize = 10

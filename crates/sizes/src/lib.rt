@@ -45,9 +45,9 @@ pub const STRUCTURES_PLACE: usize = ENABLES_PLACE + SOURCE_SET_SIZE;
 pub const DOMAIN_SIZE: usize = STRUCTURES_PLACE + HART_COUNT * STRUCTURE_SIZE;
 
 // the wired controller
-pub const ROOT_PLACE: usize = SOURCE_SET_SIZE;
+pub const MACHINE_PLACE: usize = SOURCE_SET_SIZE;
 
-pub const CHILD_PLACE: usize = ROOT_PLACE + DOMAIN_SIZE;
+pub const CHILD_PLACE: usize = MACHINE_PLACE + DOMAIN_SIZE;
 
 pub const WIRED_SIZE: usize = CHILD_PLACE + DOMAIN_SIZE;
 
@@ -58,4 +58,4 @@ pub const BLOCK_SIZE: usize = WIRED_PLACE + WIRED_SIZE;
 
 pub const LOG_SIZE: usize = 63;
 
-pub const RECORD_SIZE: usize = 10;
+pub const SAVED_SIZE: usize = 10;

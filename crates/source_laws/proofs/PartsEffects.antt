@@ -65,9 +65,9 @@ pub occupied-child : (w : ℕ) → occupied true w ≡ (not (eqb w 0) && true)
 unfolding occupied heldBack
 occupied-child w = refl
 
-pub held-root : (w : ℕ) → heldBack false w ≡ eqb w 1024
+pub held-machine : (w : ℕ) → heldBack false w ≡ eqb w 1024
 unfolding heldBack
-held-root w = refl
+held-machine w = refl
 
 -- ---- what one source adds
 
@@ -283,8 +283,8 @@ module _ (c m e wire : Bool) (s : Source) where
   source-parts = tested (occupied c (s .mode)) parts-occupied parts-empty
 
 -- in range, the word of a source of the machine domain is below 8, or it delegates
-pub word-root : (w : ℕ) → eqb w (sourceWord false true w) ≡ true → leb 1024 w ≡ eqb w 1024
-word-root w e =
+pub word-machine-delegates : (w : ℕ) → eqb w (sourceWord false true w) ≡ true → leb 1024 w ≡ eqb w 1024
+word-machine-delegates w e =
     tested (hasBit w 10)
     (λ t. let z = eqb-true w (sourceWord false true w) e ∙ word-delegated w false true refl t in
     le-leb 1024 w (omega arith) ∙ sym (eq-eqb w 1024 z))

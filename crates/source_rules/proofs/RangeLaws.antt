@@ -122,8 +122,8 @@ module _ (t : ℕ) (h : t < 2 ^ 32) where
       ∙ rest-stray (above t) (hartOf t) (between t) (guestOf t) (below t) (numberOf t) x y q
       ∙ ap (λ (z : ℕ). eqb z (hartOf t * 2 ^ 18 + (y + numberOf t))) (sym fields)
 
-  stray-root : eqb (stray t 12288) 0 ≡ eqb t (packed (hartOf t) 18 (numberOf t))
-  stray-root =
+  stray-machine : eqb (stray t 12288) 0 ≡ eqb t (packed (hartOf t) 18 (numberOf t))
+  stray-machine =
       gathers 12288 (guestOf t * 2 ^ 12) 0 (and-high t 2 12 ∙ ap (λ (x : ℕ). x * 2 ^ 12) (sym (guestOf-is t)))
       (omega arith)
       ∙ ap (eqb t) (ap (λ (x : ℕ). hartOf t * 2 ^ 18 + x) (zero-add (numberOf t))
@@ -155,6 +155,7 @@ module _ (t : ℕ) (h : t < 2 ^ 32) where
   target-legal true true =
       and-true (eqb (stray t 0) 0) ∙ stray-child ∙ ap (eqb t) (sym (kept-child true true t refl refl))
   target-legal false true =
-      and-true (eqb (stray t 12288) 0) ∙ stray-root ∙ ap (eqb t) (sym (kept-machine false true t refl refl))
-  target-legal true false = ap (λ (b : Bool). b && not (eqb (numberOf t) 0)) stray-root ∙ direct true
-  target-legal false false = ap (λ (b : Bool). b && not (eqb (numberOf t) 0)) stray-root ∙ direct false
+      and-true (eqb (stray t 12288) 0) ∙ stray-machine
+      ∙ ap (eqb t) (sym (kept-machine false true t refl refl))
+  target-legal true false = ap (λ (b : Bool). b && not (eqb (numberOf t) 0)) stray-machine ∙ direct true
+  target-legal false false = ap (λ (b : Bool). b && not (eqb (numberOf t) 0)) stray-machine ∙ direct false

@@ -13,8 +13,8 @@ use Rattle.domain_laws.specs.Shape.{DomainShaped}
 use Rattle.domain_laws.proofs.SlotEffects.{domainOf-shaped}
 use Rattle.wired_state.specs.Wires.{Wired, wiredOf, wireSet}
 use Rattle.wired_registers.specs.Wired.{writtenIn, claimedIn}
-use Rattle.wired_state.proofs.WiresLaws.{root-part, child-part, root-long, child-long, wires-read}
-use Rattle.wired_state.proofs.WiresLaws.{domain-root, domain-child}
+use Rattle.wired_state.proofs.WiresLaws.{machine-part, child-part, machine-long, child-long, wires-read}
+use Rattle.wired_state.proofs.WiresLaws.{domain-machine, domain-child}
 use Rattle.wired_state.proofs.PassLaws.{bothSent, flushed-both}
 use Rattle.wired_rules.specs.Rules.{wiredSound}
 use Rattle.domain_sending.specs.Sending.{Sent}
@@ -31,8 +31,8 @@ module _ (l : List ℕ) (long : length l ≡ wiredSize) (sound : wiredSound (wir
   pub words-steady : WiredSteady (wiredOf l)
   words-steady =
       wired-sound-steady (wiredOf l) sound (ap length (sym (wires-read l long)))
-      (subst DomainShaped (root-part l long)
-      (domainOf-shaped (take domainSize (drop 2 l)) (root-long l long)))
+      (subst DomainShaped (machine-part l long)
+      (domainOf-shaped (take domainSize (drop 2 l)) (machine-long l long)))
       (subst DomainShaped (child-part l long)
       (domainOf-shaped (take domainSize (drop childPlace l)) (child-long l long)))
 
@@ -42,18 +42,18 @@ module _ (l : List ℕ) (long : length l ≡ wiredSize) (sound : wiredSound (wir
 -- a controller of which both domains have sent all
 pub flushed-quiet : (w : Wired) → WiredQuiet w → flushed w ≡ record { wired = w; messages = [] }
 flushed-quiet w q =
-    let a = sent-again false (w .root) (q .root) in
+    let a = sent-again false (w .machine) (q .machine) in
     let b = sent-again true (w .child) (q .child) in
     let silent : bothSent w ≡ record { wired = w; messages = [] } = λ k. record {
-      wired = record { wires = w .wires; root = a k .domain; child = b k .domain };
+      wired = record { wires = w .wires; machine = a k .domain; child = b k .domain };
       messages = a k .messages ++ b k .messages;
     } in
     flushed-both w ∙ silent
 
 -- ---- one domain at most sends
 
-silent-root : (w : Wired) → Quiet (w .root) → OneSends w
-silent-root w q = inl (ap (λ (x : Sent). x .messages) (sent-again false (w .root) q))
+silent-machine : (w : Wired) → Quiet (w .machine) → OneSends w
+silent-machine w q = inl (ap (λ (x : Sent). x .messages) (sent-again false (w .machine) q))
 
 silent-child : (w : Wired) → Quiet (w .child) → OneSends w
 silent-child w q = inr (sent-again true (w .child) q)
@@ -62,15 +62,15 @@ module _ (w : Wired) (s : WiredSteady w) (q : WiredQuiet w) where
   pub one-wireSet : (i : ℕ) → 1 ≤ i → i < 64 → (level : Bool) → OneSends (wireSet w i level)
   one-wireSet i l h level = at (wireSet-one w i level s l h)
     where
-      at : (wireSet w i level .root ≡ w .root) ⊎ (wireSet w i level .child ≡ w .child)
+      at : (wireSet w i level .machine ≡ w .machine) ⊎ (wireSet w i level .child ≡ w .child)
           → OneSends (wireSet w i level)
-      at (inl e) = silent-root (wireSet w i level) (subst Quiet (sym e) (q .root))
+      at (inl e) = silent-machine (wireSet w i level) (subst Quiet (sym e) (q .machine))
       at (inr e) = silent-child (wireSet w i level) (subst Quiet (sym e) (q .child))
 
   pub one-writtenIn : (c : Bool) (r : Word) → Within r → (v : ℕ) → OneSends (writtenIn w c r v)
   one-writtenIn true r b v =
       let after = writtenIn w true r v in
-      silent-root after (subst Quiet (domain-root after false refl) (quiet-other w q s true r b v))
+      silent-machine after (subst Quiet (domain-machine after false refl) (quiet-other w q s true r b v))
   one-writtenIn false r b v =
       let after = writtenIn w false r v in
       silent-child after (subst Quiet (domain-child after true refl) (quiet-other w q s false r b v))

@@ -14,14 +14,14 @@ use Rattle.wired_state.proofs.WiresLaws.{wired-path}
 use Rattle.wired_state.proofs.PassLaws.{flushed-both}
 use Rattle.domain_sending.specs.Sending.{Sent, sent, sentNothing, logged}
 use Rattle.domain_sending.proofs.SendingLaws.{logged-none}
-use Rattle.domain_genmsi.specs.Genmsi.{generatedSent}
+use Rattle.domain_genmsi.specs.Genmsi.{genmsiSent}
 use Rattle.domain_region.specs.declared.Word.{Word}
 use Rattle.domain_region.specs.declared.Word.the-variants.{Genmsi}
 use Rattle.domain_region.specs.declared.role.Role.{Role}
 use Rattle.domain_region.specs.declared.role.Role.the-variants.{Claims, Configures, Generates, Plain}
 use Rattle.domain_region.specs.Role.{roleOf}
 use Rattle.domain_region.proofs.RoleLaws.{generates-only}
-use Rattle.wired.specs.Controller.{Out, flushed, OneSends, Leaves, generatedAs, generatedBy}
+use Rattle.wired.specs.Controller.{Out, flushed, OneSends, Leaves, genmsiAs, genmsiBy}
 use Rattle.wired.specs.Controller.{writeCall}
 
 -- what a call leaves and answers, from what it is to send
@@ -43,31 +43,31 @@ no-length (x ∷ l) e = absurd (omega arith)
 
 module _ (w : Wired) where
   -- the second domain has nothing to send where the first has sent
-  second-silent : OneSends w → (n : ℕ) → n ≢ 0 → n ≡ length (sent false (w .root) .messages)
+  second-silent : OneSends w → (n : ℕ) → n ≢ 0 → n ≡ length (sent false (w .machine) .messages)
       → sent true (w .child) ≡ sentNothing (w .child)
   second-silent (inl none) n h e = absurd (h (e ∙ ap length none))
   second-silent (inr none) n h e = none
 
-  pub answered-first : (d : Domain) (l l′ : List ℕ) (n : ℕ) → Answers d l l′ n (sent false (w .root))
+  pub answered-first : (d : Domain) (l l′ : List ℕ) (n : ℕ) → Answers d l l′ n (sent false (w .machine))
       → OneSends w → n ≢ 0
-      → Leaves (flushed w) (record { wires = w .wires; root = d; child = w .child }) l l′ n
+      → Leaves (flushed w) (record { wires = w .wires; machine = d; child = w .child }) l l′ n
   answered-first d l l′ n (a, b, k) one h =
       let silent = second-silent one n h k in
-      let alone : (sent false (w .root) .messages ++ sent true (w .child) .messages)
-      ≡ sent false (w .root) .messages =
-      ap (λ (s : Sent). sent false (w .root) .messages ++ s .messages) silent ∙ append-nil _ in
+      let alone : (sent false (w .machine) .messages ++ sent true (w .child) .messages)
+      ≡ sent false (w .machine) .messages =
+      ap (λ (s : Sent). sent false (w .machine) .messages ++ s .messages) silent ∙ append-nil _ in
       leaves-of (sym (flushed-both w)) _ l l′ n (
         wired-path refl a (sym (ap (λ (s : Sent). s .domain) silent)),
         b ∙ ap (logged l) (sym alone),
         k ∙ ap length (sym alone),
       )
 
-  pub answered-second : (d e : Domain) (l k l′ : List ℕ) (m n : ℕ) → Answers d l k m (sent false (w .root))
+  pub answered-second : (d e : Domain) (l k l′ : List ℕ) (m n : ℕ) → Answers d l k m (sent false (w .machine))
       → m ≡ 0 → Answers e k l′ n (sent true (w .child))
-      → Leaves (flushed w) (record { wires = w .wires; root = d; child = e }) l l′ n
+      → Leaves (flushed w) (record { wires = w .wires; machine = d; child = e }) l l′ n
   answered-second d e l k l′ m n (a, b, c) z (p, q, r) =
-      let none = no-length (sent false (w .root) .messages) (sym c ∙ z) in
-      let alone : (sent false (w .root) .messages ++ sent true (w .child) .messages)
+      let none = no-length (sent false (w .machine) .messages) (sym c ∙ z) in
+      let alone : (sent false (w .machine) .messages ++ sent true (w .child) .messages)
       ≡ sent true (w .child) .messages =
       ap (λ (x : List ℕ). x ++ sent true (w .child) .messages) none in
       let same : k ≡ l = b ∙ ap (logged l) none ∙ logged-none l in
@@ -81,29 +81,29 @@ module _ (w : Wired) where
 
 module _ (c : Bool) (d : Domain) (r : Word) (v : ℕ) where
   abbrev Logs : List ℕ → List ℕ → ℕ → Type 0
-  Logs l l′ n = (l′ ≡ logged l (generatedBy c d r v)) × (n ≡ length (generatedBy c d r v))
+  Logs l l′ n = (l′ ≡ logged l (genmsiBy c d r v)) × (n ≡ length (genmsiBy c d r v))
 
-  generated-genmsi : roleOf r ≡ Generates → generatedBy c d r v ≡ generatedSent c d v
-  unfolding generatedBy generatedAs
-  generated-genmsi e = ap (generatedAs c d v) e
+  genmsiBy-generates : roleOf r ≡ Generates → genmsiBy c d r v ≡ genmsiSent c d v
+  unfolding genmsiBy genmsiAs
+  genmsiBy-generates e = ap (genmsiAs c d v) e
 
-  pub generated-else : roleOf r ≢ Generates → generatedBy c d r v ≡ []
-  unfolding generatedBy generatedAs
-  generated-else n = at (roleOf r) n
+  pub genmsi-else : roleOf r ≢ Generates → genmsiBy c d r v ≡ []
+  unfolding genmsiBy genmsiAs
+  genmsi-else n = at (roleOf r) n
     where
-      at : (x : Role) → x ≢ Generates → generatedAs c d v x ≡ []
+      at : (x : Role) → x ≢ Generates → genmsiAs c d v x ≡ []
       at (Claims h) n = refl
       at (Configures i) n = refl
       at Generates n = absurd (n refl)
       at Plain n = refl
 
   -- either case, with what tells it
-  pub generated-cases : (P : List ℕ → Type 0) → (roleOf r ≡ Generates → P (generatedSent c d v))
-      → P [] → P (generatedBy c d r v)
-  unfolding generatedBy generatedAs
-  generated-cases P sends none = at (roleOf r) refl
+  pub genmsi-cases : (P : List ℕ → Type 0) → (roleOf r ≡ Generates → P (genmsiSent c d v))
+      → P [] → P (genmsiBy c d r v)
+  unfolding genmsiBy genmsiAs
+  genmsi-cases P sends none = at (roleOf r) refl
     where
-      at : (x : Role) → roleOf r ≡ x → P (generatedAs c d v x)
+      at : (x : Role) → roleOf r ≡ x → P (genmsiAs c d v x)
       at (Claims h) e = none
       at (Configures i) e = none
       at Generates e = sends e
@@ -111,21 +111,21 @@ module _ (c : Bool) (d : Domain) (r : Word) (v : ℕ) where
 
   pub answered-else : roleOf r ≢ Generates → (l : List ℕ) → Logs l l 0
   answered-else e l =
-      let none = generated-else e in (sym (logged-none l) ∙ ap (logged l) (sym none), ap length (sym none))
+      let none = genmsi-else e in (sym (logged-none l) ∙ ap (logged l) (sym none), ap length (sym none))
 
   pub answered-genmsi : roleOf r ≡ Generates → (b : Bool) → c ≡ b → (e : Domain) → e ≡ d
       → (l l′ : List ℕ) (n : ℕ)
-      → (l′ ≡ logged l (generatedSent b e v)) × (n ≡ length (generatedSent b e v)) → Logs l l′ n
+      → (l′ ≡ logged l (genmsiSent b e v)) × (n ≡ length (genmsiSent b e v)) → Logs l l′ n
   answered-genmsi g b p e q l l′ n (x, y) =
-      let same : generatedSent b e v ≡ generatedBy c d r v =
-      ap₂ (λ (x : Bool) (y : Domain). generatedSent x y v) (sym p) q ∙ sym (generated-genmsi g) in
+      let same : genmsiSent b e v ≡ genmsiBy c d r v =
+      ap₂ (λ (x : Bool) (y : Domain). genmsiSent x y v) (sym p) q ∙ sym (genmsiBy-generates g) in
       (x ∙ ap (logged l) same, y ∙ ap length same)
 
 -- ---- a change and the pass after it
 
 module _ (w : Wired) (c : Bool) (r : Word) (v : ℕ) where
   abbrev own : List ℕ
-  own = generatedBy c (domainIn w c) r v
+  own = genmsiBy c (domainIn w c) r v
 
   -- a write that sent at once, with nothing to be sent after it
   pub write-alone : (w′ : Wired) → w′ ≡ writtenIn w c r v
@@ -152,5 +152,5 @@ module _ (w : Wired) (c : Bool) (r : Word) (v : ℕ) where
   -- what was sent at once was sent by genmsi
   pub own-genmsi : (n : ℕ) → n ≡ length own → n ≢ 0 → r ≡ Genmsi
   own-genmsi n e h =
-      generated-cases c (domainIn w c) r v (λ (l : List ℕ). n ≡ length l → r ≡ Genmsi)
+      genmsi-cases c (domainIn w c) r v (λ (l : List ℕ). n ≡ length l → r ≡ Genmsi)
       (λ t _. generates-only r t) (λ z. absurd (h z)) e

@@ -1,9 +1,9 @@
 -- What a wire that is set, a read and a write do to the wired controller, and the messages that they send.
 -- 01, "The wired controller"; the standard 4.5.15, 4.9. Assumes nothing.
 --   Out, flushed w       the pass of both domains, and what they sent: Rattle.wired_state
---   generatedAs c d v x  what a write of v to a register of d whose role is x sends at once: genmsi's
+--   genmsiAs c d v x     what a write of v to a register of d whose role is x sends at once: genmsi's
 --                        message, else nothing
---   generatedBy c d r v  what a write of v to register r of d sends at once
+--   genmsiBy c d r v     what a write of v to register r of d sends at once
 --   wireCall w i level   wire i is set, and what is then to be sent is sent
 --   readCall w c r       register r of a domain is read; only a claimi changes anything
 --   writeCall w c r v    v is written to register r of a domain
@@ -25,18 +25,18 @@ use Rattle.domain.specs.Domain.{Domain}
 use Rattle.wired_state.specs.Wires.{Wired, domainIn, wireSet}
 use Rattle.wired_registers.specs.Wired.{claimedIn, writtenIn}
 use Rattle.domain_sending.specs.Sending.{sent, sentNothing, logged}
-use Rattle.domain_genmsi.specs.Genmsi.{generatedSent}
+use Rattle.domain_genmsi.specs.Genmsi.{genmsiSent}
 pub use Rattle.wired_state.specs.Pass.{Out}
 unfoldable pub use Rattle.wired_state.specs.Pass.{flushed}
 
-unfoldable pub generatedAs : Bool → Domain → ℕ → Role → List ℕ
-generatedAs c d v (Claims h) = []
-generatedAs c d v (Configures i) = []
-generatedAs c d v Generates = generatedSent c d v
-generatedAs c d v Plain = []
+unfoldable pub genmsiAs : Bool → Domain → ℕ → Role → List ℕ
+genmsiAs c d v (Claims h) = []
+genmsiAs c d v (Configures i) = []
+genmsiAs c d v Generates = genmsiSent c d v
+genmsiAs c d v Plain = []
 
-unfoldable pub generatedBy : Bool → Domain → Word → ℕ → List ℕ
-generatedBy c d r v = generatedAs c d v (roleOf r)
+unfoldable pub genmsiBy : Bool → Domain → Word → ℕ → List ℕ
+genmsiBy c d r v = genmsiAs c d v (roleOf r)
 
 unfoldable pub wireCall : Wired → ℕ → Bool → Out
 wireCall w i level = flushed (wireSet w i level)
@@ -47,10 +47,10 @@ readCall w c r = flushed (claimedIn w c r)
 unfoldable pub writeCall : Wired → Bool → Word → ℕ → Out
 writeCall w c r v =
     let after = flushed (writtenIn w c r v) in
-    record { wired = after .wired; messages = generatedBy c (domainIn w c) r v ++ after .messages }
+    record { wired = after .wired; messages = genmsiBy c (domainIn w c) r v ++ after .messages }
 
 abbrev pub OneSends : Wired → Type 0
-OneSends w = (sent false (w .root) .messages ≡ []) ⊎ (sent true (w .child) ≡ sentNothing (w .child))
+OneSends w = (sent false (w .machine) .messages ≡ []) ⊎ (sent true (w .child) ≡ sentNothing (w .child))
 
 abbrev pub Leaves : Out → Wired → List ℕ → List ℕ → ℕ → Type 0
 Leaves o w l l′ n = (w ≡ o .wired) × (l′ ≡ logged l (o .messages)) × (n ≡ length (o .messages))

@@ -9,15 +9,15 @@ ghost use Rattle.wired_state.specs.Wires.{wiredOf, domainIn};
 ghost use Rattle.wired_registers.specs.Wired.{readIn};
 ghost use Rattle.wired_rules.specs.Rules.{wiredSound};
 ghost use Rattle.domain_sending.specs.Sending.{logged};
-ghost use Rattle.wired.specs.Controller.{generatedBy, wireCall, readCall, writeCall};
+ghost use Rattle.wired.specs.Controller.{genmsiBy, wireCall, readCall, writeCall};
 ghost use Rattle.wired.specs.Controller.{Leaves};
 use super::pass::flush;
-use domain_genmsi::send_generated;
+use domain_genmsi::send_genmsi;
 use domain_region::Role;
 use domain_region::Word;
 use domain_region::role_of;
 use sizes::CHILD_PLACE;
-use sizes::ROOT_PLACE;
+use sizes::MACHINE_PLACE;
 use sizes::WIRED_SIZE;
 
 // Answers the number of messages.
@@ -45,16 +45,16 @@ fn generate(w: &[u32], log: &mut [u32], child: bool, word: Word, value: u32) -> 
     requires { ⌜ (length (now w) ≡ wiredSize) × (length (now log) ≡ logSize) ⌝ }
     ensures { λ r.
         ⌜ (now (log .exit) ≡ logged (now (log .entry))
-        (generatedBy child (domainIn (wiredOf (now (w .entry))) child) word value))
-        × (r ≡ length (generatedBy child (domainIn (wiredOf (now (w .entry))) child) word value)) ⌝ }
+        (genmsiBy child (domainIn (wiredOf (now (w .entry))) child) word value))
+        × (r ≡ length (genmsiBy child (domainIn (wiredOf (now (w .entry))) child) word value)) ⌝ }
 {
     let Role::Generates = role_of(word) else {
         return 0;
     };
     if child {
-        return send_generated(&w[CHILD_PLACE..WIRED_SIZE], true, value, log);
+        return send_genmsi(&w[CHILD_PLACE..WIRED_SIZE], true, value, log);
     }
-    send_generated(&w[ROOT_PLACE..CHILD_PLACE], false, value, log)
+    send_genmsi(&w[MACHINE_PLACE..CHILD_PLACE], false, value, log)
 }
 
 // Answers the number of messages. That of a genmsi is the only one of its call.

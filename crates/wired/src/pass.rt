@@ -5,7 +5,7 @@ ghost use Rattle.sizes.specs.Sizes.{wiredSize, logSize};
 ghost use Rattle.wired_state.specs.Wires.{wiredOf};
 ghost use Rattle.wired.specs.Controller.{flushed, OneSends, Leaves};
 use sizes::CHILD_PLACE;
-use sizes::ROOT_PLACE;
+use sizes::MACHINE_PLACE;
 use sizes::WIRED_SIZE;
 
 // Both domains never send in one call. The messages come first in `log`; answers their number.
@@ -14,7 +14,7 @@ pub fn flush(w: &mut [u32], log: &mut [u32]) -> usize
     ensures { λ r. ⌜ Leaves (flushed (wiredOf (now (w .entry)))) (wiredOf (now (w .exit))) (now (log .entry))
         (now (log .exit)) r ⌝ }
 {
-    let n = domain_sending::send(&mut w[ROOT_PLACE..CHILD_PLACE], false, log);
+    let n = domain_sending::send(&mut w[MACHINE_PLACE..CHILD_PLACE], false, log);
     if n != 0 {
         return n;
     }

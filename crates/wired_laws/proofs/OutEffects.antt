@@ -9,7 +9,7 @@ use native.Mathlib.Omega.{arith}
 use lib.ListN.{length}
 use Rattle.words.proofs.TestsLaws.{tested}
 use Rattle.file_message.specs.Message.{fileIn}
-use Rattle.domain_genmsi.specs.Genmsi.{generatedOf}
+use Rattle.domain_genmsi.specs.Genmsi.{genmsiMessage}
 use Rattle.domain_region.specs.Region.{Within}
 use Rattle.domain_region.specs.declared.Word.{Word}
 use Rattle.domain_region.proofs.RoleLaws.{generates-only}
@@ -19,16 +19,16 @@ use Rattle.wired_registers.specs.Wired.{writtenIn, claimedIn}
 use Rattle.wired_rules.specs.Rules.{wiredSound}
 use Rattle.domain_sending.specs.Sending.{sent}
 use Rattle.domain_sending_laws.proofs.MessageEffects.{Every, every-none, every-one, every-append, sent-named}
-use Rattle.domain_sending_laws.proofs.MessageEffects.{generated-names}
+use Rattle.domain_sending_laws.proofs.MessageEffects.{genmsi-names}
 use Rattle.domain_sending_laws.proofs.SendingEffects.{sent-count}
-use Rattle.domain_genmsi.specs.Genmsi.{generatedSent}
-use Rattle.domain_genmsi.proofs.GenmsiLaws.{generated-on, generated-off}
+use Rattle.domain_genmsi.specs.Genmsi.{genmsiSent}
+use Rattle.domain_genmsi.proofs.GenmsiLaws.{genmsi-on, genmsi-off}
 use Rattle.wired_rules_laws.specs.Steady.{WiredSteady, WiredQuiet}
 use Rattle.wired_rules_laws.proofs.WiredEffects.{steady-wireSet, steady-claimedIn, sound-passed}
 use Rattle.wired_rules_laws.proofs.DelegationEffects.{steady-writtenIn}
-use Rattle.wired.specs.Controller.{flushed, generatedBy, wireCall, readCall, writeCall}
+use Rattle.wired.specs.Controller.{flushed, genmsiBy, wireCall, readCall, writeCall}
 use Rattle.wired.specs.Controller.{OneSends}
-use Rattle.wired.proofs.ControllerLaws.{generated-cases}
+use Rattle.wired.proofs.ControllerLaws.{genmsi-cases}
 use Rattle.wired.proofs.CallLaws.{one-wireSet, one-writtenIn, genmsi-silent}
 
 abbrev pub Exists : ℕ → Type 0
@@ -39,15 +39,15 @@ Exists m = fileIn m < 5
 pub flushed-exists : (w : Wired) → Every Exists (flushed w .messages)
 unfolding flushed
 flushed-exists w =
-    every-append Exists (sent false (w .root) .messages) (sent true (w .child) .messages)
-    (λ k h. sent-named false (w .root) k h .exists) (λ k h. sent-named true (w .child) k h .exists)
+    every-append Exists (sent false (w .machine) .messages) (sent true (w .child) .messages)
+    (λ k h. sent-named false (w .machine) k h .exists) (λ k h. sent-named true (w .child) k h .exists)
 
-pub generatedBy-exists : (c : Bool) (d : Domain) (r : Word) (v : ℕ) → Every Exists (generatedBy c d r v)
-generatedBy-exists c d r v =
-    generated-cases c d r v (Every Exists)
+pub genmsiBy-exists : (c : Bool) (d : Domain) (r : Word) (v : ℕ) → Every Exists (genmsiBy c d r v)
+genmsiBy-exists c d r v =
+    genmsi-cases c d r v (Every Exists)
     (λ _. tested (byMessages d)
-    (λ m. rw (generated-on c d v m) (every-one Exists (generatedOf c v) (generated-names c v .exists)))
-    (λ n. rw (generated-off c d v n) (every-none Exists)))
+    (λ m. rw (genmsi-on c d v m) (every-one Exists (genmsiMessage c v) (genmsi-names c v .exists)))
+    (λ n. rw (genmsi-off c d v n) (every-none Exists)))
     (every-none Exists)
 
 pub wire-exists : (w : Wired) (i : ℕ) (level : Bool) → Every Exists (wireCall w i level .messages)
@@ -57,8 +57,8 @@ wire-exists w i level = flushed-exists (wireSet w i level)
 pub write-exists : (w : Wired) (c : Bool) (r : Word) (v : ℕ) → Every Exists (writeCall w c r v .messages)
 unfolding writeCall
 write-exists w c r v =
-    every-append Exists (generatedBy c (domainIn w c) r v) (flushed (writtenIn w c r v) .messages)
-    (generatedBy-exists c (domainIn w c) r v) (flushed-exists (writtenIn w c r v))
+    every-append Exists (genmsiBy c (domainIn w c) r v) (flushed (writtenIn w c r v) .messages)
+    (genmsiBy-exists c (domainIn w c) r v) (flushed-exists (writtenIn w c r v))
 
 -- ---- 63 log words suffice
 
@@ -66,12 +66,12 @@ pub flushed-count : (w : Wired) → OneSends w → length (flushed w .messages) 
 unfolding flushed
 flushed-count w (inl e) = rw e (sent-count true (w .child))
 flushed-count w (inr e) =
-    rw (e, append-nil (sent false (w .root) .messages)) (sent-count false (w .root))
+    rw (e, append-nil (sent false (w .machine) .messages)) (sent-count false (w .machine))
 
-generatedSent-count : (c : Bool) (d : Domain) (v : ℕ) → length (generatedSent c d v) ≤ 1
-generatedSent-count c d v =
-    tested (byMessages d) (λ m. rw (generated-on c d v m) (omega arith))
-    (λ n. rw (generated-off c d v n) (omega arith))
+genmsiSent-count : (c : Bool) (d : Domain) (v : ℕ) → length (genmsiSent c d v) ≤ 1
+genmsiSent-count c d v =
+    tested (byMessages d) (λ m. rw (genmsi-on c d v m) (omega arith))
+    (λ n. rw (genmsi-off c d v n) (omega arith))
 
 module _ (w : Wired) (s : WiredSteady w) (q : WiredQuiet w) where
   pub wire-count : (i : ℕ) → 1 ≤ i → i < 64 → (level : Bool) → length (wireCall w i level .messages) ≤ 63
@@ -83,9 +83,9 @@ module _ (w : Wired) (s : WiredSteady w) (q : WiredQuiet w) where
   write-count c r b v =
       let after = writtenIn w c r v in
       let d = domainIn w c in
-      generated-cases c d r v (λ (ms : List ℕ). length (ms ++ flushed after .messages) ≤ 63)
-      (λ t. rw (genmsi-silent w s q c r (generates-only r t) v, append-nil (generatedSent c d v))
-      (omega (arith, generatedSent-count c d v)))
+      genmsi-cases c d r v (λ (ms : List ℕ). length (ms ++ flushed after .messages) ≤ 63)
+      (λ t. rw (genmsi-silent w s q c r (generates-only r t) v, append-nil (genmsiSent c d v))
+      (omega (arith, genmsiSent-count c d v)))
       (flushed-count after (one-writtenIn w s q c r b v))
 
 -- ---- the rules hold again

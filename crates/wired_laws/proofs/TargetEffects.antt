@@ -17,12 +17,12 @@ use Rattle.wired_state.specs.Wires.{Wired, domainIn, withDomain}
 use Rattle.wired_registers.specs.Wired.{writtenAs, writtenIn}
 use Rattle.wired_rules_laws.specs.Steady.{WiredSteady, WiredQuiet}
 use Rattle.wired_rules_laws.proofs.WiredQuietEffects.{quiet-target, other-withDomain}
-use Rattle.wired.specs.Controller.{generatedAs, generatedBy, writeCall}
+use Rattle.wired.specs.Controller.{genmsiAs, genmsiBy, writeCall}
 use Rattle.wired.proofs.CallLaws.{flushed-quiet}
 
 pub target-call : (w : Wired) → WiredSteady w → WiredQuiet w → (c : Bool) (i : ℕ) → 1 ≤ i → i < 64 → (v : ℕ)
     → writeCall w c (Target i) v ≡ record { wired = writtenIn w c (Target i) v; messages = [] }
-unfolding writeCall generatedBy generatedAs
+unfolding writeCall genmsiBy genmsiAs
 target-call w s q c i l h v = rw (flushed-quiet (writtenIn w c (Target i) v) (quiet-target w q s c i l h v))
 
 -- ---- what it leaves

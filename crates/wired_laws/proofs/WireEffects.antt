@@ -17,7 +17,7 @@ use Rattle.source.specs.Pending.{settled, wireChanged}
 use Rattle.domain.specs.Domain.{Domain, byMessages, sends}
 use Rattle.domain.specs.Slot.{sourceAt}
 use Rattle.domain_laws.specs.Shape.{DomainShaped}
-use Rattle.domain_laws.proofs.OwnEffects.{configOf-withSource}
+use Rattle.domain_laws.proofs.OwnEffects.{domaincfgOf-withSource}
 use Rattle.domain_laws.proofs.SlotEffects.{sourceAt-withSource-same, sourceAt-withSource-other}
 use Rattle.wired_state.specs.Wires.{Wired, domainIn, wireSet, sourceWired}
 use Rattle.domain_sending.specs.Sending.{candidate, Sent, sent}
@@ -71,7 +71,7 @@ module _ (w : Wired) (i : ℕ) (level c : Bool) where
   pub wireSet-sends : 1 ≤ i → sends after ≡ sends before
   unfolding sourceWired
   wireSet-sends l =
-      ap sends (wire-domain w i level c) ∙ sends-same before _ (configOf-withSource before i changed l)
+      ap sends (wire-domain w i level c) ∙ sends-same before _ (domaincfgOf-withSource before i changed l)
 
   -- its message goes where it would have gone
   pub wireSet-target : DomainShaped before → i < 64 → sourceAt after i .target ≡ sourceAt before i .target
@@ -149,7 +149,7 @@ module _ (w : Wired) (s : WiredSteady w) (q : WiredQuiet w) (i : ℕ) (l : 1 ≤
       absurd (omega (arith, z)))
       (one-wireSet w s q i l h level)
   wire-message false t y =
-      let own = wire-hit w q i l h level false (s .root .shaped) t y in
+      let own = wire-hit w q i l h level false (s .machine .shaped) t y in
       ⊎-elim (λ e. let z : 0 ≡ 1 = ap length (sym e ∙ own) in absurd (omega (arith, z)))
       (λ e. ap₂ _++_ own (ap (λ (r : Sent). r .messages) e)) (one-wireSet w s q i l h level)
 
@@ -157,21 +157,21 @@ module _ (w : Wired) (s : WiredSteady w) (q : WiredQuiet w) (i : ℕ) (l : 1 ≤
       → wireCall w i level .messages ≡ []
   unfolding domainIn wireCall flushed
   wire-silent f =
-      ap₂ _++_ (wire-miss w q i l h level false (s .root .shaped) (f false))
+      ap₂ _++_ (wire-miss w q i l h level false (s .machine .shaped) (f false))
       (wire-miss w q i l h level true (s .child .shaped) (f true))
 
 -- the message of source i in one of the two domains, or none
 pub wire-messages : (w : Wired) → WiredSteady w → WiredQuiet w → (i : ℕ) → 1 ≤ i → i < 64 → (level : Bool)
     → let ms = wireCall w i level .messages in
-    (ms ≡ []) ⊎ (ms ≡ messageAt false (w .root) i ∷ []) ⊎ (ms ≡ messageAt true (w .child) i ∷ [])
+    (ms ≡ []) ⊎ (ms ≡ messageAt false (w .machine) i ∷ []) ⊎ (ms ≡ messageAt true (w .child) i ∷ [])
 unfolding domainIn wireCall flushed
 wire-messages w s q i l h level =
-    let first = sent false (wireSet w i level .root) .messages in
+    let first = sent false (wireSet w i level .machine) .messages in
     let second = sent true (wireSet w i level .child) .messages in
     ⊎-elim
     (λ e. ⊎-elim (λ z. inl (ap₂ _++_ e z)) (λ z. inr (inr (ap₂ _++_ e z)))
     (wire-sent w q i l h level true (s .child .shaped)))
     (λ e. let none : second ≡ [] = ap (λ (r : Sent). r .messages) e in
     ⊎-elim (λ z. inl (ap₂ _++_ z none)) (λ z. inr (inl (ap₂ _++_ z none)))
-    (wire-sent w q i l h level false (s .root .shaped)))
+    (wire-sent w q i l h level false (s .machine .shaped)))
     (one-wireSet w s q i l h level)

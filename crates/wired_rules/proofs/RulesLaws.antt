@@ -19,26 +19,27 @@ use Rattle.source_mode.specs.Mode.{sourceWord}
 use Rattle.source.specs.declared.Source.{Source}
 use Rattle.source_rules.specs.SourceRules.{sourceSound}
 use Rattle.source_rules.specs.SourceParts.{heldBack, occupied}
-use Rattle.source_laws.proofs.PartsEffects.{occupied-child, held-root, source-parts, word-root, sound-word}
-use Rattle.domain_genmsi.specs.Genmsi.{keptGenerated}
-use Rattle.domain.specs.Domain.{Domain, byMessages, sends, generatedAt}
+use Rattle.source_laws.proofs.PartsEffects.{occupied-child, held-machine, source-parts}
+use Rattle.source_laws.proofs.PartsEffects.{word-machine-delegates, sound-word}
+use Rattle.domain_genmsi.specs.Genmsi.{keptGenmsi}
+use Rattle.domain.specs.Domain.{Domain, byMessages, sends, genmsiOf}
 use Rattle.domain.specs.Slot.{sourceAt}
 use Rattle.wired_state.specs.Wires.{Wired}
 use Rattle.wired_state.proofs.WiresLaws.{delegated-mode}
-use Rattle.wired_rules.specs.Rules.{configRange, generatedRange, structureRange, sourceZeroRule}
-use Rattle.wired_rules.specs.Rules.{generatedRule}
+use Rattle.wired_rules.specs.Rules.{domaincfgRange, genmsiRange, structureRange, sourceZeroRule}
+use Rattle.wired_rules.specs.Rules.{genmsiRule}
 use Rattle.wired_rules.specs.Rules.{sourceRule, domainSound, delegatedRule, wiredSound}
 use Rattle.domain_slots.specs.Slots.{slotAt, has}
 use Rattle.domain_slots.proofs.SlotsLaws.{bit-of, bit-zero, slot-at}
 use Rattle.wired_rules.specs.Bits.{bitsAt}
 
-pub generated-rules-read : (d : Domain) {g h : ℕ} {m : Bool}
-    → g ≡ generatedAt d → h ≡ keptGenerated g → m ≡ byMessages d
-    → (eqb g h && (m || eqb g 0)) ≡ (generatedRange d && generatedRule d)
-unfolding generatedRange generatedRule
-generated-rules-read d {g = g} {m = t} a b m =
+pub genmsi-rules-read : (d : Domain) {g h : ℕ} {m : Bool}
+    → g ≡ genmsiOf d → h ≡ keptGenmsi g → m ≡ byMessages d
+    → (eqb g h && (m || eqb g 0)) ≡ (genmsiRange d && genmsiRule d)
+unfolding genmsiRange genmsiRule
+genmsi-rules-read d {g = g} {m = t} a b m =
     ap (λ (x : ℕ). eqb g x && (t || eqb g 0)) b
-    ∙ (λ k. eqb (a k) (keptGenerated (a k)) && (m k || eqb (a k) 0))
+    ∙ (λ k. eqb (a k) (keptGenmsi (a k)) && (m k || eqb (a k) 0))
 
 -- ---- the rules of a domain, and of both
 
@@ -67,17 +68,17 @@ grouped true true true false e true false r = refl
 grouped true true true false e false w r = refl
 
 pub domain-sound-read : (c : Bool) (ws : List ℕ) (d : Domain) {p q s w r : Bool}
-    → p ≡ configRange d → q ≡ (generatedRange d && generatedRule d) → s ≡ every (structureRange d) 0 4
+    → p ≡ domaincfgRange d → q ≡ (genmsiRange d && genmsiRule d) → s ≡ every (structureRange d) 0 4
     → w ≡ every (slotAt c d) 1 63
     → r ≡ (sourceZeroRule (d .pending) && sourceZeroRule (d .enable) && every (bitsAt c ws d) 1 63)
     → (p && q && s && w && r) ≡ domainSound c ws d
 unfolding domainSound
 domain-sound-read c ws d p q s w r =
     (λ k. p k && q k && s k && w k && r k)
-    ∙ grouped (configRange d) (generatedRange d) (generatedRule d) (sourceZeroRule (d .pending))
+    ∙ grouped (domaincfgRange d) (genmsiRange d) (genmsiRule d) (sourceZeroRule (d .pending))
     (sourceZeroRule (d .enable)) (every (structureRange d) 0 4) (every (slotAt c d) 1 63)
     (every (bitsAt c ws d) 1 63)
-    ∙ ap (λ (b : Bool). configRange d && generatedRange d && generatedRule d && sourceZeroRule (d .pending)
+    ∙ ap (λ (b : Bool). domaincfgRange d && genmsiRange d && genmsiRule d && sourceZeroRule (d .pending)
     && sourceZeroRule (d .enable) && every (structureRange d) 0 4 && b) (source-rules-read c ws d)
 
 module _ (ws : List ℕ) (d : Domain) (sound : domainSound false ws d ≡ true) (j : ℕ) (l : 1 ≤ j)
@@ -92,7 +93,7 @@ module _ (ws : List ℕ) (d : Domain) (sound : domainSound false ws d ≡ true) 
   unfolding domainSound sourceRule
   source-sound =
       every-each (sourceRule false ws d) 1 63
-      (and-second (configRange d && generatedRange d && generatedRule d && sourceZeroRule (d .pending)
+      (and-second (domaincfgRange d && genmsiRange d && genmsiRule d && sourceZeroRule (d .pending)
       && sourceZeroRule (d .enable) && every (structureRange d) 0 4) (every (sourceRule false ws d) 1 63)
       sound)
       j l (omega arith)
@@ -106,12 +107,12 @@ taken-rule true false = refl
 taken-rule false true = refl
 taken-rule false false = refl
 
-module _ (w : Wired) (sound : domainSound false (w .wires) (w .root) ≡ true) where
+module _ (w : Wired) (sound : domainSound false (w .wires) (w .machine) ≡ true) where
   abbrev taken : ℕ
   taken = gathered (has (occupied true) (w .child)) 64
 
   abbrev given : ℕ
-  given = gathered (has (heldBack false) (w .root)) 64
+  given = gathered (has (heldBack false) (w .machine)) 64
 
   -- the child has a source only where the machine domain delegates it
   delegated-word : eqb (without taken given) 0 ≡ every (delegatedRule w) 1 63
@@ -129,25 +130,25 @@ module _ (w : Wired) (sound : domainSound false (w .wires) (w .root) ≡ true) w
       each j l h =
           ap not (hasBit-without taken given j
           ∙ (λ k. bit-of (occupied true) (w .child) taken refl j l (omega arith) k
-          && not (bit-of (heldBack false) (w .root) given refl j l (omega arith) k))
+          && not (bit-of (heldBack false) (w .machine) given refl j l (omega arith) k))
           ∙ (λ k. occupied-child (sourceAt (w .child) j .mode) k
-          && not (held-root (sourceAt (w .root) j .mode) k)))
-          ∙ taken-rule (eqb (sourceAt (w .child) j .mode) 0) (eqb (sourceAt (w .root) j .mode) 1024)
+          && not (held-machine (sourceAt (w .machine) j .mode) k)))
+          ∙ taken-rule (eqb (sourceAt (w .child) j .mode) 0) (eqb (sourceAt (w .machine) j .mode) 1024)
           ∙ ap (λ (b : Bool). b || eqb (sourceAt (w .child) j .mode) 0)
-          (sym (word-root (sourceAt (w .root) j .mode)
-          (word-sound (w .wires) (w .root) sound j l (omega arith)))
+          (sym (word-machine-delegates (sourceAt (w .machine) j .mode)
+          (word-sound (w .wires) (w .machine) sound j l (omega arith)))
           ∙ sym (delegated-mode w j))
 
 pub wired-sound-read : (w : Wired) {p q r : Bool} {x : ℕ}
-    → p ≡ member (w .wires) 0 → q ≡ domainSound false (w .wires) (w .root)
+    → p ≡ member (w .wires) 0 → q ≡ domainSound false (w .wires) (w .machine)
     → r ≡ domainSound true (w .wires) (w .child)
     → x ≡ without (gathered (has (occupied true) (w .child)) 64)
-    (gathered (has (heldBack false) (w .root)) 64)
+    (gathered (has (heldBack false) (w .machine)) 64)
     → (not p && q && r && eqb x 0) ≡ wiredSound w
 unfolding wiredSound sourceZeroRule
 wired-sound-read w p q r x =
     (λ k. not (p k) && q k && r k && eqb (x k) 0)
-    ∙ tested (domainSound false (w .wires) (w .root))
-    (λ t. ap (λ (b : Bool). not (member (w .wires) 0) && domainSound false (w .wires) (w .root)
+    ∙ tested (domainSound false (w .wires) (w .machine))
+    (λ t. ap (λ (b : Bool). not (member (w .wires) 0) && domainSound false (w .wires) (w .machine)
     && domainSound true (w .wires) (w .child) && b) (delegated-word w t))
     (λ f. simp (f, and-false))

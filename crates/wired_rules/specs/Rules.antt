@@ -1,10 +1,10 @@
 -- The state rules of the wired controller, one definition each; those of one source are in SourceRules. 01,
 -- "State rules". Assumes nothing.
---   configRange d           the stored domaincfg has no bits but IE and DM
---   generatedRange d        the stored genmsi has no bits but a hart and an identity
+--   domaincfgRange d        the stored domaincfg has no bits but IE and DM
+--   genmsiRange d           the stored genmsi has no bits but a hart and an identity
 --   structureRange d h      the numbers of the delivery structure of hart h lie in their ranges
 --   sourceZeroRule ws       there is no number 0 in the set ws: no wire and no source has it
---   generatedRule d         genmsi is 0 in direct mode
+--   genmsiRule d            genmsi is 0 in direct mode
 --   sourceRule c ws d i     source i keeps the rules of a source; ws are the wires
 --   domainSound c ws d      all of these, for a domain
 --   delegatedRule w i       the child's sourcecfg is 0 where source i is not delegated
@@ -16,21 +16,21 @@ use mathlib.Core.List.{List}
 use lib.Dec.{eqb}
 use Rattle.sizes.specs.Sizes.{hartCount, sourceCount}
 use Rattle.words.specs.Sets.{member}
-use Rattle.domain_genmsi.specs.Genmsi.{keptGenerated}
+use Rattle.domain_genmsi.specs.Genmsi.{keptGenmsi}
 use Rattle.domain_delivery.specs.Delivery.{deliverySound}
-use Rattle.domain.specs.Domain.{Domain, configOf, byMessages, sends, generatedAt}
+use Rattle.domain.specs.Domain.{Domain, domaincfgOf, byMessages, sends, genmsiOf}
 use Rattle.domain.specs.Slot.{sourceAt}
 use Rattle.domain.specs.Structure.{structureAt}
-use Rattle.domain_config.specs.Config.{keptConfig}
+use Rattle.domain_domaincfg.specs.Domaincfg.{keptDomaincfg}
 use Rattle.wired_state.specs.Wires.{Wired, isDelegated}
 use Rattle.source_rules.specs.SourceRules.{sourceSound}
 use Rattle.words.specs.Every.{every}
 
-unfoldable pub configRange : Domain → Bool
-configRange d = eqb (configOf d) (keptConfig (configOf d))
+unfoldable pub domaincfgRange : Domain → Bool
+domaincfgRange d = eqb (domaincfgOf d) (keptDomaincfg (domaincfgOf d))
 
-unfoldable pub generatedRange : Domain → Bool
-generatedRange d = eqb (generatedAt d) (keptGenerated (generatedAt d))
+unfoldable pub genmsiRange : Domain → Bool
+genmsiRange d = eqb (genmsiOf d) (keptGenmsi (genmsiOf d))
 
 unfoldable pub structureRange : Domain → ℕ → Bool
 structureRange d h = deliverySound (structureAt d h)
@@ -39,15 +39,15 @@ unfoldable pub sourceZeroRule : List ℕ → Bool
 sourceZeroRule ws = not (member ws 0)
 
 -- [01 R7]
-unfoldable pub generatedRule : Domain → Bool
-generatedRule d = byMessages d || eqb (generatedAt d) 0
+unfoldable pub genmsiRule : Domain → Bool
+genmsiRule d = byMessages d || eqb (genmsiOf d) 0
 
 unfoldable pub sourceRule : Bool → List ℕ → Domain → ℕ → Bool
 sourceRule c ws d i = sourceSound c (byMessages d) (sends d) (member ws i) (sourceAt d i)
 
 unfoldable pub domainSound : Bool → List ℕ → Domain → Bool
 domainSound c ws d =
-    configRange d && generatedRange d && generatedRule d && sourceZeroRule (d .pending)
+    domaincfgRange d && genmsiRange d && genmsiRule d && sourceZeroRule (d .pending)
     && sourceZeroRule (d .enable)
     && every (structureRange d) 0 hartCount && every (sourceRule c ws d) 1 sourceCount
 
@@ -57,6 +57,6 @@ delegatedRule w i = isDelegated w i || eqb (sourceAt (w .child) i .mode) 0
 
 unfoldable pub wiredSound : Wired → Bool
 wiredSound w =
-    sourceZeroRule (w .wires) && domainSound false (w .wires) (w .root)
+    sourceZeroRule (w .wires) && domainSound false (w .wires) (w .machine)
     && domainSound true (w .wires) (w .child)
     && every (delegatedRule w) 1 sourceCount

@@ -7,7 +7,7 @@ ghost use Rattle.words_masks.specs.Masks.{gathered};
 ghost use Rattle.domain.specs.Domain.{domainOf};
 ghost use Rattle.wired_state.specs.Wires.{wiredOf};
 ghost use Rattle.words.specs.Every.{every};
-ghost use Rattle.wired_rules.specs.Rules.{configRange, generatedRange, generatedRule, sourceZeroRule};
+ghost use Rattle.wired_rules.specs.Rules.{domaincfgRange, genmsiRange, genmsiRule, sourceZeroRule};
 ghost use Rattle.wired_rules.specs.Rules.{domainSound, wiredSound};
 ghost use Rattle.source_rules.specs.SourceParts.{heldBack, occupied};
 ghost use Rattle.domain_slots.specs.Slots.{has, SoFar};
@@ -17,7 +17,7 @@ use super::structures::structure_pass;
 use domain_slots::Gathered;
 use domain_slots::gather;
 use sizes::CHILD_PLACE;
-use sizes::ROOT_PLACE;
+use sizes::MACHINE_PLACE;
 use sizes::SOURCE_SET_SIZE;
 use sizes::WIRED_SIZE;
 use source_bits::none_low;
@@ -26,21 +26,21 @@ use source_bits::none_unsent;
 use source_bits::none_unused;
 use source_bits::one_word;
 
-fn config_rule(part: &[u32]) -> bool
+fn domaincfg_rule(part: &[u32]) -> bool
     requires { ⌜ length (now part) ≡ domainSize ⌝ }
-    ensures { λ r. ⌜ r ≡ configRange (domainOf (now (part .entry))) ⌝ }
+    ensures { λ r. ⌜ r ≡ domaincfgRange (domainOf (now (part .entry))) ⌝ }
 {
-    let word = domain::config(part);
-    word == domain_config::kept_config(word)
+    let word = domain::domaincfg(part);
+    word == domain_domaincfg::kept_domaincfg(word)
 }
 
-fn generated_rules(part: &[u32]) -> bool
+fn genmsi_rules(part: &[u32]) -> bool
     requires { ⌜ length (now part) ≡ domainSize ⌝ }
-    ensures { λ r. ⌜ r ≡ (generatedRange (domainOf (now (part .entry)))
-        && generatedRule (domainOf (now (part .entry)))) ⌝ }
+    ensures { λ r. ⌜ r ≡ (genmsiRange (domainOf (now (part .entry)))
+        && genmsiRule (domainOf (now (part .entry)))) ⌝ }
 {
-    let word = domain::generated(part);
-    (word == domain_genmsi::kept_generated(word)) & (domain::by_messages(part) | (word == 0))
+    let word = domain::genmsi(part);
+    (word == domain_genmsi::kept_genmsi(word)) & (domain::by_messages(part) | (word == 0))
 }
 
 // The bits of all sources; source 0, which is none, has no bits.
@@ -68,8 +68,8 @@ fn domain_rules(part: &[u32], child: bool, wires: [u32; SOURCE_SET_SIZE]) -> Tes
         × (r .delegated ≡ gathered (has (heldBack child) (domainOf (now (part .entry)))) slotCount) ⌝ }
 {
     let g = gather(part, child);
-    let sound = config_rule(part)
-        & generated_rules(part)
+    let sound = domaincfg_rule(part)
+        & genmsi_rules(part)
         & structure_pass(part)
         & (g.faults == 0)
         & bits_rules(part, child, wires, g);
@@ -87,10 +87,10 @@ pub fn sound(w: &[u32]) -> bool
     ensures { λ r. ⌜ r ≡ wiredSound (wiredOf (now (w .entry))) ⌝ }
 {
     let wires = wired_state::wires(w);
-    let root = domain_rules(&w[ROOT_PLACE..CHILD_PLACE], false, wires);
+    let machine = domain_rules(&w[MACHINE_PLACE..CHILD_PLACE], false, wires);
     let child = domain_rules(&w[CHILD_PLACE..WIRED_SIZE], true, wires);
     !words::has_bit(wires[0], 0)
-        & root.sound
+        & machine.sound
         & child.sound
-        & (words::without64(child.active, root.delegated) == 0)
+        & (words::without64(child.active, machine.delegated) == 0)
 }

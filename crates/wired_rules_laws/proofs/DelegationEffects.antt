@@ -18,9 +18,10 @@ use Rattle.domain.specs.Domain.{Domain}
 use Rattle.domain.specs.Slot.{sourceAt, withSource}
 use Rattle.domain_laws.proofs.SlotEffects.{sourceAt-withSource-same, sourceAt-withSource-other}
 use Rattle.wired_state.specs.Wires.{Wired, isDelegated}
-use Rattle.wired_sourcecfg.specs.Delegation.{sourceModed, childWritten, rootWritten, sourceWritten}
+use Rattle.wired_sourcecfg.specs.Delegation.{sourceModed, childWritten, machineWritten, sourceWritten}
 use Rattle.wired_registers.specs.Wired.{writtenIn}
-use Rattle.wired_sourcecfg.proofs.DelegationLaws.{root-stays, root-moves, written-child, written-root}
+use Rattle.wired_sourcecfg.proofs.DelegationLaws.{machine-stays, machine-moves, written-child}
+use Rattle.wired_sourcecfg.proofs.DelegationLaws.{written-machine}
 use Rattle.wired_registers.proofs.WiredLaws.{written-cases}
 use Rattle.wired_rules.specs.Rules.{delegatedRule}
 use Rattle.wired_rules_laws.specs.Steady.{Steady, WiredSteady}
@@ -42,10 +43,10 @@ module _ (i v : ℕ) (wire : Bool) (d : Domain) where
 
 -- a controller with other domains
 abbrev holding : Wired → Domain → Domain → Wired
-holding w r c = record { wires = w .wires; root = r; child = c }
+holding w r c = record { wires = w .wires; machine = r; child = c }
 
 module _ (w : Wired) (s : WiredSteady w) (i : ℕ) where
-  delegated-at : (r c : Domain) → But i (w .root) r → But i (w .child) c
+  delegated-at : (r c : Domain) → But i (w .machine) r → But i (w .child) c
       → delegatedRule (holding w r c) i ≡ true
       → (j : ℕ) → 1 ≤ j → j < 64 → Dec (j ≡ i) → delegatedRule (holding w r c) j ≡ true
   delegated-at r c mr mc here j a b (yes e) = rw e here
@@ -54,13 +55,13 @@ module _ (w : Wired) (s : WiredSteady w) (i : ℕ) where
 
   -- a change to source i
   wired-replaced : (r c : Domain) → Steady false (w .wires) r → Steady true (w .wires) c
-      → But i (w .root) r → But i (w .child) c → delegatedRule (holding w r c) i ≡ true
+      → But i (w .machine) r → But i (w .child) c → delegatedRule (holding w r c) i ≡ true
       → WiredSteady (holding w r c)
   wired-replaced r c sr sc mr mc here =
       record {
         long = s .long;
         zero = s .zero;
-        root = sr;
+        machine = sr;
         child = sc;
         delegated = λ j a b. delegated-at r c mr mc here j a b (ℕ-discrete j i);
       }
@@ -85,60 +86,61 @@ module _ (w : Wired) (s : WiredSteady w) (i : ℕ) (l : 1 ≤ i) (h : i < 64) (v
   pub steady-childWritten : WiredSteady (childWritten w i v)
   unfolding childWritten
   steady-childWritten =
-      wired-replaced w s i (w .root) (sourceModed (w .child) i childWord wire) (s .root)
+      wired-replaced w s i (w .machine) (sourceModed (w .child) i childWord wire) (s .machine)
       (steady-sourceModed-word true (w .wires) (w .child) (s .child) i l h (isDelegated w i) v) (λ j n. refl)
       (modes-sourceModed i childWord wire (w .child)) child-here
 
   -- ---- a sourcecfg of the machine domain
 
-  abbrev rootWord : ℕ
-  rootWord = sourceWord false false v
+  abbrev machineWord : ℕ
+  machineWord = sourceWord false false v
 
   -- the controller with the child as c
-  abbrev rooted : Domain → Wired
-  rooted c = holding w (sourceModed (w .root) i rootWord wire) c
+  abbrev withMachine : Domain → Wired
+  withMachine c = holding w (sourceModed (w .machine) i machineWord wire) c
 
-  rooted-steady : (c : Domain) → Steady true (w .wires) c → But i (w .child) c
-      → delegatedRule (rooted c) i ≡ true → WiredSteady (rooted c)
-  rooted-steady c sc mc here =
-      wired-replaced w s i (sourceModed (w .root) i rootWord wire) c
-      (steady-sourceModed-word false (w .wires) (w .root) (s .root) i l h false v) sc
-      (modes-sourceModed i rootWord wire (w .root)) mc here
+  withMachine-steady : (c : Domain) → Steady true (w .wires) c → But i (w .child) c
+      → delegatedRule (withMachine c) i ≡ true → WiredSteady (withMachine c)
+  withMachine-steady c sc mc here =
+      wired-replaced w s i (sourceModed (w .machine) i machineWord wire) c
+      (steady-sourceModed-word false (w .wires) (w .machine) (s .machine) i l h false v) sc
+      (modes-sourceModed i machineWord wire (w .machine)) mc here
 
   -- source i is delegated after the write as the word says
-  rooted-here : (c : Domain) → isDelegated (rooted c) i ≡ leb 1024 rootWord
+  withMachine-here : (c : Domain) → isDelegated (withMachine c) i ≡ leb 1024 machineWord
   unfolding isDelegated
-  rooted-here c = ap (leb 1024) (mode-sourceModed (w .root) i rootWord wire (s .root .shaped) h)
+  withMachine-here c = ap (leb 1024) (mode-sourceModed (w .machine) i machineWord wire (s .machine .shaped) h)
 
   -- where the delegation stays, the child does
-  stays-here : Bool·beq (isDelegated w i) (leb 1024 rootWord) ≡ true
-      → delegatedRule (rooted (w .child)) i ≡ true
+  stays-here : Bool·beq (isDelegated w i) (leb 1024 machineWord) ≡ true
+      → delegatedRule (withMachine (w .child)) i ≡ true
   unfolding delegatedRule
   stays-here e =
-      let same = rooted-here (w .child) ∙ sym (beq-true (isDelegated w i) (leb 1024 rootWord) e) in
+      let same = withMachine-here (w .child) ∙ sym (beq-true (isDelegated w i) (leb 1024 machineWord) e) in
       rw same (s .delegated i l h)
 
   -- where it changes, the child's source starts anew
   abbrev started : Domain
   started = withSource (w .child) i (inactive 0)
 
-  moves-here : delegatedRule (rooted started) i ≡ true
+  moves-here : delegatedRule (withMachine started) i ≡ true
   moves-here =
-      delegated-zero (rooted started) i
+      delegated-zero (withMachine started) i
       (ap (λ (x : Source). x .mode) (sourceAt-withSource-same (w .child) i (inactive 0) (s .child .shaped) h))
 
-  pub steady-rootWritten : WiredSteady (rootWritten w i v)
-  steady-rootWritten =
-      tested (Bool·beq (isDelegated w i) (leb 1024 rootWord))
-      (λ t. rw (root-stays w i v t) (rooted-steady (w .child) (s .child) (λ j n. refl) (stays-here t)))
-      (λ f. rw (root-moves w i v f)
-      (rooted-steady started (steady-started true (w .wires) (w .child) (s .child) i l h)
-      (modes-started i rootWord wire (w .child)) moves-here))
+  pub steady-machineWritten : WiredSteady (machineWritten w i v)
+  steady-machineWritten =
+      tested (Bool·beq (isDelegated w i) (leb 1024 machineWord))
+      (λ t. rw (machine-stays w i v t)
+      (withMachine-steady (w .child) (s .child) (λ j n. refl) (stays-here t)))
+      (λ f. rw (machine-moves w i v f)
+      (withMachine-steady started (steady-started true (w .wires) (w .child) (s .child) i l h)
+      (modes-started i machineWord wire (w .child)) moves-here))
 
   pub steady-sourceWritten : (c : Bool) → WiredSteady (sourceWritten w c i v)
   steady-sourceWritten c =
       tested c (λ t. rw (written-child w i v c t) steady-childWritten)
-      (λ f. rw (written-root w i v c f) steady-rootWritten)
+      (λ f. rw (written-machine w i v c f) steady-machineWritten)
 
 -- ---- a write to any register
 

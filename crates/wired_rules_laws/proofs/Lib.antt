@@ -3,7 +3,7 @@ pub mod SoundParts
 pub mod ModeEffects
 pub mod SteadyEffects
 pub mod QuietEffects
-pub mod ConfigEffects
+pub mod DomaincfgEffects
 pub mod RegisterEffects
 pub mod ReadEffects
 pub mod PassEffects

@@ -10,7 +10,7 @@ use borrow.Author.Tests.{not-true}
 use Rattle.words.specs.Sets.{member}
 use Rattle.words.proofs.TestsLaws.{tested, and-second}
 use Rattle.source.specs.declared.Source.{Source}
-use Rattle.domain.specs.Domain.{Domain, configOf, generatedAt, isEnabled, byMessages, sends}
+use Rattle.domain.specs.Domain.{Domain, domaincfgOf, genmsiOf, isEnabled, byMessages, sends}
 use Rattle.domain.specs.Slot.{sourceAt}
 use Rattle.domain.specs.Structure.{structureAt}
 use Rattle.domain_laws.specs.Shape.{DomainShaped}
@@ -45,9 +45,9 @@ module _ (c : Bool) (d : Domain) where
         deliveries = rw (rest .delivery) (shaped .deliveries);
       }
 
-  config-sent : configOf after ≡ configOf d
-  unfolding configOf
-  config-sent = ap (λ (l : List ℕ). getD l 0 0) (sent-rest c d .source)
+  domaincfg-sent : domaincfgOf after ≡ domaincfgOf d
+  unfolding domaincfgOf
+  domaincfg-sent = ap (λ (l : List ℕ). getD l 0 0) (sent-rest c d .source)
 
   -- where the domain sends, each source had its turn
   abbrev turned : ℕ → Source → Source
@@ -67,8 +67,8 @@ module _ (c : Bool) (d : Domain) where
       let rest = sent-rest c d in
       record {
         shaped = shaped-sent shaped;
-        config = config-sent;
-        generated = unfold generatedAt in ap (λ (l : List ℕ). getD l 0 0) (rest .target);
+        domaincfg = domaincfg-sent;
+        genmsi = unfold genmsiOf in ap (λ (l : List ℕ). getD l 0 0) (rest .target);
         source = source-sent;
         structure = λ h. unfold structureAt in rw (rest .delivery);
         pending-zero = pending-sent;
@@ -104,7 +104,7 @@ module _ (c : Bool) (ws : List ℕ) (d : Domain) (s : Steady c ws d) where
 module _ (c : Bool) (d : Domain) where
   pub quiet-sent : Quiet (sent c d .domain)
   quiet-sent i l h =
-      rw (sends-same d (sent c d .domain) (config-sent c d))
+      rw (sends-same d (sent c d .domain) (domaincfg-sent c d))
       (tested (sends d) (λ t. rw (t, sent-sends, sent-quiet c d t i l h))
       (λ f. rw (f, sent-silent)))
 

@@ -8,7 +8,7 @@ use lib.Dec.{eqb}
 use borrow.Author.Tests.{eq-eqb, ne-eqb}
 use Rattle.source.specs.declared.Source.{Source}
 use Rattle.source.specs.Pending.{inactive}
-use Rattle.domain.specs.Domain.{Domain, configOf, byMessages, sends}
+use Rattle.domain.specs.Domain.{Domain, domaincfgOf, byMessages, sends}
 use Rattle.domain.specs.Slot.{sourceAt, withSource}
 use Rattle.domain_laws.specs.Shape.{DomainShaped}
 use Rattle.domain_laws.specs.Became.{Became}
@@ -21,13 +21,13 @@ use Rattle.wired_rules_laws.specs.Steady.{Quiet}
 pub quiet-direct : (d : Domain) → byMessages d ≡ false → Quiet d
 quiet-direct d m i l h = rw (m, and-false) (sent-silent (sourceAt d i))
 
-pub sends-same : (d e : Domain) → configOf e ≡ configOf d → sends e ≡ sends d
+pub sends-same : (d e : Domain) → domaincfgOf e ≡ domaincfgOf d → sends e ≡ sends d
 sends-same d e same = ap₂ _&&_ (isEnabled-same d e same) (byMessages-same d e same)
 
 -- where domaincfg stays
-pub quiet-became : {d d′ : Domain} {g : ℕ} {f : ℕ → Source → Source} → Became d d′ (configOf d) g f
+pub quiet-became : {d d′ : Domain} {g : ℕ} {f : ℕ → Source → Source} → Became d d′ (domaincfgOf d) g f
     → ((i : ℕ) → 1 ≤ i → i < 64 → sentRule (sends d) (f i (sourceAt d i)) ≡ true) → Quiet d′
-quiet-became {d} {d′} b keeps i l h = rw (sends-same d d′ (b .config), b .source i l h) (keeps i l h)
+quiet-became {d} {d′} b keeps i l h = rw (sends-same d d′ (b .domaincfg), b .source i l h) (keeps i l h)
 
 module _ (d : Domain) (q : Quiet d) (i : ℕ) (x : Source) (e : sentRule (sends d) x ≡ true) where
   quiet-at : (j : ℕ) → 1 ≤ j → j < 64 → Dec (i ≡ j)

@@ -33,8 +33,8 @@ use Rattle.wired_rules_laws.specs.Steady.{Steady, DomainKept}
 use Rattle.wired_rules_laws.proofs.ModeEffects.{changed-mode, retargeted-mode}
 use Rattle.wired_rules_laws.proofs.SteadyEffects.{steady-touched, became-modes, kept-none}
 use Rattle.wired_rules_laws.proofs.SteadyEffects.{kept-withSource}
-use Rattle.wired_rules_laws.proofs.ConfigEffects.{kept-configWritten, kept-generatedWritten}
-use Rattle.wired_rules_laws.proofs.ConfigEffects.{kept-settingWritten}
+use Rattle.wired_rules_laws.proofs.DomaincfgEffects.{kept-domaincfgWritten, kept-genmsiWritten}
+use Rattle.wired_rules_laws.proofs.DomaincfgEffects.{kept-settingWritten}
 
 module _ (c : Bool) (ws : List ℕ) (d : Domain) (s : Steady c ws d) where
   -- ---- writes that name sources
@@ -73,7 +73,7 @@ module _ (c : Bool) (ws : List ℕ) (d : Domain) (s : Steady c ws d) where
 
   pub kept-registerWritten : (r : Word) → Within r → (v : ℕ) → DomainKept c ws d (registerWritten c d ws r v)
   unfolding registerWritten
-  kept-registerWritten Domaincfg q v = kept-configWritten c ws d s v
+  kept-registerWritten Domaincfg q v = kept-domaincfgWritten c ws d s v
   kept-registerWritten (Sourcecfg i) q v = kept-none c ws d s
   kept-registerWritten (Setip k) q v = kept-wordChanged Pend k q v
   kept-registerWritten Setipnum q v = kept-numberChanged Pend v
@@ -85,7 +85,7 @@ module _ (c : Bool) (ws : List ℕ) (d : Domain) (s : Steady c ws d) where
   kept-registerWritten Clrienum q v = kept-numberChanged Disable v
   kept-registerWritten SetipnumLe q v = kept-numberChanged Pend v
   kept-registerWritten SetipnumBe q v = kept-numberChanged Pend (reversed v)
-  kept-registerWritten Genmsi q v = kept-generatedWritten c ws d s v
+  kept-registerWritten Genmsi q v = kept-genmsiWritten c ws d s v
   kept-registerWritten (Target i) q v = kept-targetWritten i (q .0) (omega arith) v
   kept-registerWritten (Idelivery h) q v = kept-settingWritten c ws d s h q setting.Idelivery v
   kept-registerWritten (Iforce h) q v = kept-settingWritten c ws d s h q setting.Iforce v

@@ -14,8 +14,8 @@ use Rattle.domain_laws.specs.Shape.{DomainShaped}
 use Rattle.wired_state.specs.Wires.{Wired}
 use Rattle.source_rules.specs.SourceRules.{sourceSteady, sentRule, sourceSound}
 use Rattle.words.specs.Every.{every}
-use Rattle.wired_rules.specs.Rules.{configRange, generatedRange, structureRange, sourceZeroRule}
-use Rattle.wired_rules.specs.Rules.{generatedRule}
+use Rattle.wired_rules.specs.Rules.{domaincfgRange, genmsiRange, structureRange, sourceZeroRule}
+use Rattle.wired_rules.specs.Rules.{genmsiRule}
 use Rattle.wired_rules.specs.Rules.{sourceRule, domainSound, delegatedRule, wiredSound}
 use Rattle.words.proofs.EveryLaws.{every-each, every-of}
 use Rattle.wired_rules_laws.specs.Steady.{Steady, Quiet, WiredSteady, WiredQuiet}
@@ -44,7 +44,7 @@ module _ (c : Bool) (ws : List ℕ) (d : Domain) where
 
   -- the rules of a domain in two groups
   abbrev own : Bool
-  own = configRange d && generatedRange d && generatedRule d && sourceZeroRule (d .pending)
+  own = domaincfgRange d && genmsiRange d && genmsiRule d && sourceZeroRule (d .pending)
 
   module _ (e : domainSound c ws d ≡ true) where
     later : (own ≡ true) × (sourceZeroRule (d .enable) ≡ true) × (every (structureRange d) 0 4 ≡ true)
@@ -54,9 +54,9 @@ module _ (c : Bool) (ws : List ℕ) (d : Domain) where
         four own (sourceZeroRule (d .enable)) (every (structureRange d) 0 4) (every (sourceRule c ws d) 1 63)
         e
 
-    first : (configRange d ≡ true) × (generatedRange d ≡ true) × (generatedRule d ≡ true)
+    first : (domaincfgRange d ≡ true) × (genmsiRange d ≡ true) × (genmsiRule d ≡ true)
         × (sourceZeroRule (d .pending) ≡ true)
-    first = four (configRange d) (generatedRange d) (generatedRule d) (sourceZeroRule (d .pending)) (later .0)
+    first = four (domaincfgRange d) (genmsiRange d) (genmsiRule d) (sourceZeroRule (d .pending)) (later .0)
 
     rule : (i : ℕ) → 1 ≤ i → i < 64 → (rule-steady i && rule-sent i) ≡ true
     unfolding sourceRule sourceSound
@@ -66,9 +66,9 @@ module _ (c : Bool) (ws : List ℕ) (d : Domain) where
     sound-steady shaped =
         record {
           shaped = shaped;
-          config = first .0;
-          generated-range = first .1;
-          generated = first .2;
+          domaincfg = first .0;
+          genmsi-range = first .1;
+          genmsi = first .2;
           structures = λ h q. every-each (structureRange d) 0 4 (later .2) h (omega arith) q;
           pending-zero = first .3;
           enable-zero = later .1;
@@ -84,26 +84,26 @@ module _ (c : Bool) (ws : List ℕ) (d : Domain) where
       let structures = every-of (structureRange d) 0 4 (λ h l u. s .structures h u) in
       let sources =
       every-of (sourceRule c ws d) 1 63 (λ i l h. rule-joined i (s .source i l h) (q i l h)) in
-      rw (s .config, s .generated-range, s .generated, s .pending-zero, s .enable-zero, structures, sources)
+      rw (s .domaincfg, s .genmsi-range, s .genmsi, s .pending-zero, s .enable-zero, structures, sources)
 
 -- ---- the controller
 
 module _ (w : Wired) where
   module _ (e : wiredSound w ≡ true) where
-    parts : (sourceZeroRule (w .wires) ≡ true) × (domainSound false (w .wires) (w .root) ≡ true)
+    parts : (sourceZeroRule (w .wires) ≡ true) × (domainSound false (w .wires) (w .machine) ≡ true)
         × (domainSound true (w .wires) (w .child) ≡ true) × (every (delegatedRule w) 1 63 ≡ true)
     unfolding wiredSound
     parts =
-        four (sourceZeroRule (w .wires)) (domainSound false (w .wires) (w .root))
+        four (sourceZeroRule (w .wires)) (domainSound false (w .wires) (w .machine))
         (domainSound true (w .wires) (w .child)) (every (delegatedRule w) 1 63) e
 
-    pub wired-sound-steady : length (w .wires) ≡ 2 → DomainShaped (w .root) → DomainShaped (w .child)
+    pub wired-sound-steady : length (w .wires) ≡ 2 → DomainShaped (w .machine) → DomainShaped (w .child)
         → WiredSteady w
     wired-sound-steady long r c =
         record {
           long = long;
           zero = parts .0;
-          root = sound-steady false (w .wires) (w .root) (parts .1) r;
+          machine = sound-steady false (w .wires) (w .machine) (parts .1) r;
           child = sound-steady true (w .wires) (w .child) (parts .2) c;
           delegated = every-each (delegatedRule w) 1 63 (parts .3);
         }
@@ -111,13 +111,13 @@ module _ (w : Wired) where
     pub wired-sound-quiet : WiredQuiet w
     wired-sound-quiet =
         record {
-          root = sound-quiet false (w .wires) (w .root) (parts .1);
+          machine = sound-quiet false (w .wires) (w .machine) (parts .1);
           child = sound-quiet true (w .wires) (w .child) (parts .2);
         }
 
   pub wired-sound-joined : WiredSteady w → WiredQuiet w → wiredSound w ≡ true
   unfolding wiredSound
   wired-sound-joined s q =
-      let root = sound-joined false (w .wires) (w .root) (s .root) (q .root) in
+      let machine = sound-joined false (w .wires) (w .machine) (s .machine) (q .machine) in
       let child = sound-joined true (w .wires) (w .child) (s .child) (q .child) in
-      rw (s .zero, root, child) (every-of (delegatedRule w) 1 63 (s .delegated))
+      rw (s .zero, machine, child) (every-of (delegatedRule w) 1 63 (s .delegated))

@@ -11,11 +11,11 @@ use lib.Dec.{eqb}
 use borrow.Author.Tests.{eq-eqb, ne-eqb, eqb-true}
 use Rattle.words.specs.Bits.{hasBit}
 use Rattle.words.specs.Sets.{member}
-use Rattle.domain_genmsi.specs.Genmsi.{keptGenerated}
+use Rattle.domain_genmsi.specs.Genmsi.{keptGenmsi}
 use Rattle.source.specs.declared.Source.{Source}
 use Rattle.domain_delivery.specs.declared.Delivery.{Delivery}
 use Rattle.domain_delivery.specs.Delivery.{deliverySound}
-use Rattle.domain.specs.Domain.{Domain, configOf, byMessages, generatedAt}
+use Rattle.domain.specs.Domain.{Domain, domaincfgOf, byMessages, genmsiOf}
 use Rattle.domain.specs.Slot.{sourceAt, withSource}
 use Rattle.domain.specs.Structure.{withStructure}
 use Rattle.domain_laws.specs.Shape.{DomainShaped}
@@ -26,40 +26,40 @@ use Rattle.domain_laws.proofs.OwnEffects as own
 use Rattle.domain_laws.proofs.StructureEffects.{structureAt-withStructure-same}
 use Rattle.domain_laws.proofs.StructureEffects.{structureAt-withStructure-other, sourceAt-withStructure}
 use Rattle.domain_laws.proofs.StructureEffects.{shaped-withStructure}
-use Rattle.domain_config.specs.Config.{keptConfig}
+use Rattle.domain_domaincfg.specs.Domaincfg.{keptDomaincfg}
 use Rattle.source_rules.specs.SourceRules.{sourceSteady}
-use Rattle.wired_rules.specs.Rules.{configRange, generatedRange, structureRange, sourceZeroRule}
-use Rattle.wired_rules.specs.Rules.{generatedRule}
+use Rattle.wired_rules.specs.Rules.{domaincfgRange, genmsiRange, structureRange, sourceZeroRule}
+use Rattle.wired_rules.specs.Rules.{genmsiRule}
 use Rattle.wired_rules_laws.specs.Steady.{Steady, DomainKept}
 
 -- ---- the rules of a steady domain, as facts on numbers
 
 module _ {c : Bool} {ws : List ℕ} {d : Domain} (s : Steady c ws d) where
-  pub steady-config : configOf d ≡ keptConfig (configOf d)
-  unfolding configRange
-  steady-config = eqb-true (configOf d) (keptConfig (configOf d)) (s .config)
+  pub steady-domaincfg : domaincfgOf d ≡ keptDomaincfg (domaincfgOf d)
+  unfolding domaincfgRange
+  steady-domaincfg = eqb-true (domaincfgOf d) (keptDomaincfg (domaincfgOf d)) (s .domaincfg)
 
-  pub steady-generated : generatedAt d ≡ keptGenerated (generatedAt d)
-  unfolding generatedRange
-  steady-generated = eqb-true (generatedAt d) (keptGenerated (generatedAt d)) (s .generated-range)
+  pub steady-genmsi : genmsiOf d ≡ keptGenmsi (genmsiOf d)
+  unfolding genmsiRange
+  steady-genmsi = eqb-true (genmsiOf d) (keptGenmsi (genmsiOf d)) (s .genmsi-range)
 
 -- ---- a change that treats each source by itself
 
 module _ (c : Bool) (ws ws′ : List ℕ) (d : Domain) (s : Steady c ws d) where
   -- where domaincfg becomes w and genmsi g
   pub steady-became : {d′ : Domain} {w g : ℕ} {f : ℕ → Source → Source} → Became d d′ w g f
-      → w ≡ keptConfig w → g ≡ keptGenerated g → (hasBit w 2 || eqb g 0) ≡ true
+      → w ≡ keptDomaincfg w → g ≡ keptGenmsi g → (hasBit w 2 || eqb g 0) ≡ true
       → ((i : ℕ) → 1 ≤ i → i < 64
       → sourceSteady c (hasBit w 2) (member ws′ i) (f i (sourceAt d i)) ≡ true)
       → Steady c ws′ d′
-  unfolding configRange generatedRange generatedRule structureRange sourceZeroRule
+  unfolding domaincfgRange genmsiRange genmsiRule structureRange sourceZeroRule
   steady-became {d′} {w} {g} {f} b ew eg rule keeps =
       let mode = became-messages b in
       record {
         shaped = b .shaped;
-        config = rw (b .config) (eq-eqb w (keptConfig w) ew);
-        generated-range = rw (b .generated) (eq-eqb g (keptGenerated g) eg);
-        generated = rw (mode, b .generated) rule;
+        domaincfg = rw (b .domaincfg) (eq-eqb w (keptDomaincfg w) ew);
+        genmsi-range = rw (b .genmsi) (eq-eqb g (keptGenmsi g) eg);
+        genmsi = rw (mode, b .genmsi) rule;
         structures = λ h q. rw (b .structure h) (s .structures h q);
         pending-zero = rw (b .pending-zero) (s .pending-zero);
         enable-zero = rw (b .enable-zero) (s .enable-zero);
@@ -71,8 +71,8 @@ module _ (c : Bool) (ws ws′ : List ℕ) (d : Domain) (s : Steady c ws d) where
       → ((i : ℕ) → 1 ≤ i → i < 64
       → sourceSteady c (byMessages d) (member ws′ i) (f i (sourceAt d i)) ≡ true)
       → Steady c ws′ d′
-  unfolding byMessages generatedRule
-  steady-touched t keeps = steady-became t (steady-config s) (steady-generated s) (s .generated) keeps
+  unfolding byMessages genmsiRule
+  steady-touched t keeps = steady-became t (steady-domaincfg s) (steady-genmsi s) (s .genmsi) keeps
 
 -- what becomes of each source keeps its sourcecfg word
 pub became-modes : {d d′ : Domain} {w g : ℕ} {f : ℕ → Source → Source} → Became d d′ w g f
@@ -131,18 +131,18 @@ module _ (c : Bool) (ws : List ℕ) (d : Domain) (s : Steady c ws d) (h : ℕ) (
   structure-at e g q (no n) = rw (structureAt-withStructure-other d h x g n) (s .structures g q)
 
   pub kept-withStructure : (h < 4 → deliverySound x ≡ true) → DomainKept c ws d (withStructure d h x)
-  unfolding configRange generatedRange generatedRule
+  unfolding domaincfgRange genmsiRange genmsiRule
   kept-withStructure e =
-      let config = own.configOf-withStructure d h x in
-      let generated = own.generatedAt-withStructure d h x in
+      let domaincfg = own.domaincfgOf-withStructure d h x in
+      let genmsi = own.genmsiOf-withStructure d h x in
       let mode = own.byMessages-withStructure d h x in
       record {
         steady =
             record {
               shaped = shaped-withStructure d h x (s .shaped);
-              config = rw config (s .config);
-              generated-range = rw generated (s .generated-range);
-              generated = rw (mode, generated) (s .generated);
+              domaincfg = rw domaincfg (s .domaincfg);
+              genmsi-range = rw genmsi (s .genmsi-range);
+              genmsi = rw (mode, genmsi) (s .genmsi);
               structures = λ g q. structure-at e g q (ℕ-discrete g h);
               pending-zero = unfold withStructure in s .pending-zero;
               enable-zero = unfold withStructure in s .enable-zero;

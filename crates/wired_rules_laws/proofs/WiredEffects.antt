@@ -39,7 +39,7 @@ module _ (w : Wired) (i : ℕ) where
   delegated-zero z = rw (eq-eqb (sourceAt (w .child) i .mode) 0 z, or-true)
 
   -- it goes by the sourcecfg words of the source
-  pub delegated-same : (v : Wired) → sourceAt (v .root) i .mode ≡ sourceAt (w .root) i .mode
+  pub delegated-same : (v : Wired) → sourceAt (v .machine) i .mode ≡ sourceAt (w .machine) i .mode
       → sourceAt (v .child) i .mode ≡ sourceAt (w .child) i .mode → delegatedRule v i ≡ delegatedRule w i
   unfolding delegatedRule isDelegated
   delegated-same v a b = rw (a, b)
@@ -48,20 +48,20 @@ module _ (w : Wired) (i : ℕ) where
 
 module _ (w : Wired) (s : WiredSteady w) where
   wired-kept : (ws : List ℕ) (r c : Domain) → length ws ≡ 2 → sourceZeroRule ws ≡ true
-      → DomainKept false ws (w .root) r → DomainKept true ws (w .child) c
-      → WiredSteady record { wires = ws; root = r; child = c }
+      → DomainKept false ws (w .machine) r → DomainKept true ws (w .child) c
+      → WiredSteady record { wires = ws; machine = r; child = c }
   wired-kept ws r c long zero kr kc =
       record {
         long = long;
         zero = zero;
-        root = kr .steady;
+        machine = kr .steady;
         child = kc .steady;
-        delegated = λ i l h. delegated-same w i record { wires = ws; root = r; child = c }
+        delegated = λ i l h. delegated-same w i record { wires = ws; machine = r; child = c }
             (kr .modes i l h) (kc .modes i l h) ∙ s .delegated i l h;
       }
 
-  root-none : DomainKept false (w .wires) (w .root) (w .root)
-  root-none = kept-none false (w .wires) (w .root) (s .root)
+  machine-none : DomainKept false (w .wires) (w .machine) (w .machine)
+  machine-none = kept-none false (w .wires) (w .machine) (s .machine)
 
   child-none : DomainKept true (w .wires) (w .child) (w .child)
   child-none = kept-none true (w .wires) (w .child) (s .child)
@@ -69,13 +69,13 @@ module _ (w : Wired) (s : WiredSteady w) where
   pub steady-domainIn : (c : Bool) → Steady c (w .wires) (domainIn w c)
   unfolding domainIn
   steady-domainIn true = s .child
-  steady-domainIn false = s .root
+  steady-domainIn false = s .machine
 
   -- in one domain
   wired-withDomain : (c : Bool) (d : Domain) → DomainKept c (w .wires) (domainIn w c) d
       → WiredSteady (withDomain w c d)
   unfolding withDomain domainIn
-  wired-withDomain true d k = wired-kept (w .wires) (w .root) d (s .long) (s .zero) root-none k
+  wired-withDomain true d k = wired-kept (w .wires) (w .machine) d (s .long) (s .zero) machine-none k
   wired-withDomain false d k = wired-kept (w .wires) d (w .child) (s .long) (s .zero) k child-none
 
   pub steady-wireSet : (i : ℕ) → 1 ≤ i → i < 64 → (level : Bool) → WiredSteady (wireSet w i level)
@@ -83,7 +83,7 @@ module _ (w : Wired) (s : WiredSteady w) where
   steady-wireSet i l h level =
       wired-kept (put (w .wires) i level) _ _ (length-put (w .wires) i level ∙ s .long)
       (rw (member-put-other (w .wires) i level 0 (λ e. omega arith)) (s .zero))
-      (kept-sourceWired false (w .wires) (w .root) (s .root) i l h (s .long) level)
+      (kept-sourceWired false (w .wires) (w .machine) (s .machine) i l h (s .long) level)
       (kept-sourceWired true (w .wires) (w .child) (s .child) i l h (s .long) level)
 
   pub steady-claimedIn : (c : Bool) (r : Word) → WiredSteady (claimedIn w c r)
@@ -100,13 +100,13 @@ module _ (w : Wired) (s : WiredSteady w) where
 
 pub quiet-passed : (w : Wired) → WiredQuiet (passed w)
 unfolding flushed
-quiet-passed w = record { root = quiet-sent false (w .root); child = quiet-sent true (w .child) }
+quiet-passed w = record { machine = quiet-sent false (w .machine); child = quiet-sent true (w .child) }
 
 module _ (w : Wired) (s : WiredSteady w) where
   pub steady-passed : WiredSteady (passed w)
   unfolding flushed
   steady-passed =
-      wired-kept w s (w .wires) _ _ (s .long) (s .zero) (kept-sent false (w .wires) (w .root) (s .root))
+      wired-kept w s (w .wires) _ _ (s .long) (s .zero) (kept-sent false (w .wires) (w .machine) (s .machine))
       (kept-sent true (w .wires) (w .child) (s .child))
 
   -- so every rule holds

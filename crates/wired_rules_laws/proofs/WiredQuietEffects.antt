@@ -23,14 +23,14 @@ use Rattle.domain_registers.specs.Read.{claimedBy}
 use Rattle.domain_registers.specs.Write.{registerWritten}
 use Rattle.wired_state.specs.Wires.{Wired, domainIn, withDomain, wireSet, isDelegated}
 use Rattle.wired_registers.specs.Wired.{claimedIn, partWritten}
-use Rattle.wired_sourcecfg.specs.Delegation.{childWritten, rootWritten, sourceWritten}
+use Rattle.wired_sourcecfg.specs.Delegation.{childWritten, machineWritten, sourceWritten}
 use Rattle.wired_registers.specs.Wired.{writtenAs, writtenIn}
-use Rattle.wired_sourcecfg.proofs.DelegationLaws.{root-stays, root-moves}
+use Rattle.wired_sourcecfg.proofs.DelegationLaws.{machine-stays, machine-moves}
 use Rattle.wired_registers.proofs.WiredLaws.{written-cases}
 use Rattle.wired_rules.specs.Rules.{delegatedRule}
 use Rattle.wired_rules_laws.specs.Steady.{Quiet, WiredSteady, WiredQuiet}
 use Rattle.wired_rules_laws.proofs.QuietEffects.{quiet-started, quiet-withSource}
-use Rattle.wired_rules_laws.proofs.ConfigEffects.{quiet-generatedWritten}
+use Rattle.wired_rules_laws.proofs.DomaincfgEffects.{quiet-genmsiWritten}
 use Rattle.wired_rules_laws.proofs.ReadEffects.{quiet-claimedBy}
 use Rattle.wired_rules_laws.proofs.SourceEffects.{active-high, sourceWired-inactive}
 use Rattle.wired_rules_laws.proofs.WiredEffects.{steady-domainIn}
@@ -38,11 +38,11 @@ use Rattle.wired_rules_laws.proofs.WiredEffects.{steady-domainIn}
 -- ---- a wire: a source is active in one domain at most
 
 module _ (w : Wired) (i : ℕ) (level : Bool) where
-  wire-delegated : isDelegated w i ≡ true → wireSet w i level .root ≡ w .root
+  wire-delegated : isDelegated w i ≡ true → wireSet w i level .machine ≡ w .machine
   unfolding wireSet isDelegated
   wire-delegated t =
-      sourceWired-inactive (w .root) i (member (w .wires) i) level
-      (active-high (sourceAt (w .root) i .mode) (leb-true 1024 (sourceAt (w .root) i .mode) t))
+      sourceWired-inactive (w .machine) i (member (w .wires) i) level
+      (active-high (sourceAt (w .machine) i .mode) (leb-true 1024 (sourceAt (w .machine) i .mode) t))
 
   wire-own : eqb (sourceAt (w .child) i .mode) 0 ≡ true → wireSet w i level .child ≡ w .child
   unfolding wireSet
@@ -51,7 +51,7 @@ module _ (w : Wired) (i : ℕ) (level : Bool) where
       (active-zero (sourceAt (w .child) i .mode) (eqb-true (sourceAt (w .child) i .mode) 0 t))
 
   pub wireSet-one : WiredSteady w → 1 ≤ i → i < 64
-      → (wireSet w i level .root ≡ w .root) ⊎ (wireSet w i level .child ≡ w .child)
+      → (wireSet w i level .machine ≡ w .machine) ⊎ (wireSet w i level .child ≡ w .child)
   unfolding delegatedRule
   wireSet-one s l h =
       ⊎-elim (λ t. inl (wire-delegated t)) (λ t. inr (wire-own t))
@@ -69,12 +69,12 @@ module _ (w : Wired) (q : WiredQuiet w) where
   pub quiet-domainIn : (c : Bool) → Quiet (domainIn w c)
   unfolding domainIn
   quiet-domainIn true = q .child
-  quiet-domainIn false = q .root
+  quiet-domainIn false = q .machine
 
   quiet-withDomain : (c : Bool) (d : Domain) → Quiet d → WiredQuiet (withDomain w c d)
   unfolding withDomain
-  quiet-withDomain true d e = record { root = q .root; child = e }
-  quiet-withDomain false d e = record { root = e; child = q .child }
+  quiet-withDomain true d e = record { machine = q .machine; child = e }
+  quiet-withDomain false d e = record { machine = e; child = q .child }
 
   pub quiet-claimedIn : (c : Bool) (r : Word) → WiredQuiet (claimedIn w c r)
   quiet-claimedIn c r =
@@ -85,7 +85,7 @@ module _ (w : Wired) (q : WiredQuiet w) where
     unfolding registerWritten
     quiet-genmsi c v =
         quiet-withDomain c (registerWritten c (domainIn w c) (w .wires) Genmsi v)
-        (quiet-generatedWritten c (w .wires) (domainIn w c) (steady-domainIn w s c) v (quiet-domainIn c))
+        (quiet-genmsiWritten c (w .wires) (domainIn w c) (steady-domainIn w s c) v (quiet-domainIn c))
 
     pub quiet-writtenIn-genmsi : (c : Bool) (v : ℕ) → WiredQuiet (writtenIn w c Genmsi v)
     unfolding writtenIn writtenAs
@@ -105,16 +105,16 @@ module _ (w : Wired) (q : WiredQuiet w) where
     -- ---- a write: the other domain
 
     module _ (i : ℕ) (l : 1 ≤ i) (h : i < 64) (v : ℕ) where
-      other-rootWritten : Quiet (rootWritten w i v .child)
-      other-rootWritten =
+      other-machineWritten : Quiet (machineWritten w i v .child)
+      other-machineWritten =
           tested (Bool·beq (isDelegated w i) (leb 1024 (sourceWord false false v)))
-          (λ t. rw (root-stays w i v t) (q .child))
-          (λ f. rw (root-moves w i v f) (quiet-started (w .child) (q .child) i (s .child .shaped) l h))
+          (λ t. rw (machine-stays w i v t) (q .child))
+          (λ f. rw (machine-moves w i v f) (quiet-started (w .child) (q .child) i (s .child .shaped) l h))
 
       other-sourceWritten : (c : Bool) → Quiet (domainIn (sourceWritten w c i v) (not c))
       unfolding domainIn sourceWritten childWritten
-      other-sourceWritten true = q .root
-      other-sourceWritten false = other-rootWritten
+      other-sourceWritten true = q .machine
+      other-sourceWritten false = other-machineWritten
 
     pub quiet-other : (c : Bool) (r : Word) → Within r → (v : ℕ)
         → Quiet (domainIn (writtenIn w c r v) (not c))

@@ -15,7 +15,7 @@ use Rattle.domain_laws.proofs.SetsBack.{put-back}
 use Rattle.wired_state.specs.Wires.{Wired, wireSet, isDelegated}
 use Rattle.wired_sourcecfg.specs.Delegation.{sourceWritten}
 use Rattle.wired_state.proofs.WiresLaws.{wired-path}
-use Rattle.wired_sourcecfg.proofs.DelegationLaws.{root-stays, written-root}
+use Rattle.wired_sourcecfg.proofs.DelegationLaws.{machine-stays, written-machine}
 use Rattle.source_laws.proofs.ModeEffects.{range-greatest}
 use Rattle.source_laws.proofs.SteadyParts.{steady-mode}
 use Rattle.wired_rules_laws.specs.Steady.{WiredSteady}
@@ -26,15 +26,16 @@ module _ (w : Wired) (s : WiredSteady w) (i : ℕ) (l : 1 ≤ i) (h : i < 64) wh
   pub wireSet-same : wireSet w i (member (w .wires) i) ≡ w
   unfolding wireSet
   wireSet-same =
-      wired-path (put-back (w .wires) i) (sourceWired-same false (w .wires) (w .root) (s .root) i l h)
+      wired-path (put-back (w .wires) i) (sourceWired-same false (w .wires) (w .machine) (s .machine) i l h)
       (sourceWired-same true (w .wires) (w .child) (s .child) i l h)
 
   -- the word of a delegated source is 1024
-  pub delegated-word : isDelegated w i ≡ true → sourceAt (w .root) i .mode ≡ 1024
+  pub delegated-word : isDelegated w i ≡ true → sourceAt (w .machine) i .mode ≡ 1024
   unfolding isDelegated
   delegated-word t =
-      let x = sourceAt (w .root) i in
-      let range = steady-mode false (byMessages (w .root)) (member (w .wires) i) x (s .root .source i l h) in
+      let x = sourceAt (w .machine) i in
+      let range =
+      steady-mode false (byMessages (w .machine)) (member (w .wires) i) x (s .machine .source i l h) in
       range-greatest false (x .mode) range (leb-true 1024 (x .mode) t)
 
   -- a delegation written again
@@ -42,6 +43,6 @@ module _ (w : Wired) (s : WiredSteady w) (i : ℕ) (l : 1 ≤ i) (h : i < 64) wh
   delegated-again v b t =
       let word = word-delegated v false false refl b in
       let stays : Bool·beq (isDelegated w i) (leb 1024 (sourceWord false false v)) ≡ true = rw (t, word) in
-      written-root w i v false refl ∙ root-stays w i v stays
-      ∙ wired-path refl (sourceModed-same false (w .wires) (w .root) (s .root) i l h
+      written-machine w i v false refl ∙ machine-stays w i v stays
+      ∙ wired-path refl (sourceModed-same false (w .wires) (w .machine) (s .machine) i l h
       (sourceWord false false v) (delegated-word t ∙ sym word)) refl

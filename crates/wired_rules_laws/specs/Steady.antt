@@ -20,15 +20,15 @@ use Rattle.domain_laws.specs.Shape.{DomainShaped}
 use Rattle.wired_state.specs.Wires.{Wired}
 use Rattle.wired_state.specs.Pass.{flushed}
 use Rattle.source_rules.specs.SourceRules.{sourceSteady, sentRule}
-use Rattle.wired_rules.specs.Rules.{configRange, generatedRange, structureRange, sourceZeroRule}
-use Rattle.wired_rules.specs.Rules.{generatedRule}
+use Rattle.wired_rules.specs.Rules.{domaincfgRange, genmsiRange, structureRange, sourceZeroRule}
+use Rattle.wired_rules.specs.Rules.{genmsiRule}
 use Rattle.wired_rules.specs.Rules.{delegatedRule}
 
 pub record Steady (c : Bool) (ws : List ℕ) (d : Domain) : Type 0 where
   pub shaped : DomainShaped d
-  pub config : configRange d ≡ true
-  pub generated-range : generatedRange d ≡ true
-  pub generated : generatedRule d ≡ true
+  pub domaincfg : domaincfgRange d ≡ true
+  pub genmsi-range : genmsiRange d ≡ true
+  pub genmsi : genmsiRule d ≡ true
   pub structures : (h : ℕ) → h < hartCount → structureRange d h ≡ true
   pub pending-zero : sourceZeroRule (d .pending) ≡ true
   pub enable-zero : sourceZeroRule (d .enable) ≡ true
@@ -45,12 +45,12 @@ Quiet d = (i : ℕ) → 1 ≤ i → i < slotCount → sentRule (sends d) (source
 pub record WiredSteady (w : Wired) : Type 0 where
   pub long : length (w .wires) ≡ sourceSetSize
   pub zero : sourceZeroRule (w .wires) ≡ true
-  pub root : Steady false (w .wires) (w .root)
+  pub machine : Steady false (w .wires) (w .machine)
   pub child : Steady true (w .wires) (w .child)
   pub delegated : (i : ℕ) → 1 ≤ i → i < slotCount → delegatedRule w i ≡ true
 
 pub record WiredQuiet (w : Wired) : Type 0 where
-  pub root : Quiet (w .root)
+  pub machine : Quiet (w .machine)
   pub child : Quiet (w .child)
 
 abbrev pub passed : Wired → Wired

@@ -10,36 +10,36 @@ use Rattle.source.specs.Pending.{inactive}
 use Rattle.domain.specs.Slot.{withSource}
 use Rattle.wired_state.specs.Wires.{Wired}
 use Rattle.wired_state.specs.Wires.{isDelegated}
-use Rattle.wired_sourcecfg.specs.Delegation.{sourceModed, childWritten, rootWritten, sourceWritten}
+use Rattle.wired_sourcecfg.specs.Delegation.{sourceModed, childWritten, machineWritten, sourceWritten}
 
 module _ (w : Wired) (i v : ℕ) where
   abbrev moves : Bool
   moves = Bool·beq (isDelegated w i) (leb 1024 (sourceWord false false v))
 
-  pub root-stays : moves ≡ true
-      → rootWritten w i v
+  pub machine-stays : moves ≡ true
+      → machineWritten w i v
       ≡ record {
         wires = w .wires;
-        root = sourceModed (w .root) i (sourceWord false false v) (member (w .wires) i);
+        machine = sourceModed (w .machine) i (sourceWord false false v) (member (w .wires) i);
         child = w .child;
       }
-  unfolding rootWritten
-  root-stays e = simp e
+  unfolding machineWritten
+  machine-stays e = simp e
 
-  pub root-moves : moves ≡ false
-      → rootWritten w i v
+  pub machine-moves : moves ≡ false
+      → machineWritten w i v
       ≡ record {
         wires = w .wires;
-        root = sourceModed (w .root) i (sourceWord false false v) (member (w .wires) i);
+        machine = sourceModed (w .machine) i (sourceWord false false v) (member (w .wires) i);
         child = withSource (w .child) i (inactive 0);
       }
-  unfolding rootWritten
-  root-moves e = simp e
+  unfolding machineWritten
+  machine-moves e = simp e
 
   pub written-child : (c : Bool) → c ≡ true → sourceWritten w c i v ≡ childWritten w i v
   unfolding sourceWritten
   written-child c e = simp e
 
-  pub written-root : (c : Bool) → c ≡ false → sourceWritten w c i v ≡ rootWritten w i v
+  pub written-machine : (c : Bool) → c ≡ false → sourceWritten w c i v ≡ machineWritten w i v
   unfolding sourceWritten
-  written-root c e = simp e
+  written-machine c e = simp e

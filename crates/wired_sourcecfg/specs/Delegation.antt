@@ -1,7 +1,7 @@
 -- A sourcecfg that is written, with delegation and taking back. 01, "The wired controller"; the standard
 -- 4.5.2. Assumes nothing.
 --   sourceModed d i m wire   d after the sourcecfg word of source i became m
---   childWritten, rootWritten, sourceWritten w c i v
+--   childWritten, machineWritten, sourceWritten w c i v
 --                            w after v was written to sourcecfg[i] of a domain
 -- Where the delegation of a source changes, the child's source starts anew. Nothing is sent here: that comes
 -- after.
@@ -25,20 +25,20 @@ unfoldable pub childWritten : Wired → ℕ → ℕ → Wired
 childWritten w i v =
     record {
       wires = w .wires;
-      root = w .root;
+      machine = w .machine;
       child = sourceModed (w .child) i (sourceWord true (isDelegated w i) v) (member (w .wires) i);
     }
 
 -- [01 W17 W18]
-unfoldable pub rootWritten : Wired → ℕ → ℕ → Wired
-rootWritten w i v =
+unfoldable pub machineWritten : Wired → ℕ → ℕ → Wired
+machineWritten w i v =
     record {
       wires = w .wires;
-      root = sourceModed (w .root) i (sourceWord false false v) (member (w .wires) i);
+      machine = sourceModed (w .machine) i (sourceWord false false v) (member (w .wires) i);
       child =
           cond (Bool·beq (isDelegated w i) (leb delegatedWord (sourceWord false false v))) (w .child)
           (withSource (w .child) i (inactive 0));
     }
 
 unfoldable pub sourceWritten : Wired → Bool → ℕ → ℕ → Wired
-sourceWritten w c i v = cond c (childWritten w i v) (rootWritten w i v)
+sourceWritten w c i v = cond c (childWritten w i v) (machineWritten w i v)

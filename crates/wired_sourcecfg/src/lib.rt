@@ -9,10 +9,10 @@ ghost use Rattle.source.specs.Pending.{inactive};
 ghost use Rattle.domain.specs.Domain.{domainOf};
 ghost use Rattle.domain.specs.Slot.{withSource};
 ghost use Rattle.wired_state.specs.Wires.{wiredOf};
-ghost use Rattle.wired_sourcecfg.specs.Delegation.{sourceModed, childWritten, rootWritten};
+ghost use Rattle.wired_sourcecfg.specs.Delegation.{sourceModed, childWritten, machineWritten};
 ghost use Rattle.wired_sourcecfg.specs.Delegation.{sourceWritten};
 use sizes::CHILD_PLACE;
-use sizes::ROOT_PLACE;
+use sizes::MACHINE_PLACE;
 use sizes::WIRED_SIZE;
 use source::Source;
 use source_mode::DELEGATED_WORD;
@@ -56,14 +56,14 @@ fn write_child(w: &mut [u32], i: usize, value: u32)
     );
 }
 
-fn write_root(w: &mut [u32], i: usize, value: u32)
+fn write_machine(w: &mut [u32], i: usize, value: u32)
     requires { ⌜ (length (now w) ≡ wiredSize) × (i < slotCount) ⌝ }
-    ensures { λ r. ⌜ wiredOf (now (w .exit)) ≡ rootWritten (wiredOf (now (w .entry))) i value ⌝ }
+    ensures { λ r. ⌜ wiredOf (now (w .exit)) ≡ machineWritten (wiredOf (now (w .entry))) i value ⌝ }
 {
     let wire = source_wire::wire_at(wires(w), i);
     let had = delegated(w, i);
     let mode = source_mode::source_word(false, false, value);
-    mode_source(&mut w[ROOT_PLACE..CHILD_PLACE], i, mode, wire);
+    mode_source(&mut w[MACHINE_PLACE..CHILD_PLACE], i, mode, wire);
     let has = DELEGATED_WORD <= mode;
     if had == has {
         return;
@@ -79,5 +79,5 @@ pub fn write_source(w: &mut [u32], child: bool, i: usize, value: u32)
         write_child(w, i, value);
         return;
     }
-    write_root(w, i, value);
+    write_machine(w, i, value);
 }

@@ -13,10 +13,10 @@ bothSent w =
       wired =
           record {
             wires = w .wires;
-            root = sent false (w .root) .domain;
+            machine = sent false (w .machine) .domain;
             child = sent true (w .child) .domain;
           };
-      messages = sent false (w .root) .messages ++ sent true (w .child) .messages;
+      messages = sent false (w .machine) .messages ++ sent true (w .child) .messages;
     }
 
 pub flushed-both : (w : Wired) → flushed w ≡ bothSent w

@@ -19,14 +19,14 @@ use Rattle.wired_state.specs.Wires.{Wired, wiredOf, domainIn, withDomain
 use Rattle.sizes.specs.Sizes.{childPlace, domainSize, wiredSize}
 
 -- two controllers are equal if their parts are
-pub wired-path : {w v : Wired} → w .wires ≡ v .wires → w .root ≡ v .root → w .child ≡ v .child → w ≡ v
-wired-path a b c = λ k. record { wires = a k; root = b k; child = c k }
+pub wired-path : {w v : Wired} → w .wires ≡ v .wires → w .machine ≡ v .machine → w .child ≡ v .child → w ≡ v
+wired-path a b c = λ k. record { wires = a k; machine = b k; child = c k }
 
 module _ (l ys : List ℕ) (long : length l ≡ wiredSize) (part : length ys ≡ domainSize) where
-  pub put-root : wiredOf (take 2 l ++ (ys ++ drop domainSize (drop 2 l)))
-      ≡ record { wires = wiredOf l .wires; root = domainOf ys; child = wiredOf l .child }
+  pub put-machine : wiredOf (take 2 l ++ (ys ++ drop domainSize (drop 2 l)))
+      ≡ record { wires = wiredOf l .wires; machine = domainOf ys; child = wiredOf l .child }
   unfolding wiredOf
-  put-root =
+  put-machine =
       let two : length (take 2 l) ≡ 2 = simp length-take (omega arith) in
       let behind = drop-at (take 2 l) (ys ++ drop domainSize (drop 2 l)) 2 two in
       wired-path (take-at (take 2 l) (ys ++ drop domainSize (drop 2 l)) 2 two)
@@ -37,7 +37,7 @@ module _ (l ys : List ℕ) (long : length l ≡ wiredSize) (part : length ys ≡
       ∙ drop-at ys (drop domainSize (drop 2 l)) domainSize part ∙ drop-drop domainSize 2 l))
 
   pub put-child : wiredOf (take childPlace l ++ (ys ++ drop domainSize (drop childPlace l)))
-      ≡ record { wires = wiredOf l .wires; root = wiredOf l .root; child = domainOf ys }
+      ≡ record { wires = wiredOf l .wires; machine = wiredOf l .machine; child = domainOf ys }
   unfolding wiredOf
   put-child =
       let z = ys ++ drop domainSize (drop childPlace l) in
@@ -58,15 +58,15 @@ module _ (l ys : List ℕ) (long : length l ≡ wiredSize) (part : length ys ≡
 
 -- the parts that are lent
 module _ (l : List ℕ) (long : length l ≡ wiredSize) where
-  pub root-long : length (take domainSize (drop 2 l)) ≡ domainSize
-  root-long = segment-long l 2 domainSize (omega arith)
+  pub machine-long : length (take domainSize (drop 2 l)) ≡ domainSize
+  machine-long = segment-long l 2 domainSize (omega arith)
 
   pub child-long : length (take domainSize (drop childPlace l)) ≡ domainSize
   child-long = segment-long l childPlace domainSize (omega arith)
 
-  pub root-part : domainOf (take domainSize (drop 2 l)) ≡ wiredOf l .root
+  pub machine-part : domainOf (take domainSize (drop 2 l)) ≡ wiredOf l .machine
   unfolding wiredOf
-  root-part = refl
+  machine-part = refl
 
   pub child-part : domainOf (take domainSize (drop childPlace l)) ≡ wiredOf l .child
   unfolding wiredOf
@@ -88,16 +88,16 @@ module _ (l ys : List ℕ) (long : length l ≡ wiredSize) (part : length ys ≡
       (take domainSize (drop childPlace (take 2 l ++ (ys ++ drop domainSize (drop 2 l))))) ≡ wiredOf l .child
   second-part =
       child-part (take 2 l ++ (ys ++ drop domainSize (drop 2 l))) put-long
-      ∙ ap (λ (w : Wired). w .child) (put-root l ys long part)
+      ∙ ap (λ (w : Wired). w .child) (put-machine l ys long part)
 
   pub both-put : (zs : List ℕ) → length zs ≡ domainSize
       → wiredOf (take childPlace (take 2 l ++ (ys ++ drop domainSize (drop 2 l)))
       ++ (zs ++ drop domainSize (drop childPlace (take 2 l ++ (ys ++ drop domainSize (drop 2 l))))))
-      ≡ record { wires = wiredOf l .wires; root = domainOf ys; child = domainOf zs }
+      ≡ record { wires = wiredOf l .wires; machine = domainOf ys; child = domainOf zs }
   both-put zs rest =
       put-child (take 2 l ++ (ys ++ drop domainSize (drop 2 l))) zs put-long rest
-      ∙ ap (λ (w : Wired). record { wires = w .wires; root = w .root; child = domainOf zs })
-      (put-root l ys long part)
+      ∙ ap (λ (w : Wired). record { wires = w .wires; machine = w .machine; child = domainOf zs })
+      (put-machine l ys long part)
 
 -- ---- a wire
 
@@ -120,22 +120,22 @@ module _ (w : Wired) (c : Bool) where
   unfolding domainIn
   domain-child e = simp e
 
-  pub domain-root : c ≡ false → domainIn w c ≡ w .root
+  pub domain-machine : c ≡ false → domainIn w c ≡ w .machine
   unfolding domainIn
-  domain-root e = simp e
+  domain-machine e = simp e
 
   pub with-child : (d : Domain) → c ≡ true
-      → withDomain w c d ≡ record { wires = w .wires; root = w .root; child = d }
+      → withDomain w c d ≡ record { wires = w .wires; machine = w .machine; child = d }
   unfolding withDomain
   with-child d e = simp e
 
-  pub with-root : (d : Domain) → c ≡ false
-      → withDomain w c d ≡ record { wires = w .wires; root = d; child = w .child }
+  pub with-machine : (d : Domain) → c ≡ false
+      → withDomain w c d ≡ record { wires = w .wires; machine = d; child = w .child }
   unfolding withDomain
-  with-root d e = simp e
+  with-machine d e = simp e
 
 -- ---- one source
 
-pub delegated-mode : (w : Wired) (i : ℕ) → isDelegated w i ≡ leb 1024 (sourceAt (w .root) i .mode)
+pub delegated-mode : (w : Wired) (i : ℕ) → isDelegated w i ≡ leb 1024 (sourceAt (w .machine) i .mode)
 unfolding isDelegated
 delegated-mode w i = refl

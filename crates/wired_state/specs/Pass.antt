@@ -15,9 +15,9 @@ pub record Out : Type 0 where
 -- [01 W45]
 unfoldable pub flushed : Wired → Out
 flushed w =
-    let first = sent false (w .root) in
+    let first = sent false (w .machine) in
     let second = sent true (w .child) in
     record {
-      wired = record { wires = w .wires; root = first .domain; child = second .domain };
+      wired = record { wires = w .wires; machine = first .domain; child = second .domain };
       messages = first .messages ++ second .messages;
     }

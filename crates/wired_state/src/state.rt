@@ -5,7 +5,7 @@ ghost use lib.ListN.{length};
 ghost use Rattle.sizes.specs.Sizes.{slotCount, wiredSize};
 ghost use Rattle.wired_state.specs.Wires.{wiredOf, isDelegated};
 use sizes::CHILD_PLACE;
-use sizes::ROOT_PLACE;
+use sizes::MACHINE_PLACE;
 use sizes::SOURCE_SET_SIZE;
 use source_mode::DELEGATED_WORD;
 
@@ -21,6 +21,6 @@ pub fn delegated(w: &[u32], i: usize) -> bool
     requires { ⌜ (length (now w) ≡ wiredSize) × (i < slotCount) ⌝ }
     ensures { λ r. ⌜ r ≡ isDelegated (wiredOf (now (w .entry))) i ⌝ }
 {
-    let s = domain::load(&w[ROOT_PLACE..CHILD_PLACE], i);
+    let s = domain::load(&w[MACHINE_PLACE..CHILD_PLACE], i);
     DELEGATED_WORD <= s.mode
 }

@@ -8,7 +8,7 @@ ghost use Rattle.domain.specs.Domain.{domainOf};
 ghost use Rattle.wired_state.specs.Wires.{wiredOf, withWires, sourceWired, wireSet};
 use super::state::wires;
 use sizes::CHILD_PLACE;
-use sizes::ROOT_PLACE;
+use sizes::MACHINE_PLACE;
 use sizes::WIRED_SIZE;
 
 fn wire_source(part: &mut [u32], i: usize, was: bool, is: bool)
@@ -34,6 +34,6 @@ pub fn set_wire(w: &mut [u32], i: usize, level: bool)
 {
     let was = source_wire::wire_at(wires(w), i);
     put_wire(w, i, level);
-    wire_source(&mut w[ROOT_PLACE..CHILD_PLACE], i, was, level);
+    wire_source(&mut w[MACHINE_PLACE..CHILD_PLACE], i, was, level);
     wire_source(&mut w[CHILD_PLACE..WIRED_SIZE], i, was, level);
 }

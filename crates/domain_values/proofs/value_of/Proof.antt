@@ -10,8 +10,8 @@ use Rattle.domain_values.proofs.value_of.Tie as tie
 enum-told : tie.Need-enum-told
 enum-told c = search needs
 
-config-word-requires : tie.Need-config-word-requires
-config-word-requires c κs = search needs
+domaincfg-word-requires : tie.Need-domaincfg-word-requires
+domaincfg-word-requires c κs = search needs
 
 enum-known-word : tie.Need-enum-known-word
 enum-known-word c = search needs
@@ -69,8 +69,8 @@ enum-told-8 c = search needs
 enum-told-9 : tie.Need-enum-told-9
 enum-told-9 c = search needs
 
-read-generated-requires : tie.Need-read-generated-requires
-read-generated-requires c κs = search needs
+read-genmsi-requires : tie.Need-read-genmsi-requires
+read-genmsi-requires c κs = search needs
 
 enum-known-word-5 : tie.Need-enum-known-word-5
 enum-known-word-5 c = search needs
@@ -125,7 +125,7 @@ enum-told-10 c = search needs
 
 returns : tie.Need-returns
 unfolding registerValue
-returns c = c .config-word .ensures ∙ sym (ap (registerValue _ _) (c .before .enum-told .given .1))
+returns c = c .domaincfg-word .ensures ∙ sym (ap (registerValue _ _) (c .before .enum-told .given .1))
 
 returns-2 : tie.Need-returns-2
 unfolding registerValue
@@ -173,7 +173,7 @@ returns-12 c = sym (ap (registerValue _ _) (c .enum-told8 .given .1))
 
 returns-13 : tie.Need-returns-13
 unfolding registerValue
-returns-13 c = c .read-generated .ensures ∙ sym (ap (registerValue _ _) (c .before .enum-told9 .given .1))
+returns-13 c = c .read-genmsi .ensures ∙ sym (ap (registerValue _ _) (c .before .enum-told9 .given .1))
 
 returns-14 : tie.Need-returns-14
 unfolding registerValue
@@ -208,7 +208,7 @@ value-of-spec =
     tie.close
     (tie.spec
     enum-told
-    config-word-requires
+    domaincfg-word-requires
     enum-known-word
     source-word-requires
     enum-known-word-2
@@ -225,7 +225,7 @@ value-of-spec =
     enum-told-7
     enum-told-8
     enum-told-9
-    read-generated-requires
+    read-genmsi-requires
     enum-known-word-5
     target-word-requires
     enum-known-word-6

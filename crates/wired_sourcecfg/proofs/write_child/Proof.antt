@@ -58,7 +58,7 @@ returns c =
     ∙ ap (λ (h : Bool). sourceWord true h (start .args .value)) (at-has .delegated .ensures) in
     put-child l (at-mode .mode-source .last .0) (start .pre .0) (at-mode .mode-source .kept .0
     ∙ child-long l (start .pre .0))
-    ∙ ap (λ (d : Domain). record { wires = wiredOf l .wires; root = wiredOf l .root; child = d })
+    ∙ ap (λ (d : Domain). record { wires = wiredOf l .wires; machine = wiredOf l .machine; child = d })
     (at-mode .mode-source .ensures
     ∙ ap₂ (λ (m : ℕ) (b : Bool). sourceModed (domainOf (take domainSize (drop childPlace l))) i m b) word wire
     ∙ ap

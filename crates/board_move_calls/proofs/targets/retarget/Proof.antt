@@ -2,12 +2,12 @@
 use Prim.Native.Nat.{_<_}
 use mathlib.Core.Path.{sym, ap, subst, _∙_}
 use mathlib.Core.Bool.{true}
-use Rattle.domain.specs.Domain.{configOf}
+use Rattle.domain.specs.Domain.{domaincfgOf}
 use Rattle.wired_state.specs.Wires.{Wired, domainIn}
 use Rattle.board_block.specs.Block.{withWired, boardOf}
 use Rattle.board_block.proofs.BlockLaws.{wired-long, wired-part, put-wired}
 use Rattle.board_call.specs.Move.{retargetedIn}
-use Rattle.board_move_laws.proofs.MoveCallEffects.{child-config}
+use Rattle.board_move_laws.proofs.MoveCallEffects.{child-domaincfg}
 use borrow.Author.Needs.{needs}
 use Rattle.board_move_calls.proofs.targets.retarget.Statement.{statement}
 use Rattle.board_move_calls.proofs.targets.retarget.Tie as tie
@@ -27,8 +27,8 @@ rewrite-requires c κs =
     let l = start .args .state .now in
     let long = start .pre .0 in (
       wired-long l long,
-      subst (λ (w : Wired). configOf (domainIn w true) < 0x80000000) (sym (wired-part l long))
-          (child-config l long (start .pre .1)),
+      subst (λ (w : Wired). domaincfgOf (domainIn w true) < 0x80000000) (sym (wired-part l long))
+          (child-domaincfg l long (start .pre .1)),
       start .pre .2,
       start .pre .3,
       start .pre .4,

@@ -15,7 +15,7 @@ use Rattle.domain_region.specs.Region.{wordAt}
 use Rattle.wired_registers.specs.Wired.{readIn}
 use Rattle.wired.specs.Controller.{readCall}
 use Rattle.board_block.specs.Block.{withWired, boardOf}
-use Rattle.board_wired_calls.proofs.DoneLaws.{read-none}
+use Rattle.board_wired_calls.proofs.AcceptedLaws.{read-none}
 use Rattle.board_call_laws.proofs.CallTests.{tests-blocks, tests-name, tests-address}
 use Rattle.board_call_laws.proofs.WiredCallEffects.{tests-domainRead, domainRead-done}
 use borrow.Author.Needs.{needs}

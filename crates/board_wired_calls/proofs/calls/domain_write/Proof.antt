@@ -13,7 +13,7 @@ use Rattle.domain_region.proofs.RegionLaws.{word-within}
 use lib.Dec.{eqb}
 use Rattle.wired.specs.Controller.{writeCall}
 use Rattle.board_block.specs.Block.{boardOf}
-use Rattle.board_wired_calls.proofs.DoneLaws.{left-of}
+use Rattle.board_wired_calls.proofs.AcceptedLaws.{left-of}
 use Rattle.board_call_laws.proofs.CallTests.{tests-blocks, tests-name, tests-address}
 use Rattle.board_call_laws.proofs.WiredCallEffects.{tests-domainWrite, domainWrite-done}
 use borrow.Author.Needs.{needs}

@@ -14,8 +14,8 @@ use Rattle.domain_registers.proofs.access.write.Tie as tie
 enum-told : tie.Need-enum-told
 enum-told c = search needs
 
-write-config-requires : tie.Need-write-config-requires
-write-config-requires c κs = search needs
+write-domaincfg-requires : tie.Need-write-domaincfg-requires
+write-domaincfg-requires c κs = search needs
 
 enum-told-2 : tie.Need-enum-told-2
 enum-told-2 c = search needs
@@ -86,8 +86,8 @@ change-number-requires-6 c κs = search needs
 enum-told-9 : tie.Need-enum-told-9
 enum-told-9 c = search needs
 
-write-generated-requires : tie.Need-write-generated-requires
-write-generated-requires c κs = search needs
+write-genmsi-requires : tie.Need-write-genmsi-requires
+write-genmsi-requires c κs = search needs
 
 enum-known-word-5 : tie.Need-enum-known-word-5
 enum-known-word-5 c = search needs
@@ -147,7 +147,7 @@ returns c =
     let at-call = c .before .before in
     let told = at-call .before .before in
     let args = told .before .before .before .args in
-    at-call .write-config .ensures
+    at-call .write-domaincfg .ensures
     ∙ sym
     (ap
     (λ (w : Word). registerWritten (args .child) (domainOf (args .part .now)) (args .wires) w
@@ -323,7 +323,7 @@ returns-13 c =
     let at-call = c .before .before in
     let told = at-call .before .before in
     let args = told .before .before .before .args in
-    at-call .write-generated .ensures
+    at-call .write-genmsi .ensures
     ∙ sym
     (ap
     (λ (w : Word). registerWritten (args .child) (domainOf (args .part .now)) (args .wires) w
@@ -421,7 +421,7 @@ write-spec =
     tie.close
     (tie.spec
     enum-told
-    write-config-requires
+    write-domaincfg-requires
     enum-told-2
     enum-known-word
     change-word-requires
@@ -445,7 +445,7 @@ write-spec =
     reversed32-requires
     change-number-requires-6
     enum-told-9
-    write-generated-requires
+    write-genmsi-requires
     enum-known-word-5
     write-target-requires
     enum-known-word-6

@@ -7,8 +7,8 @@ use denote.Enum.Declared.{tagOf}
 use Rattle.domain_region.proofs.role.Role.{the-type}
 use Rattle.domain_region.proofs.RoleLaws.{arm-else}
 use Rattle.wired_state.specs.Wires.{wiredOf}
-use Rattle.wired_state.proofs.WiresLaws.{root-part, child-part}
-use Rattle.wired_state.proofs.WiresLaws.{domain-root, domain-child}
+use Rattle.wired_state.proofs.WiresLaws.{machine-part, child-part}
+use Rattle.wired_state.proofs.WiresLaws.{domain-machine, domain-child}
 use Rattle.wired.proofs.ControllerLaws.{answered-else, answered-genmsi}
 use borrow.Author.Needs.{needs}
 use Rattle.wired.proofs.calls.generate.Statement.{statement}
@@ -28,17 +28,17 @@ returns c =
     (ap (tagOf the-type) (at-role .role-of .ensures ∙ e)))
     (at-role .before .before .before .args .log .now)
 
-sub-send-generated : tie.Need-sub-send-generated
-sub-send-generated c = search needs
+sub-send-genmsi : tie.Need-sub-send-genmsi
+sub-send-genmsi c = search needs
 
-part-send-generated-start : tie.Need-part-send-generated-start
-part-send-generated-start c = search needs
+part-send-genmsi-start : tie.Need-part-send-genmsi-start
+part-send-genmsi-start c = search needs
 
-part-send-generated-end : tie.Need-part-send-generated-end
-part-send-generated-end c = search needs
+part-send-genmsi-end : tie.Need-part-send-genmsi-end
+part-send-genmsi-end c = search needs
 
-send-generated-requires : tie.Need-send-generated-requires
-send-generated-requires c κs = search needs
+send-genmsi-requires : tie.Need-send-genmsi-requires
+send-genmsi-requires c κs = search needs
 
 same-length : tie.Need-same-length
 same-length c = search needs
@@ -54,19 +54,19 @@ returns-2 c =
     answered-genmsi _ _ _ _ (sym (at-role .role-of .ensures) ∙ at-told .enum-told .given .1)
     true (at-side .if1 .taken) _
     (child-part l (start .pre .0) ∙ sym (domain-child (wiredOf l) (start .args .child) (at-side .if1 .taken)))
-    (start .args .log .now) _ _ (at-call .send-generated .ensures)
+    (start .args .log .now) _ _ (at-call .send-genmsi .ensures)
 
-sub-send-generated-2 : tie.Need-sub-send-generated-2
-sub-send-generated-2 c = search needs
+sub-send-genmsi-2 : tie.Need-sub-send-genmsi-2
+sub-send-genmsi-2 c = search needs
 
-part-send-generated-start-2 : tie.Need-part-send-generated-start-2
-part-send-generated-start-2 c = search needs
+part-send-genmsi-start-2 : tie.Need-part-send-genmsi-start-2
+part-send-genmsi-start-2 c = search needs
 
-part-send-generated-end-2 : tie.Need-part-send-generated-end-2
-part-send-generated-end-2 c = search needs
+part-send-genmsi-end-2 : tie.Need-part-send-genmsi-end-2
+part-send-genmsi-end-2 c = search needs
 
-send-generated-requires-2 : tie.Need-send-generated-requires-2
-send-generated-requires-2 c κs = search needs
+send-genmsi-requires-2 : tie.Need-send-genmsi-requires-2
+send-genmsi-requires-2 c κs = search needs
 
 same-length-2 : tie.Need-same-length-2
 same-length-2 c = search needs
@@ -81,8 +81,9 @@ returns-3 c =
     let l = start .args .w .now in
     answered-genmsi _ _ _ _ (sym (at-role .role-of .ensures) ∙ at-told .enum-told .given .1)
     false (at-side .if1 .left) _
-    (root-part l (start .pre .0) ∙ sym (domain-root (wiredOf l) (start .args .child) (at-side .if1 .left)))
-    (start .args .log .now) _ _ (at-call .send-generated2 .ensures)
+    (machine-part l (start .pre .0)
+    ∙ sym (domain-machine (wiredOf l) (start .args .child) (at-side .if1 .left)))
+    (start .args .log .now) _ _ (at-call .send-genmsi2 .ensures)
 
 pub generate-spec : {M : Type 1} → statement M
 generate-spec =
@@ -91,15 +92,15 @@ generate-spec =
     role-of-requires
     enum-told
     returns
-    sub-send-generated
-    part-send-generated-start
-    part-send-generated-end
-    send-generated-requires
+    sub-send-genmsi
+    part-send-genmsi-start
+    part-send-genmsi-end
+    send-genmsi-requires
     same-length
     returns-2
-    sub-send-generated-2
-    part-send-generated-start-2
-    part-send-generated-end-2
-    send-generated-requires-2
+    sub-send-genmsi-2
+    part-send-genmsi-start-2
+    part-send-genmsi-end-2
+    send-genmsi-requires-2
     same-length-2
     returns-3)

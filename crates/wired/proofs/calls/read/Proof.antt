@@ -1,7 +1,7 @@
 -- `wired::calls::read` meets its contract: nothing is to be sent after it. Assumes nothing.
 use mathlib.Core.Path.{sym, ap, _∙_}
 use Rattle.wired_state.specs.Wires.{wiredOf}
-use Rattle.wired_rules_laws.proofs.ConfigEffects.{config-low}
+use Rattle.wired_rules_laws.proofs.DomaincfgEffects.{domaincfg-low}
 use Rattle.wired_rules_laws.proofs.WiredEffects.{steady-domainIn}
 use Rattle.wired.specs.Controller.{Out}
 use Rattle.wired.proofs.CallLaws.{words-steady, words-quiet, read-silent}
@@ -15,7 +15,7 @@ read-requires c κs =
     let l = start .args .w .now in
     let steady = words-steady l (start .pre .0) (start .pre .2) in (
       start .pre .0,
-      config-low (steady-domainIn (wiredOf l) steady (start .args .child)),
+      domaincfg-low (steady-domainIn (wiredOf l) steady (start .args .child)),
       start .pre .1,
     )
 

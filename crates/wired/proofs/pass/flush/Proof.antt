@@ -4,8 +4,8 @@ use mathlib.Core.Bool.{true, false}
 use mathlib.Core.List.{_++_}
 use lib.ListN.{take, drop}
 use Rattle.wired_state.specs.Wires.{wiredOf}
-use Rattle.wired_state.proofs.WiresLaws.{root-part, root-long, child-long, put-root, put-long, both-put}
-use Rattle.wired_state.proofs.WiresLaws.{second-part}
+use Rattle.wired_state.proofs.WiresLaws.{machine-part, machine-long, child-long, put-machine, put-long}
+use Rattle.wired_state.proofs.WiresLaws.{both-put, second-part}
 use Rattle.wired.proofs.ControllerLaws.{answers-of, answered-first, answered-second}
 use borrow.Author.Needs.{needs}
 use Rattle.wired.proofs.pass.flush.Statement.{statement}
@@ -36,9 +36,9 @@ returns c =
     let start = at-send .before .before .before .before .before in
     let l = start .args .w .now in
     let long = start .pre .0 in
-    let put = put-root l (at-send .send .last .0) long (at-send .send .kept .0 ∙ root-long l long) in
+    let put = put-machine l (at-send .send .last .0) long (at-send .send .kept .0 ∙ machine-long l long) in
     let answers = answered-first (wiredOf l) _ (start .args .log .now) _ _
-    (answers-of false (start .args .log .now) (root-part l long) (at-send .send .ensures))
+    (answers-of false (start .args .log .now) (machine-part l long) (at-send .send .ensures))
     (start .pre .2) (c .if1 .taken) in
     (put ∙ answers .0, answers .1, answers .2)
 
@@ -69,12 +69,12 @@ returns-2 c =
     let l = start .args .w .now in
     let long = start .pre .0 in
     let ys = at-send .send .last .0 in
-    let whole = at-send .send .kept .0 ∙ root-long l long in
+    let whole = at-send .send .kept .0 ∙ machine-long l long in
     let first = take 2 l ++ (ys ++ drop domainSize (drop 2 l)) in
     let put = both-put l ys long whole (at-second .send2 .last .0)
     (at-second .send2 .kept .0 ∙ child-long first (put-long l ys long whole)) in
     let answers = answered-second (wiredOf l) _ _ (start .args .log .now) _ _ _ _
-    (answers-of false (start .args .log .now) (root-part l long) (at-send .send .ensures))
+    (answers-of false (start .args .log .now) (machine-part l long) (at-send .send .ensures))
     (at-test .if1 .left)
     (answers-of true (at-send .send .last .1 .1 .0) (second-part l ys long whole)
     (at-second .send2 .ensures)) in

@@ -5,8 +5,8 @@ use Rattle.domain.specs.Domain.{Domain}
 use Rattle.domain_registers.specs.Read.{registerValue, claimedBy}
 use mathlib.Core.Path.{ap, ap₂, sym, _∙_}
 use Rattle.wired_state.specs.Wires.{wiredOf}
-use Rattle.wired_state.proofs.WiresLaws.{child-long, root-long, child-part, root-part, put-child, put-root}
-use Rattle.wired_state.proofs.WiresLaws.{domain-child, domain-root, with-child, with-root}
+use Rattle.wired_state.proofs.WiresLaws.{child-long, machine-long, child-part, machine-part, put-child}
+use Rattle.wired_state.proofs.WiresLaws.{put-machine, domain-child, domain-machine, with-child, with-machine}
 use borrow.Author.Needs.{needs}
 use Rattle.wired_registers.proofs.access.read.Statement.{statement}
 use Rattle.wired_registers.proofs.access.read.Tie as tie
@@ -47,7 +47,7 @@ returns c =
       at-call .read .ensures .0
           ∙ ap₂ (λ (d : Domain) (ws : List ℕ). registerValue d ws (start .args .word)) part wires,
       put
-          ∙ ap (λ (d : Domain). record { wires = wiredOf l .wires; root = wiredOf l .root; child = d })
+          ∙ ap (λ (d : Domain). record { wires = wiredOf l .wires; machine = wiredOf l .machine; child = d })
           (at-call .read .ensures .1 ∙ ap (λ (d : Domain). claimedBy d (start .args .word)) part)
           ∙ sym (with-child (wiredOf l) (start .args .child) _ (at-test .if1 .taken)),
     )
@@ -65,8 +65,12 @@ read-requires-2 : tie.Need-read-requires-2
 read-requires-2 c κs =
     let start = c .before .before .before .before .before in
     let l = start .args .w .now in
-    let same = domain-root (wiredOf l) (start .args .child) (c .before .if1 .left) in
-    (root-long l (start .pre .0), rw (root-part l (start .pre .0), ← same) (start .pre .1), start .pre .2)
+    let same = domain-machine (wiredOf l) (start .args .child) (c .before .if1 .left) in (
+      machine-long l (start .pre .0),
+      rw (machine-part l (start .pre .0), ← same)
+          (start .pre .1),
+      start .pre .2,
+    )
 
 same-length-2 : tie.Need-same-length-2
 same-length-2 c = search needs
@@ -78,15 +82,17 @@ returns-2 c =
     let start = at-test .before .before .before .before in
     let l = start .args .w .now in
     let long = start .pre .0 in
-    let part = root-part l long ∙ sym (domain-root (wiredOf l) (start .args .child) (at-test .if1 .left)) in
+    let part =
+    machine-part l long ∙ sym (domain-machine (wiredOf l) (start .args .child) (at-test .if1 .left)) in
     let wires = at-test .before .wires .ensures in
-    let put = put-root l (at-call .read2 .last .0) long (at-call .read2 .kept .0 ∙ root-long l long) in (
+    let put =
+    put-machine l (at-call .read2 .last .0) long (at-call .read2 .kept .0 ∙ machine-long l long) in (
       at-call .read2 .ensures .0
           ∙ ap₂ (λ (d : Domain) (ws : List ℕ). registerValue d ws (start .args .word)) part wires,
       put
-          ∙ ap (λ (d : Domain). record { wires = wiredOf l .wires; root = d; child = wiredOf l .child })
+          ∙ ap (λ (d : Domain). record { wires = wiredOf l .wires; machine = d; child = wiredOf l .child })
           (at-call .read2 .ensures .1 ∙ ap (λ (d : Domain). claimedBy d (start .args .word)) part)
-          ∙ sym (with-root (wiredOf l) (start .args .child) _ (at-test .if1 .left)),
+          ∙ sym (with-machine (wiredOf l) (start .args .child) _ (at-test .if1 .left)),
     )
 
 pub read-spec : {M : Type 1} → statement M

@@ -3,8 +3,8 @@ use mathlib.Core.Path.{ap, sym, _∙_}
 use Rattle.domain.specs.Domain.{Domain}
 use Rattle.domain_direct.specs.Direct.{signalOf}
 use Rattle.wired_state.specs.Wires.{wiredOf}
-use Rattle.wired_state.proofs.WiresLaws.{child-part, root-part}
-use Rattle.wired_state.proofs.WiresLaws.{domain-child, domain-root}
+use Rattle.wired_state.proofs.WiresLaws.{child-part, machine-part}
+use Rattle.wired_state.proofs.WiresLaws.{domain-child, domain-machine}
 use borrow.Author.Needs.{needs}
 use Rattle.wired_registers.proofs.access.signal.Statement.{statement}
 use Rattle.wired_registers.proofs.access.signal.Tie as tie
@@ -47,8 +47,8 @@ returns-2 c =
     let at-test = c .before .before in
     let start = at-test .before .before in
     let l = start .args .w .now in
-    let part = root-part l (start .pre .0)
-    ∙ sym (domain-root (wiredOf l) (start .args .child) (at-test .if1 .left)) in
+    let part = machine-part l (start .pre .0)
+    ∙ sym (domain-machine (wiredOf l) (start .args .child) (at-test .if1 .left)) in
     c .signal2 .ensures ∙ ap (λ (d : Domain). signalOf d (start .args .h)) part
 
 pub signal-spec : {M : Type 1} → statement M

@@ -6,8 +6,8 @@ use mathlib.Core.List.{List}
 use Rattle.domain.specs.Domain.{Domain}
 use Rattle.domain_registers.specs.Write.{registerWritten}
 use Rattle.wired_state.specs.Wires.{wiredOf, domainIn}
-use Rattle.wired_state.proofs.WiresLaws.{child-long, root-long, child-part, root-part, put-child, put-root}
-use Rattle.wired_state.proofs.WiresLaws.{domain-child, domain-root, with-child, with-root}
+use Rattle.wired_state.proofs.WiresLaws.{child-long, machine-long, child-part, machine-part, put-child}
+use Rattle.wired_state.proofs.WiresLaws.{put-machine, domain-child, domain-machine, with-child, with-machine}
 use borrow.Author.Needs.{needs}
 use Rattle.wired_registers.proofs.access.write_part.Statement.{statement}
 use Rattle.wired_registers.proofs.access.write_part.Tie as tie
@@ -45,7 +45,7 @@ returns c =
     let put = put-child l (at-call .write .last .0) long (at-call .write .kept .0 ∙ child-long l long) in
     let args = start .args in
     put
-    ∙ ap (λ (d : Domain). record { wires = wiredOf l .wires; root = wiredOf l .root; child = d })
+    ∙ ap (λ (d : Domain). record { wires = wiredOf l .wires; machine = wiredOf l .machine; child = d })
     (at-call .write .ensures
     ∙ ap₂
     (λ (d : Domain) (ws : List ℕ). registerWritten true d ws (args .word) (args .value)) part wires
@@ -66,7 +66,7 @@ part-write-end-2 c = search needs
 write-requires-2 : tie.Need-write-requires-2
 write-requires-2 c κs =
     let start = c .before .before .before .before .before in
-    (root-long (start .args .w .now) (start .pre .0), start .pre .1)
+    (machine-long (start .args .w .now) (start .pre .0), start .pre .1)
 
 same-length-2 : tie.Need-same-length-2
 same-length-2 c = search needs
@@ -78,19 +78,21 @@ returns-2 c =
     let start = at-test .before .before .before .before in
     let l = start .args .w .now in
     let long = start .pre .0 in
-    let part = root-part l long ∙ sym (domain-root (wiredOf l) (start .args .child) (at-test .if1 .left)) in
+    let part =
+    machine-part l long ∙ sym (domain-machine (wiredOf l) (start .args .child) (at-test .if1 .left)) in
     let wires = at-test .before .wires .ensures in
-    let put = put-root l (at-call .write2 .last .0) long (at-call .write2 .kept .0 ∙ root-long l long) in
+    let put =
+    put-machine l (at-call .write2 .last .0) long (at-call .write2 .kept .0 ∙ machine-long l long) in
     let args = start .args in
     put
-    ∙ ap (λ (d : Domain). record { wires = wiredOf l .wires; root = d; child = wiredOf l .child })
+    ∙ ap (λ (d : Domain). record { wires = wiredOf l .wires; machine = d; child = wiredOf l .child })
     (at-call .write2 .ensures
     ∙ ap₂
     (λ (d : Domain) (ws : List ℕ). registerWritten false d ws (args .word) (args .value)) part wires
     ∙ ap
     (λ (k : Bool). registerWritten k (domainIn (wiredOf l) (args .child)) (wiredOf l .wires)
     (args .word) (args .value)) (sym (at-test .if1 .left)))
-    ∙ sym (with-root (wiredOf l) (args .child) _ (at-test .if1 .left))
+    ∙ sym (with-machine (wiredOf l) (args .child) _ (at-test .if1 .left))
 
 pub write-part-spec : {M : Type 1} → statement M
 write-part-spec =

@@ -7,11 +7,11 @@ use Rattle.wired_rules.proofs.domains.domain_rules.Tie as tie
 gather-requires : tie.Need-gather-requires
 gather-requires c κs = search needs
 
-config-rule-requires : tie.Need-config-rule-requires
-config-rule-requires c κs = search needs
+domaincfg-rule-requires : tie.Need-domaincfg-rule-requires
+domaincfg-rule-requires c κs = search needs
 
-generated-rules-requires : tie.Need-generated-rules-requires
-generated-rules-requires c κs = search needs
+genmsi-rules-requires : tie.Need-genmsi-rules-requires
+genmsi-rules-requires c κs = search needs
 
 structure-pass-requires : tie.Need-structure-pass-requires
 structure-pass-requires c κs = search needs
@@ -22,10 +22,10 @@ bits-rules-requires c κs = search needs
 returns : tie.Need-returns
 returns c =
     let at-structures = c .before .before in
-    let at-generated = at-structures .before in
-    let at-config = at-generated .before in
-    let so = at-config .before .gather .ensures in (
-      domain-sound-read _ _ _ (at-config .config-rule .ensures) (at-generated .generated-rules .ensures)
+    let at-genmsi = at-structures .before in
+    let at-domaincfg = at-genmsi .before in
+    let so = at-domaincfg .before .gather .ensures in (
+      domain-sound-read _ _ _ (at-domaincfg .domaincfg-rule .ensures) (at-genmsi .genmsi-rules .ensures)
           (at-structures .structure-pass .ensures) (so .faults) (c .bits-rules .ensures),
       so .active,
       so .delegated,
@@ -36,8 +36,8 @@ domain-rules-spec =
     tie.close
     (tie.spec
     gather-requires
-    config-rule-requires
-    generated-rules-requires
+    domaincfg-rule-requires
+    genmsi-rules-requires
     structure-pass-requires
     bits-rules-requires
     returns)

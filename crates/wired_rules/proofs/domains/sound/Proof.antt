@@ -10,7 +10,7 @@ use Rattle.words.proofs.SetsLaws.{member-word}
 use Rattle.words_masks.specs.Masks.{gathered}
 use Rattle.domain.specs.Domain.{Domain}
 use Rattle.wired_state.specs.Wires.{wiredOf}
-use Rattle.wired_state.proofs.WiresLaws.{root-part, child-part}
+use Rattle.wired_state.proofs.WiresLaws.{machine-part, child-part}
 use Rattle.wired_rules.specs.Rules.{domainSound}
 use Rattle.source_rules.specs.SourceParts.{heldBack, occupied}
 use Rattle.domain_slots.specs.Slots.{has}
@@ -59,23 +59,24 @@ returns : tie.Need-returns
 returns c =
     let at-bit = c .before .before .before in
     let at-child = at-bit .before in
-    let at-root = at-child .before .before in
-    let at-wires = at-root .before .before in
+    let at-machine = at-child .before .before in
+    let at-wires = at-machine .before .before in
     let start = at-wires .before .before in
     let l = start .args .w .now in
     let wires = at-wires .wires .ensures in
-    let root = root-part l (start .pre) in
+    let machine = machine-part l (start .pre) in
     let child = child-part l (start .pre) in
     wired-sound-read (wiredOf l)
     (at-bit .has-bit .ensures ∙ member-word _ 0 ∙ ap (λ (ws : List ℕ). member ws 0) wires)
-    (at-root .domain-rules .ensures .0
-    ∙ ap₂ (λ (ws : List ℕ) (d : Domain). domainSound false ws d) wires root)
+    (at-machine .domain-rules .ensures .0
+    ∙ ap₂ (λ (ws : List ℕ) (d : Domain). domainSound false ws d) wires machine)
     (at-child .domain-rules2 .ensures .0
     ∙ ap₂ (λ (ws : List ℕ) (d : Domain). domainSound true ws d) wires child)
     (c .without64 .ensures
     ∙ ap₂ without
     (at-child .domain-rules2 .ensures .1 ∙ ap (λ (d : Domain). gathered (has (occupied true) d) 64) child)
-    (at-root .domain-rules .ensures .2 ∙ ap (λ (d : Domain). gathered (has (heldBack false) d) 64) root))
+    (at-machine .domain-rules .ensures .2
+    ∙ ap (λ (d : Domain). gathered (has (heldBack false) d) 64) machine))
 
 pub sound-spec : {M : Type 1} → statement M
 sound-spec =

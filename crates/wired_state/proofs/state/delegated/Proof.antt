@@ -5,7 +5,7 @@ use Rattle.source.specs.declared.Source.{Source}
 use Rattle.domain.specs.Domain.{Domain}
 use Rattle.domain.specs.Slot.{sourceAt}
 use Rattle.wired_state.specs.Wires.{isDelegated}
-use Rattle.wired_state.proofs.WiresLaws.{root-part}
+use Rattle.wired_state.proofs.WiresLaws.{machine-part}
 use borrow.Author.Needs.{needs}
 use Rattle.wired_state.proofs.state.delegated.Statement.{statement}
 use Rattle.wired_state.proofs.state.delegated.Tie as tie
@@ -28,7 +28,7 @@ returns c =
     let start = c .before .before .before .before in
     ap (λ (s : Source). leb 1024 (s .mode)) (c .before .load .ensures)
     ∙ ap (λ (d : Domain). leb 1024 (sourceAt d (start .args .i) .mode))
-    (root-part (start .args .w .now) (start .pre .0))
+    (machine-part (start .args .w .now) (start .pre .0))
 
 pub delegated-spec : {M : Type 1} → statement M
 delegated-spec = tie.close (tie.spec sub-load part-load-start part-load-end load-requires returns)

@@ -7,9 +7,9 @@ use lib.ListN.{take, drop}
 use Rattle.words.specs.Sets.{member}
 use Rattle.domain.specs.Domain.{Domain}
 use Rattle.wired_state.specs.Wires.{Wired, wiredOf, sourceWired, wireSet}
-use Rattle.wired_state.proofs.WiresLaws.{wired-path, both-put, put-long, second-part, root-long}
+use Rattle.wired_state.proofs.WiresLaws.{wired-path, both-put, put-long, second-part, machine-long}
 use Rattle.wired_state.proofs.WiresLaws.{child-long}
-use Rattle.wired_state.proofs.WiresLaws.{root-part}
+use Rattle.wired_state.proofs.WiresLaws.{machine-part}
 use borrow.Author.Needs.{needs}
 use Rattle.wired_state.proofs.wire.set_wire.Statement.{statement}
 use Rattle.wired_state.proofs.wire.set_wire.Tie as tie
@@ -67,17 +67,17 @@ returns c =
     let was = at-was .wire-at .ensures ∙ ap (λ (ws : List ℕ). member ws i) (at-was .before .wires .ensures) in
     let put = at-put .put-wire .ensures in
     let ys = at-first .wire-source .last .0 in
-    let kept = at-first .wire-source .kept .0 ∙ root-long l long in
+    let kept = at-first .wire-source .kept .0 ∙ machine-long l long in
     let rest = at-second .wire-source2 .kept .0
     ∙ child-long (take 2 l ++ (ys ++ drop domainSize (drop 2 l))) (put-long l ys long kept) in
-    let root = at-first .wire-source .ensures
-    ∙ ap₂ (λ (d : Domain) (b : Bool). sourceWired d i b level) (root-part l long
-    ∙ ap (λ (v : Wired). v .root) put) was in
+    let machine = at-first .wire-source .ensures
+    ∙ ap₂ (λ (d : Domain) (b : Bool). sourceWired d i b level) (machine-part l long
+    ∙ ap (λ (v : Wired). v .machine) put) was in
     let child = at-second .wire-source2 .ensures
     ∙ ap₂ (λ (d : Domain) (b : Bool). sourceWired d i b level) (second-part l ys long kept
     ∙ ap (λ (v : Wired). v .child) put) was in
     both-put l ys long kept (at-second .wire-source2 .last .0) rest
-    ∙ wired-path (ap (λ (v : Wired). v .wires) put) root child
+    ∙ wired-path (ap (λ (v : Wired). v .wires) put) machine child
 
 pub set-wire-spec : {M : Type 1} → statement M
 set-wire-spec =

@@ -1,2 +1,0 @@
--- The laws of writes to domaincfg and genmsi. Assumes nothing.
-pub mod ConfigLaws

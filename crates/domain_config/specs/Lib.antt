@@ -1,2 +1,0 @@
--- Writes to domaincfg and genmsi. Assumes nothing.
-pub mod Config

@@ -1,0 +1,2 @@
+-- Writes to domaincfg and genmsi. Assumes nothing.
+pub mod Domaincfg
