@@ -14,11 +14,8 @@ use sizes::FILE_COUNT;
 use sizes::FILE_SIZE;
 use sizes::FILES_SIZE;
 use sizes::HART_FILES;
+use sizes::WIRED_END;
 use sizes::WIRED_PLACE;
-use sizes::WIRED_SIZE;
-
-// Where the words of the wired controller end.
-pub const WIRED_END: usize = WIRED_PLACE + WIRED_SIZE;
 
 pub fn sound(state: &[u32]) -> bool
     requires { ⌜ length (now state) ≡ blockSize ⌝ }

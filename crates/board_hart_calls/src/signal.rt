@@ -5,11 +5,11 @@ ghost use lib.ListN.{length};
 ghost use Rattle.sizes.specs.Sizes.{hartCount, hartFiles, blockSize};
 ghost use Rattle.board_block.specs.Block.{boardOf};
 ghost use Rattle.board_call.specs.Change.{signalAt, signalsTo};
-use board_block::WIRED_END;
 use file_select::FROM_WIRED;
 use sizes::FILES_SIZE;
 use sizes::FIRST_GUEST;
 use sizes::HART_FILES;
+use sizes::WIRED_END;
 use sizes::WIRED_PLACE;
 
 // A file with delivery 1 signals by itself; file 0 or 1 may take its domain's signal.

@@ -10,11 +10,11 @@ ghost use Rattle.wired_state.specs.Wires.{wiredOf, domainIn};
 ghost use Rattle.board_block.specs.Block.{withWired, boardOf, boardSound};
 ghost use Rattle.board_call.specs.Numbers.{isGuestFile};
 ghost use Rattle.board_call.specs.Move.{retargetedIn};
-use board_block::WIRED_END;
 use board_move_steps::names_file;
 use board_move_steps::renamed;
 use domain_region::Word;
 use sizes::CHILD_PLACE;
+use sizes::WIRED_END;
 use sizes::WIRED_PLACE;
 use sizes::WIRED_SIZE;
 

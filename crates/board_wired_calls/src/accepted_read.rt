@@ -7,8 +7,8 @@ ghost use Rattle.domain_region.specs.Region.{Within};
 ghost use Rattle.wired_registers.specs.Wired.{readIn};
 ghost use Rattle.wired.specs.Controller.{readCall};
 ghost use Rattle.board_block.specs.Block.{withWired, boardOf, boardSound};
-use board_block::WIRED_END;
 use domain_region::Word;
+use sizes::WIRED_END;
 use sizes::WIRED_PLACE;
 
 pub fn read_done(state: &mut [u32], child: bool, word: Word) -> u32

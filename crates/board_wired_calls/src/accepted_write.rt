@@ -9,8 +9,8 @@ ghost use Rattle.wired.specs.Controller.{writeCall};
 ghost use Rattle.board_block.specs.Block.{boardOf, boardSound};
 ghost use Rattle.board_call_laws.specs.Left.{Left};
 use super::delivery::delivered;
-use board_block::WIRED_END;
 use domain_region::Word;
+use sizes::WIRED_END;
 use sizes::WIRED_PLACE;
 
 // Answers the number of messages.

@@ -1,12 +1,11 @@
 -- Laws of specs/Slot.antt: what the code reads is the source, what it stores is the domain with the source
 -- replaced; a source stored is read again, and the others stay. No contract cites this file. Assumes nothing.
 use Prim.Native.Nat.{ℕ, _+_, _/_, _%_, _^_, _<_}
-use mathlib.Core.Path.{_≡_, ap, ap₂, _∙_}
+use mathlib.Core.Path.{_≡_, refl, ap, ap₂, _∙_}
 use mathlib.Core.Bool.{Bool, _&&_}
 use mathlib.Core.List.{List}
-use native.Mathlib.Nat.{lt-of-le-of-lt}
 use native.Mathlib.Omega.{arith}
-use lib.Bits.{bitAnd, and-le-l}
+use lib.Bits.{bitAnd}
 use lib.ListN.{getD, set}
 use Rattle.words.specs.Bits.{hasBit, putBit}
 use Rattle.words.specs.Parts.{joined}
@@ -17,7 +16,7 @@ use Rattle.words.proofs.SetsLaws.{member-word, put-word}
 use Rattle.source.specs.declared.Source.{Source}
 use Rattle.domain.specs.Domain.{Domain, domainOf, withTargets, withPendings, withEnables}
 use Rattle.domain.specs.Slot.{sourceAt, withSource, standing}
-use Rattle.domain.proofs.DomainLaws.{store-source, store-pending}
+use Rattle.domain.proofs.DomainLaws.{domain-path, store-source, store-target, store-pending}
 use Rattle.domain.proofs.DomainLaws.{store-enable}
 use Rattle.domain.proofs.DomainLaws.{read-source, read-target, read-pending, read-enable}
 
@@ -76,28 +75,55 @@ module _ (l : List ℕ) (i : ℕ) (h : i < 64) where
       store-enable l (i / 32) w (omega arith)
       ∙ ap (withEnables d) (ap (set (d .enable) (i / 32)) word ∙ put-word (d .enable) i b)
 
-  -- a, b and e are the domain after its target, its pending bit and its enable bit
-  pub slot-stored : (s : Source) (a b e : Domain)
-      → let d = domainOf (set l i (s .mode)) in a ≡ withTargets d (set (d .target) i (s .target))
-      → b ≡ withPendings a (put (a .pending) i (s .pending))
-      → e ≡ withEnables b (put (b .enable) i (s .enabled)) → e ≡ withSource (domainOf l) i s
-  unfolding withSource
-  slot-stored s a b e ha hb he = rw (he, hb, ha, store-source l i (s .mode) h)
+  module _ (s : Source) (p e : ℕ) where
+    abbrev stored : List ℕ
+    stored = set (set (set (set l i (s .mode)) (64 + i) (s .target)) (128 + i / 32) p) (130 + i / 32) e
+
+    four-stores : domainOf stored
+        ≡ record {
+          source = set (domainOf l .source) i (s .mode);
+          target = set (domainOf l .target) i (s .target);
+          pending = set (domainOf l .pending) (i / 32) p;
+          enable = set (domainOf l .enable) (i / 32) e;
+          delivery = domainOf l .delivery;
+        }
+    four-stores =
+        let first = set l i (s .mode) in
+        let second = set first (64 + i) (s .target) in
+        let third = set second (128 + i / 32) p in
+        store-enable third (i / 32) e (omega arith)
+        ∙ ap (λ (d : Domain). withEnables d (set (d .enable) (i / 32) e))
+        (store-pending second (i / 32) p (omega arith)
+        ∙ ap (λ (d : Domain). withPendings d (set (d .pending) (i / 32) p))
+        (store-target first i (s .target) h
+        ∙ ap (λ (d : Domain). withTargets d (set (d .target) i (s .target)))
+        (store-source l i (s .mode) h)))
+
+    pub slot-stored : p ≡ putBit (getD l (128 + i / 32) 0) (i % 32) (s .pending)
+        → e ≡ putBit (getD l (130 + i / 32) 0) (i % 32) (s .enabled)
+        → domainOf stored ≡ withSource (domainOf l) i s
+    unfolding withSource
+    slot-stored hp he =
+        let d = domainOf l in
+        let pending = hp
+        ∙ ap (λ (w : ℕ). putBit w (i % 32) (s .pending)) (read-pending l (i / 32) (omega arith)) in
+        let enable = he
+        ∙ ap (λ (w : ℕ). putBit w (i % 32) (s .enabled)) (read-enable l (i / 32) (omega arith)) in
+        four-stores
+        ∙ domain-path refl refl (ap (set (d .pending) (i / 32)) pending
+        ∙ put-word (d .pending) i (s .pending))
+        (ap (set (d .enable) (i / 32)) enable ∙ put-word (d .enable) i (s .enabled)) refl
 
 -- ---- the sources that are pending and enabled
 
--- those of word k
-abbrev both : Domain → ℕ → ℕ
-both d k = bitAnd (getD (d .pending) k 0) (getD (d .enable) k 0)
-
 -- of the words as the code read them
-pub standing-bit : (d : Domain) (p₀ e₀ p₁ e₁ : ℕ) → p₀ ≡ getD (d .pending) 0 0 → e₀ ≡ getD (d .enable) 0 0
-    → p₁ ≡ getD (d .pending) 1 0 → e₁ ≡ getD (d .enable) 1 0 → p₀ < 2 ^ 32 → (i : ℕ) → i < 64
-    → hasBit (joined (bitAnd p₀ e₀) (bitAnd p₁ e₁)) i ≡ standing d i
+pub standing-bit : (d : Domain) (i : ℕ) → getD (d .pending) 0 0 < 2 ^ 32
+    → getD (d .enable) 0 0 < 2 ^ 32 → i < 64
+    → hasBit (bitAnd (joined (getD (d .pending) 0 0) (getD (d .pending) 1 0))
+    (joined (getD (d .enable) 0 0) (getD (d .enable) 1 0))) i ≡ standing d i
 unfolding standing
-standing-bit d p₀ e₀ p₁ e₁ hp₀ he₀ hp₁ he₁ low i h =
-    let small = lt-of-le-of-lt (and-le-l (getD (d .pending) 0 0) (getD (d .enable) 0 0)) (rw hp₀ at low) in
-    rw (hp₀, he₀, hp₁, he₁)
-    (hasBit-joined (both d) small i h
-    ∙ hasBit-and (getD (d .pending) (i / 32) 0) (getD (d .enable) (i / 32) 0) (i % 32)
-    ∙ ap₂ _&&_ (pending-word d i) (enable-word d i))
+standing-bit d i p e h =
+    hasBit-and (joined (getD (d .pending) 0 0) (getD (d .pending) 1 0))
+    (joined (getD (d .enable) 0 0) (getD (d .enable) 1 0)) i
+    ∙ ap₂ _&&_ (hasBit-joined (λ (k : ℕ). getD (d .pending) k 0) p i h ∙ pending-word d i)
+    (hasBit-joined (λ (k : ℕ). getD (d .enable) k 0) e i h ∙ enable-word d i)

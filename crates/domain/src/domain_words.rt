@@ -77,7 +77,7 @@ pub fn standing(part: &[u32]) -> u64
     requires { ⌜ length (now part) ≡ domainSize ⌝ }
     ensures { λ r. ⌜ ((i : ℕ) → i < slotCount → hasBit r i ≡ standing (domainOf (now (part .entry))) i) ⌝ }
 {
-    let low = pending_word(part, 0) & enable_word(part, 0);
-    let high = pending_word(part, 1) & enable_word(part, 1);
-    joined64(low, high)
+    let pending = joined64(pending_word(part, 0), pending_word(part, 1));
+    let enable = joined64(enable_word(part, 0), enable_word(part, 1));
+    pending & enable
 }

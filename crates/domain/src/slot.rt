@@ -55,12 +55,16 @@ pub fn put_enabled(part: &mut [u32], i: usize, enabled: bool)
     part[ENABLES_PLACE + i / 32] = word;
 }
 
+// Both words are read before the first is stored: part by part is seven instructions dearer.
 pub fn store(part: &mut [u32], i: usize, s: Source)
     requires { ⌜ (length (now part) ≡ domainSize) × (i < slotCount) ⌝ }
     ensures { λ r. ⌜ domainOf (now (part .exit)) ≡ withSource (domainOf (now (part .entry))) i s ⌝ }
 {
+    let k = (i % 32) as u32;
+    let pending = words::put_bit(part[PENDINGS_PLACE + i / 32], k, s.pending);
+    let enabled = words::put_bit(part[ENABLES_PLACE + i / 32], k, s.enabled);
     part[i] = s.mode;
-    put_target(part, i, s.target);
-    put_pending(part, i, s.pending);
-    put_enabled(part, i, s.enabled);
+    part[TARGETS_PLACE + i] = s.target;
+    part[PENDINGS_PLACE + i / 32] = pending;
+    part[ENABLES_PLACE + i / 32] = enabled;
 }

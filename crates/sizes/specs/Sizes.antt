@@ -12,7 +12,7 @@
 --   fieldsSize                          the words of a file's four fields, which stand first among its words
 --   slotCount                           a domain has a word at each number 0 to 63, twice: number 0 is the
 --                                       domain's own, the others are the sources'
---   ..Place                             the first word of a part in what holds it
+--   ..Place, wiredEnd                   the first word of a part in what holds it; where that part ends
 use Prim.Native.Nat.{ℕ, _+_, _*_}
 
 -- ---- counts
@@ -112,9 +112,12 @@ wiredSize = childPlace + domainSize
 abbrev pub wiredPlace : ℕ
 wiredPlace = filesSize
 
+abbrev pub wiredEnd : ℕ
+wiredEnd = wiredPlace + wiredSize
+
 -- [01 B7]
 abbrev pub blockSize : ℕ
-blockSize = wiredPlace + wiredSize
+blockSize = wiredEnd
 
 -- [01 B10]
 abbrev pub logSize : ℕ

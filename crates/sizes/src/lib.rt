@@ -54,7 +54,9 @@ pub const WIRED_SIZE: usize = CHILD_PLACE + DOMAIN_SIZE;
 // the board, and what is lent beside it
 pub const WIRED_PLACE: usize = FILES_SIZE;
 
-pub const BLOCK_SIZE: usize = WIRED_PLACE + WIRED_SIZE;
+pub const WIRED_END: usize = WIRED_PLACE + WIRED_SIZE;
+
+pub const BLOCK_SIZE: usize = WIRED_END;
 
 pub const LOG_SIZE: usize = 63;
 
