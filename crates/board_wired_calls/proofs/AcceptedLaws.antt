@@ -75,14 +75,14 @@ left-named o w g g′ n (a, b, k) exist =
     (named-of (logged g (o .messages)) n
     (λ j h. logged-every Exists (o .messages) g exist j (omega arith)))
 
--- the wired part zs came back, and then the messages were delivered
+-- the wired part zs came back, and then the messages were delivered, which left the log
 module _ (l zs g g′ : List ℕ) (n : ℕ) (long : length l ≡ blockSize) (part : length zs ≡ wiredSize) where
-  pub done-left : (o : Out) → Leaves o (wiredOf zs) g g′ n → (l′ : List ℕ)
-      → boardOf l′ ≡ delivered (boardOf (wiredPut l zs)) (take n g′) → Left o l l′ g g′ n
-  done-left o (a, b, k) l′ e =
+  pub done-left : (o : Out) → Leaves o (wiredOf zs) g g′ n → (l′ g″ : List ℕ)
+      → boardOf l′ ≡ delivered (boardOf (wiredPut l zs)) (take n g′) → g″ ≡ g′ → Left o l l′ g g″ n
+  done-left o (a, b, k) l′ g″ e same =
       let put = put-wired l zs long part ∙ ap (withWired (boardOf l)) a in
       let sent : take n g′ ≡ o .messages = ap (take n) b ∙ logged-back (o .messages) g n k in
-      (e ∙ (λ j. delivered (put j) (sent j)), b, k)
+      (e ∙ (λ j. delivered (put j) (sent j)), same ∙ b, k)
 
 pub left-of : {o p : Out} → o ≡ p → (l l′ g g′ : List ℕ) (n : ℕ) → Left o l l′ g g′ n
     → Left p l l′ g g′ n

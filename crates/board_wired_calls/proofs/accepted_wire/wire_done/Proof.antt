@@ -57,7 +57,7 @@ same-length-2 c = search needs
 
 returns : tie.Need-returns
 returns c =
-    let at-delivered = c .before .before in
+    let at-delivered = c .before .before .before .before in
     let at-call = at-delivered .before .before .before .before .before .before .before in
     let start = at-call .before .before .before .before .before in
     let args = start .args in
@@ -69,7 +69,8 @@ returns c =
       wire-within l long (start .pre .4) _ (args .i) (start .pre .2) (start .pre .3) (args .level) (left .2),
       left-of (ap (λ (w : Wired). wireCall w (args .i) (args .level)) (wired-part l long)) l _
           (args .log .now) _ _
-          (done-left l zs (args .log .now) _ _ long whole _ left _ (at-delivered .delivered .ensures)),
+          (done-left l zs (args .log .now) _ _ long whole _ left _ _ (at-delivered .delivered .ensures .0)
+          (at-delivered .delivered .ensures .1)),
     )
 
 pub wire-done-spec : {M : Type 1} → statement M
