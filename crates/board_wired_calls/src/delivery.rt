@@ -8,8 +8,8 @@ ghost use Rattle.board_block.specs.Block.{boardOf};
 ghost use Rattle.board_call.specs.Outcome.{delivered};
 use sizes::FILES_SIZE;
 
-// The first `count` words of `log`, in order. The log is lent to be changed, though it is not: lent to be read
-// alone, its address would be loaded byte by byte on RISC-V.
+// The first `count` words of `log`, in order. The log stays as it is, and is lent to be changed all the same:
+// lent to be read alone, its address would be loaded byte by byte on RISC-V.
 pub fn delivered(state: &mut [u32], log: &mut [u32], count: usize)
     requires { ⌜ (length (now state) ≡ blockSize) × (length (now log) ≡ logSize) × (count ≤ logSize)
         × Named (now log) count ⌝ }

@@ -43,4 +43,11 @@ returns c =
 pub delivered-spec : {M : Type 1} → statement M
 delivered-spec =
     tie.close
-    (tie.spec sub-deliver part-deliver-start part-deliver-end deliver-requires same-length same-length-2 returns)
+    (tie.spec
+    sub-deliver
+    part-deliver-start
+    part-deliver-end
+    deliver-requires
+    same-length
+    same-length-2
+    returns)
