@@ -8,6 +8,7 @@ use mathlib.Core.Logic.{_≢_}
 use native.Mathlib.Omega.{arith}
 use lib.Dec.{eqb}
 use lib.ListN.{length, replicate}
+use Rattle.sizes.specs.Sizes.{blockSize}
 use Rattle.words.specs.Sets.{member}
 use Rattle.file.specs.declared.File.{File}
 use Rattle.board_block.specs.Block.{Board}
@@ -224,7 +225,8 @@ needs-guest-new =
 -- ---- every call is refused
 
 -- a log of another length than 63
-refused-ran : (cs : List Call) (x : Lent) → length (x .block) ≡ 650 → length (x .log) ≢ 63 → ran cs x ≡ x
+refused-ran : (cs : List Call) (x : Lent) → length (x .block) ≡ blockSize → length (x .log) ≢ 63
+    → ran cs x ≡ x
 unfolding ran
 refused-ran [] x long short = refl
 refused-ran (c ∷ cs) x long short =

@@ -42,7 +42,7 @@ use Rattle.wired_rules.specs.Rules.{domaincfgRange, genmsiRange, structureRange
 use Rattle.wired_rules.specs.Rules.{genmsiRule}
 use Rattle.wired_rules.specs.Rules.{sourceRule, domainSound, delegatedRule, wiredSound}
 use Rattle.board_move_steps.specs.Names.{namesFile, renamed}
-use Rattle.sizes.specs.Sizes.{savedSize}
+use Rattle.sizes.specs.Sizes.{blockSize, savedSize}
 use Rattle.board_block.specs.Block.{Board, boardOf, domainWords, wiredWords, blockOf, boardSound}
 use Rattle.board_block.specs.Start.{startFile, startFilesFrom, startDomain, startBoard}
 use Rattle.board_call.specs.declared.Call.{Call}
@@ -78,7 +78,7 @@ unfolding allBelow every wordsOf fileWords domainWords wiredWords blockOf file.f
     hartOf guestOf numberOf receiverOf keptTarget isActive isLevel isRectified isGuest theFile deliveryLegal
     fieldOf packed member bitOf hasBit startFile startFilesFrom startDomain startBoard renamed fileNumber
     withFile station machineDomain childTo wiredTo boardWith boardOf filesOf filesFrom fileAt wiredOf domainOf
-blockTests b = eqb (length (blockOf b)) 650 && allBelow (2 ^ 32) (blockOf b) && boardSound b
+blockTests b = eqb (length (blockOf b)) blockSize && allBelow (2 ^ 32) (blockOf b) && boardSound b
 
 unfoldable pub freshTest : Stations → Board → ℕ → Bool
 freshTest m b i =
@@ -125,11 +125,11 @@ module _ (b : Board) (good : Good b) (n : ℕ) where
   pub lent-any : StartedNoLog (lent b n)
   unfolding lent blockTests WordsFit
   lent-any =
-      let long : Bool = eqb (length (blockOf b)) 650 in
+      let long : Bool = eqb (length (blockOf b)) blockSize in
       let fit : Bool = allBelow (2 ^ 32) (blockOf b) in
       let both = and-first (long && fit) (boardSound b) (good .tests) in
       record {
-        block = eqb-true (length (blockOf b)) 650 (and-first long fit both);
+        block = eqb-true (length (blockOf b)) blockSize (and-first long fit both);
         words = below-each (2 ^ 32) (blockOf b) (omega arith) (and-second long fit both);
         rules = ap boardSound (good .back) ∙ and-second (long && fit) (boardSound b) (good .tests);
         saved-long = refl;

@@ -15,7 +15,7 @@ use mathlib.Core.Bool.{true, false}
 use mathlib.Core.List.{List, [], _∷_}
 use lib.ListN.{length}
 use Rattle.words.specs.Sets.{WordsFit}
-use Rattle.sizes.specs.Sizes.{savedSize}
+use Rattle.sizes.specs.Sizes.{blockSize, savedSize}
 use Rattle.board_block.specs.Block.{boardSound}
 use Rattle.board_call.specs.Numbers.{isFile, isGuestFile}
 use Rattle.board_call_laws.specs.Fit.{SavedFit}
@@ -41,7 +41,7 @@ PagesAre =
     → (PagesKept m n es → PagesWithin 8 72 m n es) × (PagesWithin 8 72 m n es → PagesKept m n es)
 
 pub record StartedNoLog (x : Lent) : Type 0 where
-  pub block : length (x .block) ≡ 650
+  pub block : length (x .block) ≡ blockSize
   pub words : WordsFit (x .block)
   pub rules : boardSound (boardIn x) ≡ true
   pub saved-long : length (x .saved) ≡ savedSize
