@@ -18,7 +18,6 @@ use Rattle.board_call.specs.declared.Answer.the-variants.{Done, NoSuch, BadAddr
 use Rattle.board_call.specs.declared.Call.{Call}
 use Rattle.board_call.specs.Answer.{Refuses}
 use Rattle.board_call.specs.Calls.{Tests, testsRules, present, addressed, selected, rowOf}
-use Rattle.board_call.specs.Calls.{rowOf}
 use Rattle.board_call.specs.Refusal.{blockRefusal, nameRefusal}
 use Rattle.board_call.specs.Outcome.{Stepped, step, outcome, Gives, Does}
 use Rattle.board_call.proofs.AnswerLaws.{NotDone}

@@ -28,7 +28,6 @@ use Rattle.board_call.specs.declared.Call.the-variants.{PageRead, PageWrite, Re
 use Rattle.board_call.specs.Change.{kindOf, change}
 use Rattle.board_call.specs.Numbers.{isFile, isPageAddress}
 use Rattle.board_call.specs.Calls.{rowOf}
-use Rattle.board_call.specs.Calls.{rowOf}
 use Rattle.board_call.specs.Refusal.{blockRefusal}
 use Rattle.board_call.specs.Outcome.{step, Does}
 use Rattle.board_call_laws.proofs.StepEffects.{step-onFile, step-answering}

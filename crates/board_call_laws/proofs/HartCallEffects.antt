@@ -30,7 +30,6 @@ use Rattle.board_call.specs.declared.Call.the-variants.{Reset, Signals}
 use Rattle.board_call.specs.Answer.{Refuses}
 use Rattle.board_call.specs.Change.{signalAt, signalsTo, change}
 use Rattle.board_call.specs.Calls.{rowOf}
-use Rattle.board_call.specs.Calls.{rowOf}
 use Rattle.board_call.specs.Refusal.{blockRefusal, nameRefusal}
 use Rattle.board_call.specs.Outcome.{step, Does}
 use Rattle.board_call.proofs.AnswerLaws.{NotDone}

@@ -19,7 +19,6 @@ use Rattle.board_call.specs.declared.Answer.the-variants.{Done}
 use Rattle.board_call.specs.declared.Call.the-variants.{Wire, DomainRead, DomainWrite}
 use Rattle.board_call.specs.Numbers.{isWire}
 use Rattle.board_call.specs.Calls.{rowOf}
-use Rattle.board_call.specs.Calls.{rowOf}
 use Rattle.board_call.specs.Refusal.{blockRefusal}
 use Rattle.board_call.specs.Outcome.{Stepped, Does}
 use Rattle.board_call_laws.specs.Left.{Left}

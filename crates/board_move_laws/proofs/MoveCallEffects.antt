@@ -37,7 +37,6 @@ use Rattle.board_call.specs.declared.Answer.the-variants.{Done, NoSuch}
 use Rattle.board_call.specs.declared.Call.the-variants.{Move}
 use Rattle.board_call.specs.Numbers.{isFile, isGuestFile, isMove}
 use Rattle.board_call.specs.Calls.{rowOf}
-use Rattle.board_call.specs.Calls.{rowOf}
 use Rattle.board_call.specs.Refusal.{blockRefusal}
 use Rattle.board_call.specs.Move.{registerOn, withOne, retargetedIn, acted}
 use Rattle.board_call.specs.Outcome.{outcome, Gives, Does}

@@ -23,7 +23,6 @@ use Rattle.files_laws.specs.Messages
 use Rattle.files_laws.specs.Messages.{brings, anyOf, PendingOnly}
 use Rattle.files_laws.proofs.ReachedEffects.{pending-allReached, pending-allReached-zero, rest-allReached}
 use Rattle.files_laws.proofs.ReachedEffects.{withFile-theFile}
-use Rattle.files_laws.proofs.AnyLaws.{or-first}
 use Rattle.domain_region.specs.Region.{wordAt}
 use Rattle.domain.specs.Domain.{byMessages}
 use Rattle.domain_sending_laws.proofs.MessageEffects.{Every, every-none}
@@ -43,7 +42,6 @@ use Rattle.board_call.specs.Move.{acted}
 use Rattle.board_call.specs.Outcome.{thenSent, step}
 use Rattle.board_call_laws.specs.Fit.{Fit}
 use Rattle.board_move_laws.proofs.MoveEffects.{move-low, move-high}
-use Rattle.board_call_laws.proofs.FileCallEffects.{number-read}
 use Rattle.claims_board.specs.Closure.{partFile, touchesFile, Claim-152, Claim-153}
 use Rattle.claims_board.proofs.ClosureSent.{Addressed, silent-step, Silent}
 use Rattle.claims_board.proofs.ClosureSent.{step-addressed, genmsiBy-addressed}

@@ -21,7 +21,6 @@ use Rattle.board_call.specs.declared.Call.the-variants.{Reset, Wire, DomainRead
 use Rattle.board_call.specs.declared.Call.the-variants.{PageWrite, Register, Top, Claim, Signals, Move}
 use Rattle.board_call.specs.Numbers.{isWire, isFile, isPageAddress}
 use Rattle.board_call.specs.Calls.{testsRules, rowOf}
-use Rattle.board_call.specs.Calls.{rowOf}
 use Rattle.board_call.specs.Refusal.{nameRefusal, nameTests, firstFailed, refusalOf, nameRefusalBy}
 use Rattle.board_call.proofs.RefusalLaws.{blocks-sound, refused-numbers}
 use Rattle.board_call.specs.Outcome.{outcome}

@@ -29,7 +29,6 @@ use Rattle.board_block_laws.proofs.StartEffects.{start-sound, start-shaped}
 use Rattle.board_call.specs.declared.Call.{Call}
 use Rattle.board_call.specs.declared.Call.the-variants.{Reset, DomainRead}
 use Rattle.board_call.specs.Calls.{testsRules, rowOf}
-use Rattle.board_call.specs.Calls.{rowOf}
 use Rattle.board_call.specs.Refusal.{nameRefusal, refusalOf}
 use Rattle.board_call.proofs.RefusalLaws.{blocks-sound, blocks-untested, refused-numbers, numbers-name}
 use Rattle.board_call.specs.Outcome.{Outcome, outcome}

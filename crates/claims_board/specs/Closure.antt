@@ -33,7 +33,6 @@ use Rattle.board_block_laws.specs.Shape.{BoardShaped}
 use Rattle.board_call.specs.declared.Call.{Call}
 use Rattle.board_call.specs.Calls.{FilePart, NoFile, OneFile, EveryFile, WiredPart, Nothing, ByWire, ByRead}
 use Rattle.board_call.specs.Calls.{ByWrite, ByAccess, Everything, rowOf}
-use Rattle.board_call.specs.Calls.{rowOf}
 use Rattle.board_call.specs.Refusal.{nameRefusal}
 use Rattle.board_call.specs.Change.{change}
 use Rattle.board_call.specs.Outcome.{step}

@@ -27,7 +27,6 @@ use Rattle.board_call.specs.declared.Call.the-variants.{Register, Top, Claim, S
 use Rattle.board_call.specs.Change.{onFile, answering, change}
 use Rattle.board_call.specs.Numbers.{isWire, isFile, isGuestFile, isMove, isPageAddress}
 use Rattle.board_call.specs.Calls.{testsRules, present, addressed, selected, rowOf}
-use Rattle.board_call.specs.Calls.{rowOf}
 use Rattle.board_call.specs.Refusal.{refusalOf}
 use Rattle.board_call.proofs.RefusalLaws.{numbers-name}
 use Rattle.board_call.specs.Outcome.{Stepped, thenSent, step}

@@ -54,7 +54,6 @@ use Rattle.board_block_laws.proofs.StartEffects.{start-shaped}
 use Rattle.board_call.specs.Change.{kindOf, change}
 use Rattle.board_call.specs.Numbers.{isFile, isPageAddress}
 use Rattle.board_call.specs.Calls.{rowOf}
-use Rattle.board_call.specs.Calls.{rowOf}
 use Rattle.board_call.specs.Refusal.{firstFailed, nameTests, nameRefusal, nameRefusalBy}
 use Rattle.board_call.specs.Outcome.{Stepped, thenSent, step}
 use Rattle.board_call.specs.declared.Call.{Call}

@@ -28,7 +28,6 @@ use Rattle.domain_direct.specs.Direct.{standing, eligible, precedes, topFrom, t
 use Rattle.domain_registers.specs.Read.{registerValue as readOf}
 use Rattle.domain_region.specs.Region.{wordAt, wordIn, nameIn, registers, addressLegal}
 use Rattle.board_call.specs.Calls.{rowOf}
-use Rattle.board_call.specs.Calls.{rowOf}
 use Rattle.board_call.specs.Refusal.{nameTests, firstFailed, nameRefusalBy}
 use Rattle.claims_cases.specs.Table.{Claim-170, table, same, holds}
 

@@ -41,7 +41,6 @@ use Rattle.board_call.specs.Move.{retargetedIn, Acted, acted}
 use Rattle.board_call.specs.Change.{change}
 use Rattle.board_call.specs.Numbers.{isWire, isFile, isGuestFile, isMove, isPageAddress}
 use Rattle.board_call.specs.Calls.{rowOf}
-use Rattle.board_call.specs.Calls.{rowOf}
 use Rattle.board_call.specs.Refusal.{firstFailed, nameTests, nameRefusal, nameRefusalBy}
 use Rattle.board_call.specs.Outcome.{thenSent, step}
 use Rattle.board_call_laws.specs.Small.{Small}

@@ -11,7 +11,6 @@ use Rattle.board_block.specs.Block.{Board}
 use Rattle.board_call.specs.Move as call
 use Rattle.board_call.specs.Calls.{rowOf}
 use Rattle.board_call.specs.Outcome.{Stepped, step, Outcome, doneAs}
-use Rattle.board_call.specs.Calls.{rowOf}
 use Rattle.board_call.specs.Refusal.{nameRefusal}
 use Rattle.board_call_laws.proofs.OutcomeEffects.{outcome-done}
 use Rattle.board_runs.specs.Runs.{outcomeOn, after}

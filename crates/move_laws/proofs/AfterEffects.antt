@@ -25,7 +25,6 @@ use Rattle.board_call.specs.Change.{kindOf}
 use Rattle.board_call.specs.Outcome.{Stepped, step, doneAs}
 use Rattle.board_call.specs.Numbers.{isPageAddress, isGuestFile}
 use Rattle.board_call.specs.Calls.{rowOf}
-use Rattle.board_call.specs.Calls.{rowOf}
 use Rattle.board_call.specs.Refusal.{firstFailed, nameTests, nameRefusal, nameRefusalBy}
 use Rattle.board_call_laws.specs.Fit.{Fit}
 use Rattle.board_call_laws.specs.Small.{Small}

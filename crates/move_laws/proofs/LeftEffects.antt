@@ -28,7 +28,6 @@ use Rattle.board_call.specs.declared.Call.the-variants.{Wire}
 use Rattle.board_call.specs.Change.{signalsTo}
 use Rattle.board_call.specs.Numbers.{isWire}
 use Rattle.board_call.specs.Calls.{rowOf}
-use Rattle.board_call.specs.Calls.{rowOf}
 use Rattle.board_call.specs.Refusal.{nameRefusal}
 use Rattle.board_call_laws.specs.Small.{Small}
 use Rattle.board_call_laws.specs.Fit.{Fit}

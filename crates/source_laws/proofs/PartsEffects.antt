@@ -16,7 +16,7 @@ use Rattle.words.proofs.BitsLaws.{hasBit-none}
 use Rattle.words.proofs.ZerosLaws.{bitOf-high}
 use Rattle.words.proofs.TestsLaws.{tested, not-same, and-first, and-second}
 use Rattle.words_masks.proofs.MasksLaws.{or-none}
-use Rattle.source_mode.specs.Mode.{isActive, isLevel, isRectified, keptMode, sourceWord}
+use Rattle.source_mode.specs.Mode.{isActive, keptMode, sourceWord}
 use Rattle.source_mode.proofs.ModeLaws.{active-zero, active-other, level-one, level-other}
 use Rattle.source_mode.proofs.ModeLaws.{rectified-straight, rectified-inverted, kept-lt, word-child-bit}
 use Rattle.source_mode.proofs.ModeLaws.{word-delegated, word-child-has, word-machine}

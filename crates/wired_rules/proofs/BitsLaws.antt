@@ -12,7 +12,6 @@ use Rattle.words.specs.Every.{every}
 use Rattle.words.proofs.SetsLaws.{member-word}
 use Rattle.words.proofs.EveryLaws.{and-assoc, every-both, every-same, every-first}
 use Rattle.words_masks.proofs.MasksLaws.{hasBit-set}
-use Rattle.source_rules.specs.SourceRules.{levelRule}
 use Rattle.source_rules.specs.SourceParts.{occupied, straightWord, invertedWord}
 use Rattle.source_laws.proofs.PartsEffects.{level-words, bits-are}
 use Rattle.domain.specs.Domain.{Domain, isEnabled, byMessages, sends}

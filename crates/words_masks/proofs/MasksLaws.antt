@@ -1,19 +1,19 @@
 -- Laws of specs/Masks.antt: which bits a gathered word has, and a word with no bits is 0. No contract cites
 -- this file. Assumes nothing.
 use Prim.Native.Nat.{ℕ, zero, suc, _+_, _^_, _≤_, _<_}
-use mathlib.Core.Path.{_≡_, refl, sym, _∙_}
-use mathlib.Core.Bool.{Bool, true, false, not, _&&_, _||_, cond, true≢false, false≢true}
+use mathlib.Core.Path.{_≡_, sym, _∙_}
+use mathlib.Core.Bool.{Bool, false, not, _&&_, _||_, cond}
 use mathlib.Core.List.{List}
 use mathlib.Core.Logic.{_≢_}
 use native.Mathlib.Nat.{lt-of-le-of-lt, pow-suc}
 use native.Mathlib.Decide.{ℕ-discrete}
 use native.Mathlib.Omega.{arith}
-use lib.Bits.{bitAnd, bitOr, or-add-and, and-le-l, and-le-r, or-zero-l}
+use lib.Bits.{bitOr, or-add-and, and-le-l, and-le-r}
 use lib.Dec.{eqb, lit<}
 use lib.ListN.{getD}
 use lib.Pow.{pow-pos}
 use borrow.Author.Tests.{eq-eqb, eqb-true, not-true}
-use Rattle.words.specs.Bits.{hasBit, withBit, union, without}
+use Rattle.words.specs.Bits.{hasBit, withBit}
 use Rattle.words.specs.Parts.{joined}
 use Rattle.words.specs.Sets.{member}
 use Rattle.words.specs.Every.{every}

@@ -1,6 +1,6 @@
 -- `source_rules::priority_fault` meets its contract. Assumes nothing.
 use borrow.Author.Needs.{needs}
-use borrow.Author.Tests.{eq-eqb, ne-eqb}
+use borrow.Author.Tests.{ne-eqb}
 use mathlib.Core.Path.{sym, _∙_}
 use Rattle.source_rules.proofs.priority_fault.Statement.{statement}
 use Rattle.source_rules.proofs.priority_fault.Tie as tie

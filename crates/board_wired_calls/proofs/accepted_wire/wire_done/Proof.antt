@@ -5,7 +5,7 @@ use lib.ListN.{take, drop}
 use Rattle.wired_state.specs.Wires.{Wired, wiredOf}
 use Rattle.wired.specs.Controller.{wireCall}
 use Rattle.wired_laws.proofs.OutEffects.{wire-exists}
-use Rattle.board_block.proofs.BlockLaws.{wired-long, wired-part, wiredPut, put-wired-long}
+use Rattle.board_block.proofs.BlockLaws.{wired-long, wired-part, put-wired-long}
 use Rattle.board_wired_calls.proofs.AcceptedLaws.{part-sound, wire-within, left-named, done-left}
 use Rattle.board_wired_calls.proofs.AcceptedLaws.{left-of}
 use borrow.Author.Needs.{needs}
