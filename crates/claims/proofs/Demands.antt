@@ -36,6 +36,7 @@ use Rattle.claims_board.proofs.Closure.{claim-150}
 use Rattle.claims_board.proofs.ClosureSent.{claim-151, claim-154}
 use Rattle.claims_board.proofs.ClosureFiles.{claim-152, claim-153}
 use Rattle.claims_board.proofs.ClosureCall.{claim-156}
+use Rattle.claims_board.proofs.Rows.{claim-182}
 use Rattle.claims_board.proofs.Start.{claim-160}
 use Rattle.claims_board.proofs.Accepted.{claim-171, claim-172, claim-173, claim-174}
 use Rattle.claims_board.proofs.Places.{claim-176}
@@ -201,6 +202,7 @@ demand-2 = (
   claim-152,
   claim-153,
   claim-154,
+  claim-182,
   claim-91,
   claim-89,
   claim-161,

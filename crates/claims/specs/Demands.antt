@@ -36,6 +36,7 @@ use Rattle.claims_board.specs.OneSource.{Claim-96, Claim-97, Claim-98, Claim-99
 use Rattle.claims_board.specs.Numbers.{Claim-115, Claim-116, Claim-117}
 use Rattle.claims_board.specs.BoardRules.{Claim-118}
 use Rattle.claims_board.specs.Closure.{Claim-150, Claim-151, Claim-152, Claim-153, Claim-154, Claim-156}
+use Rattle.claims_board.specs.Rows.{Claim-182}
 use Rattle.claims_board.specs.Start.{Claim-160}
 use Rattle.claims_board.specs.Accepted.{Claim-171, Claim-172, Claim-173, Claim-174}
 use Rattle.claims_board.specs.Places.{Claim-176}
@@ -107,7 +108,8 @@ Demand-2 =
     -- the state rules are kept
     × Claim-74 × Claim-75 × Claim-79
     -- nothing changes but what a call names
-    × Claim-155 × Claim-150 × Claim-151 × Claim-156 × Claim-152 × Claim-153 × Claim-154 × Claim-91
+    × Claim-155 × Claim-150 × Claim-151 × Claim-156 × Claim-152 × Claim-153 × Claim-154 × Claim-182
+    × Claim-91
     -- the signals of a hart
     × Claim-89 × Claim-161
     -- the table cases, by definition and by whole calls

@@ -4,6 +4,7 @@ pub mod Accepted
 pub mod ClosureSent
 pub mod ClosureFiles
 pub mod Closure
+pub mod Rows
 pub mod ClosureCall
 pub mod Numbers
 pub mod BoardRules

@@ -3,6 +3,7 @@
 pub mod OneSource
 pub mod Accepted
 pub mod Closure
+pub mod Rows
 pub mod Numbers
 pub mod BoardRules
 pub mod Start
