@@ -2,3 +2,4 @@
 pub mod KeptEffects
 pub mod RunsEffects
 pub mod ReadingEffects
+pub mod MadeEffects

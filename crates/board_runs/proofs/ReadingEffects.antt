@@ -40,7 +40,7 @@ use Rattle.board_call_laws.proofs.OutcomeEffects.{outcome-done}
 use Rattle.board_call_laws.proofs.StepEffects.{sound-quiet, step-domainRead}
 use Rattle.board_call_laws.proofs.FileCallEffects.{step-pageRead, step-register, step-top}
 use Rattle.board_call_laws.proofs.HartCallEffects.{step-signals}
-use Rattle.board_runs.specs.Runs.{Lent, after, ran}
+use Rattle.board_runs.specs.Runs.{Made, madeOn, leftBy, Lent, after}
 use Rattle.board_runs.specs.Ready.{boardIn}
 use Rattle.board_runs.specs.Reading.{claimsBy, onlyReads, storing}
 use Rattle.board_runs.proofs.RunsEffects.{after-refused}
@@ -61,6 +61,12 @@ not-claims Plain n = refl
 pub reads-word : (d a : ℕ) → ((i : ℕ) → wordAt a ≢ Claimi i) → onlyReads (DomainRead d a) ≡ true
 unfolding onlyReads rowOf
 reads-word d a n = rw (not-claims (roleOf (wordAt a)) (λ h e. n h (claims-only (wordAt a) h e)))
+
+pub word-reads : (d a : ℕ) → onlyReads (DomainRead d a) ≡ true → (i : ℕ) → wordAt a ≢ Claimi i
+unfolding onlyReads rowOf
+word-reads d a r i e =
+    let role = roleOf (wordAt a) in
+    claims-not role (not-true (claimsBy role) (and-first (not (claimsBy role)) true r)) i (ap roleOf e)
 
 -- ---- an accepted call
 
@@ -150,10 +156,17 @@ after-read c x r = at (ℕ-discrete (refusalOf c (x .block) (x .log)) 0)
         (ap (λ (o : Outcome). o .log) done ∙ ap (logged (x .log)) (still .1) ∙ logged-none (x .log))
         (ap (λ (o : Outcome). o .saved) done ∙ still .2)
 
+-- a call that is made, with the log and the saved numbers that it brings
+made-read : (m : Made) (l : List ℕ) → onlyReads (m .call) ≡ true → madeOn m l .block ≡ l
+unfolding after
+made-read m l r =
+    let x : Lent = record { block = l; log = m .log; saved = m .saved } in
+    ap (λ (y : Lent). y .block) (after-read (m .call) x r)
+
 -- what a run leaves it leaves without its reads
-pub ran-storing : (cs : List Call) (x : Lent) → ran cs x ≡ ran (storing cs) x
-unfolding ran storing
-ran-storing [] x = refl
-ran-storing (c ∷ cs) x =
-    tested (onlyReads c) (λ t. rw t (ap (ran cs) (after-read c x t) ∙ ran-storing cs x))
-    (λ f. rw f (ran-storing cs (after c x)))
+pub left-storing : (ms : List Made) (l : List ℕ) → leftBy ms l ≡ leftBy (storing ms) l
+unfolding leftBy storing
+left-storing [] l = refl
+left-storing (m ∷ ms) l =
+    tested (onlyReads (m .call)) (λ t. rw t (ap (leftBy ms) (made-read m l t) ∙ left-storing ms l))
+    (λ f. rw f (left-storing ms (madeOn m l .block)))

@@ -11,14 +11,14 @@ use Rattle.domain_sending.specs.Sending.{logged}
 use Rattle.board_block.specs.Block.{blockOf}
 use Rattle.board_block_laws.proofs.BlockBack.{board-back, length-blockOf}
 use Rattle.board_call.specs.declared.Call.{Call}
-use Rattle.board_call.specs.Outcome.{Outcome, Stepped, step}
+use Rattle.board_call.specs.Outcome.{Stepped, step}
 use Rattle.board_call.specs.Calls.{testsRules, rowOf}
 use Rattle.board_call.specs.Refusal.{nameRefusal, refusalOf}
 use Rattle.board_call.proofs.RefusalLaws.{refused-numbers, accepted-present, blocks-sound}
 use Rattle.board_call_laws.specs.Fit.{Fit, Kept}
 use Rattle.board_call_laws.specs.Small.{Small}
 use Rattle.board_call_laws.proofs.OutcomeEffects.{outcome-refused, outcome-done}
-use Rattle.board_runs.specs.Runs.{Lent, outcomeOn, after, ran, outcomesOf}
+use Rattle.board_runs.specs.Runs.{Lent, after, ran}
 use Rattle.board_runs.specs.Ready.{boardIn, Ready, AllSmall}
 use Rattle.board_runs.proofs.KeptEffects.{kept-step}
 
@@ -28,13 +28,6 @@ pub ran-append : (cs ds : List Call) (x : Lent) → ran (cs ++ ds) x ≡ ran ds 
 unfolding ran
 ran-append [] ds x = refl
 ran-append (c ∷ cs) ds x = ran-append cs ds (after c x)
-
-pub outcomes-append : (cs ds : List Call) (x : Lent)
-    → outcomesOf (cs ++ ds) x ≡ outcomesOf cs x ++ outcomesOf ds (ran cs x)
-unfolding ran outcomesOf
-outcomes-append [] ds x = refl
-outcomes-append (c ∷ cs) ds x = ap (λ (os : List Outcome). outcomeOn c x ∷ os)
-    (outcomes-append cs ds (after c x))
 
 -- ---- one call
 

@@ -1,4 +1,5 @@
 -- Calls made one after the other. Assumes nothing.
 pub mod Runs
+pub mod Handed
 pub mod Ready
 pub mod Reading

@@ -5,7 +5,7 @@
 --   noFile, noPart  what a row of the table may change of the files, or of the wired controller, is nothing
 --   onlyReads c     c may change nothing: it is a page read, a top, the signals, a read of a register of a
 --                   file, or a read of a word of a domain that is no claimi
---   storing cs      the calls of cs that do not only read, in order
+--   storing ms      the calls of ms that do not only read, in order
 use mathlib.Core.Bool.{Bool, true, false, cond, not, _&&_}
 use mathlib.Core.List.{List, [], _∷_}
 use Rattle.domain_region.specs.declared.role.Role.{Role}
@@ -14,6 +14,7 @@ use Rattle.domain_region.specs.Role.{roleOf}
 use Rattle.board_call.specs.declared.Call.{Call}
 use Rattle.board_call.specs.Calls.{FilePart, NoFile, OneFile, EveryFile, WiredPart, Nothing, ByWire, ByRead}
 use Rattle.board_call.specs.Calls.{ByWrite, ByAccess, Everything, rowOf}
+use Rattle.board_runs.specs.Runs.{Made}
 
 unfoldable pub claimsBy : Role → Bool
 claimsBy (Claims h) = true
@@ -39,6 +40,6 @@ noPart Everything = false
 unfoldable pub onlyReads : Call → Bool
 onlyReads c = noPart (rowOf c .wired) && noFile (rowOf c .files)
 
-unfoldable pub storing : List Call → List Call
+unfoldable pub storing : List Made → List Made
 storing [] = []
-storing (c ∷ cs) = cond (onlyReads c) (storing cs) (c ∷ storing cs)
+storing (m ∷ ms) = cond (onlyReads (m .call)) (storing ms) (m ∷ storing ms)

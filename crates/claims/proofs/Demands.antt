@@ -47,8 +47,10 @@ use Rattle.claims_calls.proofs.Asked.{claim-113, claim-114}
 use Rattle.claims_calls.proofs.Answers.{claim-177}
 use Rattle.claims_move.proofs.MoveCall.{claim-100, claim-101, claim-102, claim-103}
 use Rattle.claims_move.proofs.Station.{claim-104, claim-105, claim-106, claim-107, claim-108, claim-109}
-use Rattle.claims_move.proofs.Premises.{claim-175, claim-178}
-use Rattle.claims_move.proofs.Station.{claim-110, claim-111, claim-112, claim-180, claim-181}
+use Rattle.claims_move.proofs.Runs.{claim-183, claim-184}
+use Rattle.claims_move.proofs.Premises.{claim-175, claim-178, claim-187, claim-188}
+use Rattle.claims_move.proofs.Station.{claim-110, claim-111, claim-112, claim-180, claim-181, claim-185}
+use Rattle.claims_move.proofs.Station.{claim-186}
 use Rattle.claims_cases.proofs.Runs.{claim-163}
 use Rattle.claims_cases.proofs.Table.{claim-170}
 use Rattle.claims.specs.Demands.{Demand-1, Demand-2, Demand-3}
@@ -222,8 +224,14 @@ demand-3 = (
   claim-109,
   claim-110,
   claim-180,
+  claim-185,
   claim-181,
+  claim-183,
+  claim-184,
   claim-175,
   claim-111,
   claim-112,
+  claim-186,
+  claim-187,
+  claim-188,
 )

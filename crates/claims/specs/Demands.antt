@@ -47,8 +47,10 @@ use Rattle.claims_calls.specs.Asked.{Claim-113, Claim-114}
 use Rattle.claims_calls.specs.Answers.{Claim-177}
 use Rattle.claims_move.specs.MoveCall.{Claim-100, Claim-101, Claim-102, Claim-103}
 use Rattle.claims_move.specs.Station.{Claim-104, Claim-105, Claim-106, Claim-107, Claim-108, Claim-109}
-use Rattle.claims_move.specs.Premises.{Claim-175, Claim-178}
-use Rattle.claims_move.specs.Station.{Claim-110, Claim-111, Claim-112, Claim-180, Claim-181}
+use Rattle.claims_move.specs.Runs.{Claim-183, Claim-184}
+use Rattle.claims_move.specs.Premises.{Claim-175, Claim-178, Claim-187, Claim-188}
+use Rattle.claims_move.specs.Station.{Claim-110, Claim-111, Claim-112, Claim-180, Claim-181, Claim-185}
+use Rattle.claims_move.specs.Station.{Claim-186}
 use Rattle.claims_cases.specs.Runs.{Claim-163}
 use Rattle.claims_cases.specs.Table.{Claim-170}
 
@@ -119,7 +121,7 @@ Demand-2 =
 -- change and messages arrive anywhere between them, under the premises that the paper lists, ends with the
 -- file that it would have had with no move; every file but the old and the new one, every wire and every
 -- pending and enable bit of the wired controller is the same as with no move
-unfoldable pub Demand-3 : Type 0
+unfoldable pub Demand-3 : Type 1
 Demand-3 =
     -- one access, in plain numbers and bits
     Claim-102 × Claim-103
@@ -130,7 +132,11 @@ Demand-3 =
     × Claim-107 × Claim-108 × Claim-109 × Claim-110
     -- what is left of the old file
     × Claim-180
-    -- what only reads may be called at any moment
-    × Claim-181
-    -- the premises are the paper's, can be met, and each is needed
-    × Claim-175 × Claim-111 × Claim-112
+    -- the other stations go on, and what only reads may be called at any moment
+    × Claim-185 × Claim-181
+    -- each call brings a log of its own, and an access the saved numbers that the last one gave
+    × Claim-183 × Claim-184
+    -- the premises are the paper's, can be met, and each is needed; so is what is held back
+    × Claim-175 × Claim-111 × Claim-112 × Claim-186
+    -- the words that these are told with
+    × Claim-187 × Claim-188

@@ -34,7 +34,7 @@ use Rattle.board_call_laws.proofs.StepEffects.{step-onFile, step-answering}
 use Rattle.board_runs.specs.Ready.{boardIn}
 use Rattle.board_runs.proofs.RunsEffects.{ready-refusal}
 use Rattle.move_laws.specs.Premises.{ByMessages}
-use Rattle.move_laws.proofs.ShiftEffects.{started-ready}
+use Rattle.move_laws.proofs.ShiftEffects.{lentFrom, started-ready}
 use Rattle.move_cases.specs.Example.{start as shift-start}
 use Rattle.move_cases.proofs.ExampleShift.{example}
 use Rattle.monitor_answer.specs.declared.VskAnswer.{VskAnswer}
@@ -138,9 +138,10 @@ unfolding rowOf isMove isGuestFile ByMessages
 accepted =
     let c = Move 0 2 1 3 1 in
     let p = example .premises in
-    given c (shift-start .block) (shift-start .log) 0
-    (ready-refusal c shift-start (started-ready shift-start (p .started))
-    ∙ numbers-name (rowOf c .tests) (boardIn shift-start) (p .messages) refl refl)
+    let x = lentFrom (shift-start .block) (shift-start .saved) in
+    given c (x .block) (x .log) 0
+    (ready-refusal c x (started-ready (x .block) (x .saved) (p .started))
+    ∙ numbers-name (rowOf c .tests) (boardIn x) (p .messages) refl refl)
 
 pub claim-92 : Claim-92
 unfolding Claim-92 rowOf isWire isFile isGuestFile isMove isPageAddress addressLegal selectLegal

@@ -1,33 +1,35 @@
--- Claims 175 and 178, from the definitions of the premises, line by line, and from the law that the board of
+-- Claims 175, 178, 187 and 188, from the definitions of the premises, line by line, and from the law that the board of
 -- a block that keeps the rules is fit. Assumes nothing.
 use Prim.Native.Nat.{ℕ, suc, _+_, _^_, _≤_, _<_}
 use mathlib.Core.Path.{_≡_, refl, sym, ap, subst}
-use mathlib.Core.Bool.{true, false, _&&_}
-use mathlib.Core.List.{List, _∷_}
-use mathlib.Core.Logic.{_↔_}
+use mathlib.Core.Bool.{Bool, true, false, not, _&&_, _||_, false≢true}
+use mathlib.Core.List.{_∷_}
+use mathlib.Core.Logic.{_≢_, _⊎_, inl, inr, ⊎-elim, _↔_}
 use native.Mathlib.Omega.{arith}
 use lib.Dec.{eqb}
-use borrow.Author.Tests.{eqb-true, eq-eqb}
+use borrow.Author.Tests.{eqb-true, eq-eqb, ne-eqb, lt-ltb}
 use Rattle.words.specs.Sets.{WordsFit}
 use Rattle.words.proofs.TestsLaws.{tested, and-first, and-second, and-both, not-same}
 use Rattle.domain.specs.Slot.{sourceAt}
 use Rattle.board_move_steps.specs.Names.{namesFile}
 use Rattle.board_move_wired_laws.proofs.TargetNames.{names-number, number-names}
+use Rattle.board_block.specs.Block.{boardOf}
 use Rattle.board_call.specs.declared.Call.{Call}
 use Rattle.board_call.specs.Calls.{rowOf}
 use Rattle.board_call.specs.declared.Call.the-variants.{Reset, Wire, DomainRead, DomainWrite, PageRead}
 use Rattle.board_call.specs.declared.Call.the-variants.{PageWrite, Register, Top, Claim, Signals, Move}
 use Rattle.board_call_laws.specs.Small.{Small}
+use Rattle.board_call.specs.Numbers.{isFile}
+use Rattle.board_call_laws.proofs.FileCallEffects.{hart-lt, file-lt}
 use Rattle.board_call_laws.proofs.FitEffects.{fit-block}
 use Rattle.board_move_laws.proofs.MoveEffects.{guest-hart, guest-low, guest-high}
-use Rattle.board_runs.specs.Runs.{Lent, outcomeOn, after, ran}
-use Rattle.board_runs.specs.Ready.{boardIn}
-use Rattle.move_laws.specs.Shift.{Stations, Event, accessOf, withMove, withoutMove}
+use Rattle.board_runs.specs.Reading.{onlyReads}
+use Rattle.move_laws.specs.Shift.{Stations, isNeither, hasNeither, elsewhere, withMove, withoutMove}
 use Rattle.move_laws.specs.Premises.{TwoGuests, ByMessages, NoneNamesNew, accessesIn}
-use Rattle.move_laws.specs.Premises.{AllAccesses, PagesKept}
-use Rattle.move_laws.specs.Moved.{AccessesDone}
+use Rattle.move_laws.specs.Premises.{AllAccesses, PagesKept, CallsKept}
+use Rattle.move_cases.specs.Needed.{PagesWithin, LogLong, AnyOld, AnyNew, Besides}
 use Rattle.claims_registers.proofs.Registers.{active-iff}
-use Rattle.claims_move.specs.Premises.{Claim-175, Claim-178}
+use Rattle.claims_move.specs.Premises.{Claim-175, Claim-178, Claim-187, Claim-188}
 use Rattle.claims_move.proofs.MoveCall.{guest-joined}
 
 -- ---- a file is the one that is named, or it is not
@@ -71,41 +73,41 @@ two-guests m =
       }),
     )
 
--- access k is done, and so is each after it
-abbrev AccessFrom : Stations → List Event → Lent → ℕ → Type 0
-AccessFrom m es x k =
-    (outcomeOn (accessOf m k) x .number ≡ 0) × AccessesDone m k es (after (accessOf m k) x)
+-- what is true of one of two tests is true of one, and back
+or-split : (p q : Bool) → ((p || q) ≡ true) ↔ ((p ≡ true) ⊎ (q ≡ true))
+or-split true q = ((λ e. inl refl), (λ e. refl))
+or-split false q = ((λ e. inr e), ⊎-elim (λ e. absurd (false≢true e)) (λ e. e))
 
 pub claim-175 : Claim-175
-unfolding Claim-175 NoneNamesNew ByMessages WordsFit accessesIn AllAccesses PagesKept withMove withoutMove
-    after ran AccessesDone
-claim-175 m x es c cs n j level h f a v =
+unfolding Claim-175 NoneNamesNew ByMessages WordsFit accessesIn AllAccesses PagesKept CallsKept withMove
+    withoutMove
+claim-175 m l s es c n j level h f a v =
     let nh = m .newHart in
     let nf = m .newFile in
     let oh = m .oldHart in
     let of = m .oldFile in
-    let next : suc n ≡ n + 1 = omega arith in (
+    let next : suc n ≡ n + 1 = omega arith in
+    let either = or-split (onlyReads c) (elsewhere m c) in (
       two-guests m,
       (
-        (λ none i l u z s p q. let t = sourceAt (boardIn x .wired .child) i .target in
-            not-same (namesFile t nh nf) (number-names t nh nf p q)
-            (none i l u (active-iff _ .1 (z, s)))),
-        (λ none i l u on. let t = sourceAt (boardIn x .wired .child) i .target in
+        (λ none i o u z t p q. let x = sourceAt (boardOf l .wired .child) i .target in
+            not-same (namesFile x nh nf) (number-names x nh nf p q)
+            (none i o u (active-iff _ .1 (z, t)))),
+        (λ none i o u on. let x = sourceAt (boardOf l .wired .child) i .target in
             let active = active-iff _ .0 on in
-            tested (namesFile t nh nf)
-            (λ y. let e = names-number t nh nf y in absurd (none i l u (active .0) (active .1) (e .0) (e .1)))
+            tested (namesFile x nh nf)
+            (λ y. let e = names-number x nh nf y in absurd (none i o u (active .0) (active .1) (e .0) (e .1)))
             (λ y. y)),
       ),
       ((λ p. p), (λ p. p)),
       (
-        (λ s. (s .block, s .words, s .rules, s .log, s .saved-long, s .saved-fit)),
+        (λ p. (p .block, p .words, p .rules, p .saved-long, p .saved-fit)),
         (λ p. record {
           block = p .0;
           words = p .1;
           rules = p .2;
-          log = p .3;
-          saved-long = p .4;
-          saved-fit = p .5;
+          saved-long = p .3;
+          saved-fit = p .4;
         }),
       ),
       ((λ p. p), (λ p. p)),
@@ -113,6 +115,7 @@ claim-175 m x es c cs n j level h f a v =
       refl,
       refl,
       omega arith,
+      refl,
       tt,
       ((λ p. p), (λ p. p)),
       (
@@ -122,30 +125,29 @@ claim-175 m x es c cs n j level h f a v =
           k .2,
         )),
         (λ k. (
-          (λ e. let s = same-file h f nh nf e in k .0 (s .0) (s .1)),
-          (λ e. let s = same-file h f oh of e in k .1 (s .0) (s .1)),
+          (λ e. let x = same-file h f nh nf e in k .0 (x .0) (x .1)),
+          (λ e. let x = same-file h f oh of e in k .1 (x .0) (x .1)),
           k .2,
         )),
       ),
       (subst (λ (k : ℕ). PagesKept m k es) next, subst (λ (k : ℕ). PagesKept m k es) (sym next)),
+      ((λ p. p), (λ p. p)),
+      tt,
+      ((λ p. p), (λ p. p)),
+      ((λ p. p), (λ p. p)),
+      ((λ p. p), (λ p. p)),
+      ((λ p. (either .0 (p .0), p .1, p .2)), (λ p. (either .1 (p .0), p .1, p .2))),
       refl,
       refl,
       refl,
       ap (λ (k : ℕ). Move oh of nh nf k ∷ withMove m k es) next,
       refl,
       refl,
+      refl,
       (λ p q. rw (file-same h f nh nf p q) refl),
       (λ d. rw (file-other h f nh nf d) refl),
       refl,
       refl,
-      refl,
-      refl,
-      refl,
-      refl,
-      tt,
-      ((λ p. p), (λ p. p)),
-      ((λ p. p), (λ p. p)),
-      (subst (AccessFrom m es x) next, subst (AccessFrom m es x) (sym next)),
     )
 
 -- ---- what is lent, and the calls
@@ -178,4 +180,195 @@ claim-178 = (
     ((λ p. p .1), (λ p. (tt, p))),
     ((λ p. p .1), (λ p. (tt, p))),
   )),
+)
+
+-- ---- the words of the claims on the move
+
+or-true : (p : Bool) → not (p || true) ≡ false
+or-true true = refl
+or-true false = refl
+
+module _ (m : Stations) (h f : ℕ) where
+  -- file f of hart h is neither old nor new
+  neither-iff : (isNeither m h f ≡ true)
+      ↔ ((h ≡ m .oldHart → f ≡ m .oldFile → ⊥) × (h ≡ m .newHart → f ≡ m .newFile → ⊥))
+  neither-iff =
+      let old = eqb h (m .oldHart) && eqb f (m .oldFile) in
+      let new = eqb h (m .newHart) && eqb f (m .newFile) in (
+        (λ e. (
+          (λ p q. not-same _ e (rw (file-same h f (m .oldHart) (m .oldFile) p q))),
+          (λ p q. not-same _ e (rw (file-same h f (m .newHart) (m .newFile) p q) (or-true old))),
+        )),
+        (λ p. rw (
+          file-other h f (m .oldHart) (m .oldFile) (p .0),
+          file-other h f (m .newHart) (m .newFile) (p .1),
+        )
+            refl),
+      )
+
+  -- hart h has neither
+  apart-iff : (hasNeither m h ≡ true) ↔ ((h ≢ m .oldHart) × (h ≢ m .newHart))
+  apart-iff = (
+    (λ e. (
+      (λ p. not-same _ e (rw (eq-eqb h (m .oldHart) p))),
+      (λ p. not-same _ e (rw (eq-eqb h (m .newHart) p) (or-true (eqb h (m .oldHart))))),
+    )),
+    (λ p. rw (ne-eqb h (m .oldHart) (p .0), ne-eqb h (m .newHart) (p .1)) refl),
+  )
+
+-- a file that is there, in plain numbers
+file-iff : (h f : ℕ) → (isFile h f ≡ true) ↔ ((h < 4) × (f < 5))
+unfolding isFile
+file-iff h f = ((λ e. (hart-lt h f e, file-lt h f e)), (λ p. simp (lt-ltb h 4 (p .0), lt-ltb f 5 (p .1))))
+
+three-ways : (p q : Bool) (A : Type 0)
+    → ((((p || q) ≡ true) ⊎ A) ↔ ((p ≡ true) ⊎ ((q ≡ true) ⊎ A)))
+three-ways p q A =
+    let either = or-split p q in (
+      ⊎-elim (λ e. ⊎-elim (λ u. inl u) (λ u. inr (inl u)) (either .0 e)) (λ a. inr (inr a)),
+      ⊎-elim (λ u. inl (either .1 (inl u))) (⊎-elim (λ u. inl (either .1 (inr u))) (λ a. inr a)),
+    )
+
+any-old : (m : Stations)
+    → AnyOld m
+    ↔ ((m .oldHart < 4) × (m .oldFile < 5) × (m .newHart < 4) × (2 ≤ m .newFile) × (m .newFile ≤ 4)
+    × (m .oldHart ≡ m .newHart → m .oldFile ≡ m .newFile → ⊥))
+any-old m =
+    let oh = m .oldHart in
+    let of = m .oldFile in
+    let nh = m .newHart in
+    let nf = m .newFile in
+    let old = file-iff oh of in (
+      (λ g. (
+        old .0 (g .old) .0,
+        old .0 (g .old) .1,
+        guest-hart nh nf (g .new),
+        guest-low nh nf (g .new),
+        omega (arith, guest-high nh nf (g .new)),
+        (λ p q. not-same _ (file-same oh of nh nf p q) (g .different)),
+      )),
+      (λ p. record {
+        old = old .1 (p .0, p .1);
+        new = guest-joined nh nf (p .2) (p .3) (p .4);
+        different = file-other oh of nh nf (p .5);
+      }),
+    )
+
+any-new : (m : Stations)
+    → AnyNew m
+    ↔ ((m .oldHart < 4) × (2 ≤ m .oldFile) × (m .oldFile ≤ 4) × (m .newHart < 4) × (m .newFile < 5)
+    × (m .oldHart ≡ m .newHart → m .oldFile ≡ m .newFile → ⊥))
+any-new m =
+    let oh = m .oldHart in
+    let of = m .oldFile in
+    let nh = m .newHart in
+    let nf = m .newFile in
+    let new = file-iff nh nf in (
+      (λ g. (
+        guest-hart oh of (g .old),
+        guest-low oh of (g .old),
+        omega (arith, guest-high oh of (g .old)),
+        new .0 (g .new) .0,
+        new .0 (g .new) .1,
+        (λ p q. not-same _ (file-same oh of nh nf p q) (g .different)),
+      )),
+      (λ p. record {
+        old = guest-joined oh of (p .0) (p .1) (p .2);
+        new = new .1 (p .3, p .4);
+        different = file-other oh of nh nf (p .5);
+      }),
+    )
+
+pub claim-187 : Claim-187
+unfolding Claim-187 elsewhere PagesWithin Besides LogLong
+claim-187 = (
+  (λ m a d f h k level n nf nh of oh s v w. (
+    neither-iff m h f,
+    neither-iff m h f,
+    neither-iff m h f,
+    neither-iff m h f,
+    neither-iff m h f,
+    apart-iff m h f,
+    refl,
+    refl,
+    refl,
+    refl,
+    refl,
+    refl,
+    refl,
+    refl,
+    refl,
+    refl,
+  )),
+  (λ m b b′. (
+    (λ r. (
+      r .station,
+      r .others,
+      r .wires,
+      r .pending,
+      r .enable,
+      r .machine,
+      r .sources,
+      r .structures,
+    )),
+    (λ p. record {
+      station = p .0;
+      others = p .1;
+      wires = p .2;
+      pending = p .3;
+      enable = p .4;
+      machine = p .5;
+      sources = p .6;
+      structures = p .7;
+    }),
+  )),
+  (λ m l s es. (
+    (λ p. (p .started, p .guests, p .messages, p .fresh, p .all, p .pages, p .calls)),
+    (λ p. record {
+      started = p .0;
+      guests = p .1;
+      messages = p .2;
+      fresh = p .3;
+      all = p .4;
+      pages = p .5;
+      calls = p .6;
+    }),
+  )),
+  (λ m es c d y z n j level h f a v. let nh = m .newHart in
+      let nf = m .newFile in
+      let oh = m .oldHart in
+      let of = m .oldFile in
+      let next : suc n ≡ n + 1 = omega arith in
+      let ways = three-ways (onlyReads c) (elsewhere m c) (c ≡ d) in (
+        tt,
+        ((λ p. p), (λ p. p)),
+        (
+          (λ k. (
+            (λ p q. k .0 (file-same h f nh nf p q)),
+            (λ p q. k .1 (file-same h f oh of p q)),
+            k .2,
+          )),
+          (λ k. (
+            (λ e. let x = same-file h f nh nf e in k .0 (x .0) (x .1)),
+            (λ e. let x = same-file h f oh of e in k .1 (x .0) (x .1)),
+            k .2,
+          )),
+        ),
+        (subst (λ (k : ℕ). PagesWithin y z m k es) next, subst (λ (k : ℕ). PagesWithin y z m k es) (sym next)),
+        ((λ p. p), (λ p. p)),
+        tt,
+        ((λ p. p), (λ p. p)),
+        ((λ p. p), (λ p. p)),
+        ((λ p. p), (λ p. p)),
+        ((λ p. (ways .0 (p .0), p .1, p .2)), (λ p. (ways .1 (p .0), p .1, p .2))),
+      )),
+  (λ m. (any-old m, any-new m)),
+  (λ x. ((λ p. p), (λ p. p))),
+)
+
+pub claim-188 : Claim-188
+unfolding Claim-188
+claim-188 P = (
+  (λ w. (w .m, w .x, w .es, w .meets, w .breaks)),
+  (λ w. record { m = w .0; x = w .1; es = w .2; meets = w .3; breaks = w .4 }),
 )

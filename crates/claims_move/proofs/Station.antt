@@ -1,39 +1,53 @@
--- Claims 104 to 112, 180 and 181, by the laws of runs and of the move. Assumes nothing.
-use Prim.Native.Nat.{ℕ}
+-- Claims 104 to 112, 180, 181, 185 and 186, by the laws of runs and of the move. Assumes nothing.
+use Prim.Native.Nat.{ℕ, _+_, _*_}
 use mathlib.Core.Path.{_≡_, refl, sym, ap, _∙_}
-use mathlib.Core.Bool.{Bool, true, false, not, _&&_}
-use mathlib.Core.List.{List}
-use mathlib.Core.Logic.{_≢_}
+use mathlib.Core.Bool.{Bool, true, false, not, _&&_, false≢true}
+use mathlib.Core.List.{List, map}
+use mathlib.Core.Logic.{_≢_, _↔_}
 use native.Mathlib.Omega.{arith}
 use lib.Dec.{eqb}
-use borrow.Author.Tests.{eq-eqb}
+use lib.ListN.{length}
+use borrow.Author.Tests.{eq-eqb, eqb-true}
 use Rattle.words.specs.Sets.{member}
+use Rattle.words.proofs.TestsLaws.{tested, not-same}
 use Rattle.file.specs.declared.File.{File}
 use Rattle.file.specs.Top.{topIdentity, claimed}
 use Rattle.file_laws.proofs.TopEffects.{top-is, top-within, claimed-pending}
-use Rattle.board_call.specs.declared.Call.the-variants.{DomainRead, PageRead, Register, Top, Signals}
+use Rattle.board_move_steps.specs.Steps.{accesses}
+use Rattle.board_block.specs.Block.{boardOf}
+use Rattle.board_call.specs.declared.Call.{Call}
+use Rattle.board_call.specs.declared.Call.the-variants.{Wire, Register, Claim}
 use Rattle.board_call.specs.Calls.{rowOf}
-use Rattle.board_runs.specs.Runs.{Lent, ran}
-use Rattle.board_runs.specs.Ready.{boardIn}
-use Rattle.board_runs.specs.Reading.{onlyReads}
+use Rattle.board_call.specs.Outcome.{outcome}
+use Rattle.board_runs.specs.Runs.{Made, leftBy, saidOf, saidWhere, Lent, outcomeOn, after, ran}
+use Rattle.board_runs.specs.Handed.{isAccess, HandedOn, Makes}
+use Rattle.board_runs.specs.Ready.{boardIn, Ready}
+use Rattle.board_runs.specs.Reading.{onlyReads, storing}
 use Rattle.board_runs.proofs.RunsEffects.{ready-refusal, after-refused, after-board, after-saved, ready-after}
-use Rattle.board_runs.proofs.ReadingEffects.{reads-word, after-read, ran-storing}
+use Rattle.board_runs.proofs.ReadingEffects.{reads-word, word-reads, after-read, left-storing}
+use Rattle.board_runs.proofs.MadeEffects.{Alike, made-alike, Follows}
 use Rattle.move_laws.specs.Shift.{Stations, Event, withMove, withoutMove}
 use Rattle.move_laws.specs.Premises.{Started, TwoGuests, ByMessages, NoneNamesNew, AllAccesses, PagesKept}
-use Rattle.move_laws.specs.Premises.{Premises}
-use Rattle.move_laws.specs.Moved.{newNumber, oldIn, newIn, Moved, MoveKeeps, MoveDone}
-use Rattle.move_laws.specs.After.{FileCall, SameSignal, MoveLeaves}
+use Rattle.move_laws.specs.Premises.{CallsKept, Premises}
+use Rattle.move_laws.specs.Moved.{newNumber, oldIn, newIn, Moved}
+use Rattle.move_laws.specs.After.{FileCall, callOn, SmallCalls}
 use Rattle.move_laws.proofs.Invariant.{new-lt}
-use Rattle.move_laws.proofs.ShiftEffects.{move-beside, move-keeps, move-done}
+use Rattle.move_laws.proofs.BesideEffects.{Beside}
+use Rattle.move_laws.proofs.ShiftEffects.{lentFrom, move-beside, move-keeps}
 use Rattle.move_laws.proofs.AfterEffects.{said-same, file-same, claim-said, claim-left, goes-on}
 use Rattle.move_laws.proofs.AfterEffects.{same-signal}
-use Rattle.move_laws.proofs.LeftEffects.{wire-leaves, move-leaves}
+use Rattle.move_laws.proofs.LeftEffects.{wire-leaves, move-leaves, move-held}
+use Rattle.move_laws.proofs.EndEffects.{follows-here, follows-there, accesses-said, others-said}
+use Rattle.move_laws.proofs.EndEffects.{follows-calls}
 use Rattle.move_cases.proofs.ExampleShift.{example}
 use Rattle.move_cases.proofs.NeededShifts.{pages-are, needs-all, needs-pages-new, needs-pages-old}
 use Rattle.move_cases.proofs.NeededShifts.{needs-fresh, needs-messages, needs-guest-old, needs-guest-new}
-use Rattle.move_cases.proofs.NeededShifts.{needs-started}
+use Rattle.move_cases.proofs.NeededShifts.{needs-log-long}
+use Rattle.move_cases.proofs.BesidesShifts.{needs-no-claim-old, needs-no-claim-new, needs-no-write-old}
+use Rattle.move_cases.proofs.BesidesShifts.{needs-no-target, needs-no-reset}
 use Rattle.claims_move.specs.Station.{Claim-104, Claim-105, Claim-106, Claim-107, Claim-108, Claim-109}
-use Rattle.claims_move.specs.Station.{Claim-110, Claim-111, Claim-112, Claim-180, Claim-181}
+use Rattle.claims_move.specs.Station.{Claim-110, Claim-111, Claim-112, Claim-180, Claim-181, Claim-185}
+use Rattle.claims_move.specs.Station.{Claim-186}
 
 pub claim-104 : Claim-104
 unfolding Claim-104
@@ -44,10 +58,22 @@ claim-104 c x ready small = (
   ready-after c x ready small,
 )
 
-module _ (m : Stations) (x : Lent) (es : List Event) (started : Started x) (guests : TwoGuests m)
-    (messages : ByMessages x) (fresh : NoneNamesNew m x) (all : AllAccesses es) (pages : PagesKept m 0 es)
+-- ---- a call afterwards, with a log and saved numbers of its own
+
+alike : (c : Call) → isAccess c ≡ false → (x : Lent) → Ready x → (g t : List ℕ) → length g ≡ 63
+    → Alike (outcome c (x .block) g t) (outcomeOn c x)
+alike c none x ready g t long =
+    made-alike (record { call = c; log = g; saved = t }) x (long ∙ sym (ready .full))
+    (λ e. absurd (not-same _ e none))
+
+-- ---- a shift with a move, and the same shift without it
+
+module _ (m : Stations) (l s : List ℕ) (es : List Event) (ms ns : List Made) (started : Started l s)
+    (guests : TwoGuests m) (messages : ByMessages l) (fresh : NoneNamesNew m l) (all : AllAccesses es)
+    (pages : PagesKept m 0 es) (calls : CallsKept m es) (with : Makes (withMove m 0 es) ms)
+    (handed : HandedOn s ms l) (without : Makes (withoutMove m es) ns)
   where
-    premises : Premises m x es
+    premises : Premises m l s es
     premises =
         record {
           started = started;
@@ -56,20 +82,35 @@ module _ (m : Stations) (x : Lent) (es : List Event) (started : Started x) (gues
           fresh = fresh;
           all = all;
           pages = pages;
+          calls = calls;
         }
 
     abbrev here : Lent
-    here = ran (withMove m 0 es) x
+    here = ran (withMove m 0 es) (lentFrom l s)
 
     abbrev there : Lent
-    there = ran (withoutMove m es) x
+    there = ran (withoutMove m es) (lentFrom l s)
+
+    beside : Beside m guests accesses here there
+    unfolding premises
+    beside = move-beside m l s es premises
+
+    follows-with : Follows (withMove m 0 es) ms (lentFrom l s)
+    follows-with = follows-here m l s es ms ns premises with without handed
+
+    -- what both leave
+    left-here : leftBy ms l ≡ here .block
+    left-here = follows-with .left
+
+    left-there : leftBy ns l ≡ there .block
+    left-there = follows-there m l s es ms ns premises with without handed .left
 
     moved : Moved m (boardIn here) (boardIn there)
-    moved = unfold MoveKeeps in move-keeps m x es premises
+    moved = move-keeps m l s es premises
 
     -- an identity of the one file is that of the other
-    pending-same : (i : ℕ) → member (newIn m (boardIn here) .pending) i ≡ member
-        (oldIn m (boardIn there) .pending) i
+    pending-same : (i : ℕ)
+        → member (newIn m (boardIn here) .pending) i ≡ member (oldIn m (boardIn there) .pending) i
     pending-same i = ap (λ (f : File). member (f .pending) i) (moved .station)
 
     -- the identity that a claim answers is not pending after it
@@ -78,8 +119,7 @@ module _ (m : Stations) (x : Lent) (es : List Event) (started : Started x) (gues
     claimed-gone n =
         let f = newIn m (boardIn here) in
         let i = topIdentity 255 f in
-        let fit = move-beside m x es premises .ready .fit in
-        let long = fit .files (newNumber m) (new-lt m guests) .pendingLong in
+        let long = beside .ready .fit .files (newNumber m) (new-lt m guests) .pendingLong in
         claimed-pending 255 f i (top-within 255 f n .0) (omega arith) ∙ and-never (member (f .pending) i)
         (eqb i i) (eq-eqb i i refl)
       where
@@ -87,10 +127,72 @@ module _ (m : Stations) (x : Lent) (es : List Event) (started : Started x) (gues
         and-never true b e = rw e
         and-never false b e = refl
 
+    -- a claim afterwards
+    module _ (g g′ t t′ : List ℕ) (long : length g ≡ 63) (long′ : length g′ ≡ 63) where
+      abbrev new : Call
+      new = Claim (m .newHart) (m .newFile)
+
+      abbrev old : Call
+      old = Claim (m .oldHart) (m .oldFile)
+
+      on-new : Alike (outcome new (here .block) g t) (outcomeOn new here)
+      on-new = alike new (unfold isAccess rowOf in refl) here (beside .ready) g t long
+
+      on-old : Alike (outcome old (there .block) g′ t′) (outcomeOn old there)
+      on-old = alike old (unfold isAccess rowOf in refl) there (beside .ready′) g′ t′ long′
+
+      claims : let o = outcome new (here .block) g t in
+          let o′ = outcome old (there .block) g′ t′ in
+          let i = topIdentity 255 (newIn m (boardIn here)) in
+          (saidOf o ≡ record { number = 0; value = i * 65536 + i; count = 0 }) × (saidOf o ≡ saidOf o′)
+          × (i ≢ 0 → member (newIn m (boardOf (o .block)) .pending) i ≡ false)
+          × (newIn m (boardOf (o .block)) ≡ oldIn m (boardOf (o′ .block)))
+      unfolding after
+      claims = (
+        on-new .said ∙ claim-said m guests here (beside .ready)
+            ∙ ap (λ (v : ℕ). record { number = 0; value = v; count = 0 })
+            (top-is 255 (newIn m (boardIn here))),
+        on-new .said ∙ said-same m guests here there (beside .ready) (beside .ready′) (moved .station)
+            FileCall.claim ∙ sym (on-old .said),
+        (λ n. ap (λ (b : List ℕ). member (newIn m (boardOf b) .pending) (topIdentity 255 (newIn m
+            (boardIn here)))) (on-new .block)
+            ∙ ap (λ (z : File). member (z .pending) (topIdentity 255 (newIn m (boardIn here))))
+            (claim-left m guests here (beside .ready)) ∙ claimed-gone n),
+        ap (λ (b : List ℕ). newIn m (boardOf b)) (on-new .block)
+            ∙ file-same m guests here there (beside .ready) (beside .ready′) (moved .station) FileCall.claim
+            (unfold rowOf in tt)
+            ∙ ap (λ (b : List ℕ). oldIn m (boardOf b)) (sym (on-old .block)),
+      )
+
+    -- calls afterwards
+    module _ (cs : List FileCall) (us vs : List Made) (small : SmallCalls cs)
+        (onNew : Makes (map (callOn (m .newHart) (m .newFile)) cs) us)
+        (onOld : Makes (map (callOn (m .oldHart) (m .oldFile)) cs) vs) where
+      on : (saidWhere (λ c. true) us (here .block) ≡ saidWhere (λ c. true) vs (there .block))
+          × (newIn m (boardOf (leftBy us (here .block))) ≡ oldIn m (boardOf (leftBy vs (there .block))))
+      on =
+          let f = follows-calls (m .newHart) (m .newFile) cs us here (beside .ready) small onNew in
+          let e = follows-calls (m .oldHart) (m .oldFile) cs vs there (beside .ready′) small onOld in
+          let r = goes-on m guests cs small here there (beside .ready) (beside .ready′) (moved .station) in (
+            f .said (λ c. true) ∙ r .said (λ c. true) (λ c. refl) ∙ sym (e .said (λ c. true)),
+            ap (λ (b : List ℕ). newIn m (boardOf b)) (f .left) ∙ r .station
+                ∙ ap (λ (b : List ℕ). oldIn m (boardOf b)) (sym (e .left)),
+          )
+
+    -- a wire afterwards
+    wires : (i level : ℕ) (g t : List ℕ) → length g ≡ 63
+        → oldIn m (boardOf (outcome (Wire i level) (here .block) g t .block)) ≡ oldIn m (boardIn here)
+    unfolding after
+    wires i level g t long =
+        ap (λ (b : List ℕ). oldIn m (boardOf b))
+        (alike (Wire i level) (unfold isAccess rowOf in refl) here (beside .ready) g t long .block)
+        ∙ wire-leaves m guests here (beside .ready) (move-leaves m l s es premises) i level
+
 pub claim-105 : Claim-105
 unfolding Claim-105
-claim-105 m x es s g b f a p =
-    let r = moved m x es s g b f a p in (
+claim-105 m l s es ms ns a b c d e f g h i j =
+    let r = moved m l s es ms ns a b c d e f g h i j in
+    rw (left-here m l s es ms ns a b c d e f g h i j, left-there m l s es ms ns a b c d e f g h i j) (
       r .station,
       r .others,
       r .wires,
@@ -102,65 +204,96 @@ claim-105 m x es s g b f a p =
     )
 
 pub claim-106 : Claim-106
-unfolding Claim-106 MoveDone
-claim-106 m x es s g b f a p = move-done m x es (premises m x es s g b f a p)
+unfolding Claim-106
+claim-106 m l s es ms ns a b c d e f g h i j =
+    accesses-said m l s es ms ns (premises m l s es ms ns a b c d e f g h i j) h j i
 
 pub claim-107 : Claim-107
 unfolding Claim-107
-claim-107 m x es s g b f a p i e = pending-same m x es s g b f a p i ∙ e
+claim-107 m l s es ms ns a b c d e f g h i j =
+    rw (left-here m l s es ms ns a b c d e f g h i j, left-there m l s es ms ns a b c d e f g h i j)
+    (λ k q. pending-same m l s es ms ns a b c d e f g h i j k ∙ q)
 
 pub claim-108 : Claim-108
 unfolding Claim-108
-claim-108 m x es s g b f a p =
-    let q = move-beside m x es (premises m x es s g b f a p) in
-    let same = moved m x es s g b f a p .station in (
-      (λ i e. sym (pending-same m x es s g b f a p i) ∙ e),
-      (
-        claim-said m g _ (q .ready)
-            ∙ ap (λ (v : ℕ). record { number = 0; value = v; count = 0 })
-            (top-is 255 (newIn m (boardIn (ran (withMove m 0 es) x)))),
-        said-same m g _ _ (q .ready) (q .ready′) same FileCall.claim (unfold rowOf in tt),
-        (λ n. ap (λ (z : File). member (z .pending) (topIdentity 255 (newIn m (boardIn (ran (withMove m 0 es)
-            x)))))
-            (claim-left m g _ (q .ready))
-            ∙ claimed-gone m x es s g b f a p n),
-        file-same m g _ _ (q .ready) (q .ready′) same FileCall.claim (unfold rowOf in tt),
-      ),
+claim-108 m l s es ms ns a b c d e f g h i j =
+    rw (left-here m l s es ms ns a b c d e f g h i j, left-there m l s es ms ns a b c d e f g h i j) (
+      (λ k q. sym (pending-same m l s es ms ns a b c d e f g h i j k) ∙ q),
+      claims m l s es ms ns a b c d e f g h i j,
     )
 
 pub claim-109 : Claim-109
 unfolding Claim-109
-claim-109 m x es s g b f a p k h o n i =
-    ap (λ (z : File). member (z .pending) i) (moved m x es s g b f a p .others k h o n)
+claim-109 m l s es ms ns a b c d e f g h i j =
+    rw (left-here m l s es ms ns a b c d e f g h i j, left-there m l s es ms ns a b c d e f g h i j)
+    (λ k u o n q. ap (λ (z : File). member (z .pending) q)
+    (moved m l s es ms ns a b c d e f g h i j .others k u o n))
 
 pub claim-110 : Claim-110
-unfolding Claim-110 SameSignal
-claim-110 m x es s g b f a p =
-    let q = move-beside m x es (premises m x es s g b f a p) in
-    let same = moved m x es s g b f a p .station in (
-      (λ cs small. let r = goes-on m g cs small _ _ (q .ready) (q .ready′) same in (r .said, r .station)),
-      same-signal m g _ _ same,
+unfolding Claim-110
+claim-110 m l s es ms ns a b c d e f g h i j =
+    rw (left-here m l s es ms ns a b c d e f g h i j, left-there m l s es ms ns a b c d e f g h i j) (
+      on m l s es ms ns a b c d e f g h i j,
+      same-signal m b _ _ (moved m l s es ms ns a b c d e f g h i j .station),
     )
 
+pub claim-185 : Claim-185
+unfolding Claim-185
+claim-185 m l s es ms ns a b c d e f g h i j =
+    others-said m l s es ms ns (premises m l s es ms ns a b c d e f g h i j) h j i
+
 pub claim-180 : Claim-180
-unfolding Claim-180 MoveLeaves
-claim-180 m x es s g b f a p =
-    let q = premises m x es s g b f a p in
-    let left = move-leaves m x es q in
-    (left .silent, left .signal, left .unnamed, wire-leaves m g _ (move-beside m x es q .ready) left)
+unfolding Claim-180
+claim-180 m l s es ms ns a b c d e f g h i j =
+    let p = premises m l s es ms ns a b c d e f g h i j in
+    let left = move-leaves m l s es p in
+    let held = move-held m l s es p in
+    rw (left-here m l s es ms ns a b c d e f g h i j, follows-with m l s es ms ns a b c d e f g h i j .saved) (
+      left .silent,
+      left .signal,
+      left .unnamed,
+      wires m l s es ms ns a b c d e f g h i j,
+      held .pending,
+      held .enable,
+      held .kept,
+      held .enables,
+      held .threshold,
+    )
+
+-- ---- what only reads
+
+reads-kind : (h f k s v : ℕ) → (onlyReads (Register h f k s v) ≡ true) ↔ (k ≡ 0)
+unfolding onlyReads rowOf
+reads-kind h f k s v = (
+  (λ e. tested (eqb k 0) (eqb-true k 0) (λ n. absurd (false≢true (rw n at e)))),
+  (λ e. rw (eq-eqb k 0 e) refl),
+)
 
 pub claim-181 : Claim-181
-unfolding Claim-181 onlyReads rowOf
+unfolding Claim-181 onlyReads storing after rowOf
 claim-181 = (
-  λ x h f a s v d. (
-    after-read (PageRead h f a) x refl,
-    after-read (Top h f) x refl,
-    after-read (Signals h) x refl,
-    after-read (Register h f 0 s v) x refl,
-    λ n. after-read (DomainRead d a) x (reads-word d a n),
-  ),
-  after-read,
-  ran-storing,
+  (λ a d f h k level n nf nh of oh s v w. (
+    refl,
+    refl,
+    refl,
+    reads-kind h f k s v,
+    (word-reads d a, reads-word d a),
+    refl,
+    refl,
+    refl,
+    refl,
+    refl,
+    refl,
+  )),
+  (λ c l g s r. let e = after-read c (record { block = l; log = g; saved = s }) r in (
+    ap (λ (x : Lent). x .block) e,
+    ap (λ (x : Lent). x .log) e,
+    ap (λ (x : Lent). x .saved) e,
+  )),
+  refl,
+  (λ m ms. ((λ t. rw t refl), (λ f. rw f refl))),
+  left-storing,
+  (λ ms us l e. left-storing ms l ∙ ap (λ (vs : List Made). leftBy vs l) e ∙ sym (left-storing us l)),
 )
 
 pub claim-111 : Claim-111
@@ -178,5 +311,9 @@ claim-112 = (
   needs-messages,
   needs-guest-old,
   needs-guest-new,
-  needs-started,
+  needs-log-long,
 )
+
+pub claim-186 : Claim-186
+unfolding Claim-186
+claim-186 = (needs-no-claim-old, needs-no-claim-new, needs-no-write-old, needs-no-target, needs-no-reset)

@@ -1,6 +1,6 @@
--- Claims 175 and 178: what 01 asks of a move, each premise in plain numbers; the two shifts that are
--- compared, event by event, and how calls run; and that what is lent by the rules is ready for calls. 01,
--- "The move, with its premises", "Calls and their refusals", "State rules".
+-- Claims 175, 178, 187 and 188: what 01 asks of a move, each premise in plain numbers; the two shifts that are
+-- compared, event by event; that what is lent by the rules is ready for calls; and what the shifts of claims
+-- 111, 112 and 186 are told with. 01, "The move, with its premises", "Calls and their refusals", "State rules".
 --   Ready x          what the claims on calls one after the other ask of what is lent
 --   Small c          what they ask of a call, and SmallCalls cs of calls on a file
 --   Fit b            what the claims on one call ask of a board
@@ -8,65 +8,68 @@
 -- A premise that asked for more than 01 does would make the claims on the move say less; so each is said in
 -- both directions.
 -- Premises: of the first part of Claim-178 the lengths of the block and of the log, words of 32 bits that
--- keep the rules and saved numbers of 64 bits. The rest of it and Claim-175 have none. No axioms.
+-- keep the rules and saved numbers of 64 bits. The rest of it and the other claims have none. No axioms.
 use Prim.Native.Nat.{ℕ, _+_, _^_, _≤_, _<_}
 use mathlib.Core.Path.{_≡_}
-use mathlib.Core.Bool.{true}
+use mathlib.Core.Bool.{Bool, true, false}
 use mathlib.Core.List.{List, [], _∷_}
-use mathlib.Core.Logic.{_≢_, _↔_}
+use mathlib.Core.Logic.{_≢_, _⊎_, _↔_}
 use lib.ListN.{length, getD}
 use Rattle.source_target.specs.Target.{hartOf, guestOf}
+use Rattle.files.specs.Files.{fileNumber, theFile}
 use Rattle.domain.specs.Domain.{byMessages}
 use Rattle.domain.specs.Slot.{sourceAt}
-use Rattle.board_block.specs.Block.{boardSound}
+use Rattle.wired_state.specs.Wires.{domainIn}
+use Rattle.board_block.specs.Block.{Board, boardOf, boardSound}
 use Rattle.board_block_laws.specs.Shape.{BoardShaped}
 use Rattle.board_call.specs.declared.Call.{Call}
-use Rattle.board_call.specs.declared.Call.the-variants.{Wire, PageWrite, Register, Move}
-use Rattle.board_call.specs.Outcome.{outcome}
+use Rattle.board_call.specs.declared.Call.the-variants.{Reset, Wire, DomainRead, DomainWrite, PageRead}
+use Rattle.board_call.specs.declared.Call.the-variants.{PageWrite, Register, Top, Claim, Signals, Move}
 use Rattle.board_call_laws.specs.Fit.{Fit}
 use Rattle.board_call_laws.specs.Small.{Small}
-use Rattle.board_runs.specs.Runs.{Lent, after, ran}
+use Rattle.board_runs.specs.Runs.{Lent, ran}
 use Rattle.board_runs.specs.Ready.{boardIn, Ready}
-use Rattle.move_laws.specs.Shift.{Stations, Event, withMove, withoutMove}
-use Rattle.move_laws.specs.Shift.Event.{wire, page, access}
+use Rattle.board_runs.specs.Reading.{onlyReads}
+use Rattle.move_laws.specs.Shift.{Stations, Event, elsewhere, withMove, withoutMove}
+use Rattle.move_laws.specs.Shift.Event.{wire, page, access, call}
 use Rattle.move_laws.specs.Premises.{Started, TwoGuests, ByMessages, NoneNamesNew, accessesIn}
-use Rattle.move_laws.specs.Premises.{AllAccesses, PagesKept}
-use Rattle.move_laws.specs.Moved.{AccessesDone}
-use Rattle.move_laws.specs.After.{FileCall, SmallCalls}
+use Rattle.move_laws.specs.Premises.{AllAccesses, PagesKept, CallsKept, Premises}
+use Rattle.move_laws.specs.Moved.{Moved}
+use Rattle.move_laws.specs.After.{FileCall, callOn, SmallCalls}
 use Rattle.move_laws.specs.After.FileCall.{pageRead, pageWrite, register, top, claim}
+use Rattle.move_cases.specs.Needed.{PagesWithin, LogLong, AnyOld, AnyNew, Besides, TooWeak}
 
 -- the premises of a move, and the two shifts that are compared, ask this and no more: old and new are two
 -- different files 2 to 4 of harts 0 to 3; at the start no active source of the child names new, the child is
 -- not in direct mode, and what is lent has its lengths and keeps the rules; the accesses are 89, with their
--- numbers in order; nobody writes to new before access 8, nor to old from access 72 on; and the compared
--- shift has the same wires and page writes, those to new going to old, and no access. A run makes its calls
--- in order and hands on the block, the log and the saved numbers that each leaves; and AccessesDone, which
--- Claim-106 says of a shift, means that each access, made where the shift makes it, is done
--- [01 V3 V12 V13 V14 V18 V22 V23 V24 V25 V26 V27 V28 V29]
+-- numbers in order; nobody writes to new before access 8, nor to old from access 72 on; a call besides only
+-- reads, or is one on a file that is neither; and the compared shift has the same wires, page writes and calls,
+-- the page writes to new going to old, and no access
+-- [01 V12 V13 V18 V22 V23 V24 V25 V26 V27 V28 V29]
 unfoldable pub Claim-175 : Type 0
 Claim-175 =
-    (m : Stations) (x : Lent) (es : List Event) (c : Call) (cs : List Call) (n j level h f a v : ℕ)
+    (m : Stations) (l s : List ℕ) (es : List Event) (c : Call) (n j level h f a v : ℕ)
     -- two different guest files
     → (TwoGuests m
     ↔ ((m .oldHart < 4) × (2 ≤ m .oldFile) × (m .oldFile ≤ 4) × (m .newHart < 4) × (2 ≤ m .newFile)
     × (m .newFile ≤ 4) × (m .oldHart ≡ m .newHart → m .oldFile ≡ m .newFile → ⊥)))
     -- the start
-    × (NoneNamesNew m x
+    × (NoneNamesNew m l
     ↔ ((i : ℕ) → 1 ≤ i → i ≤ 63
-    → let s = sourceAt (boardIn x .wired .child) i in
-    s .mode ≢ 0 → s .mode < 1024 → hartOf (s .target) ≡ m .newHart
-    → guestOf (s .target) + 1 ≡ m .newFile → ⊥))
-    × (ByMessages x ↔ (byMessages (boardIn x .wired .child) ≡ true))
-    × (Started x
-    ↔ ((length (x .block) ≡ 650) × ((k : ℕ) → getD (x .block) k 0 < 2 ^ 32)
-    × (boardSound (boardIn x) ≡ true) × (length (x .log) ≡ 63) × (length (x .saved) ≡ 10)
-    × ((k : ℕ) → getD (x .saved) k 0 < 2 ^ 64)))
+    → let x = sourceAt (boardOf l .wired .child) i in
+    x .mode ≢ 0 → x .mode < 1024 → hartOf (x .target) ≡ m .newHart
+    → guestOf (x .target) + 1 ≡ m .newFile → ⊥))
+    × (ByMessages l ↔ (byMessages (boardOf l .wired .child) ≡ true))
+    × (Started l s
+    ↔ ((length l ≡ 650) × ((k : ℕ) → getD l k 0 < 2 ^ 32) × (boardSound (boardOf l) ≡ true)
+    × (length s ≡ 10) × ((k : ℕ) → getD s k 0 < 2 ^ 64)))
     -- every access, each event but an access counting for none
     × (AllAccesses es ↔ (accessesIn es ≡ 89))
     × (accessesIn [] ≡ 0)
     × (accessesIn (wire j level ∷ es) ≡ accessesIn es)
     × (accessesIn (page h f a v ∷ es) ≡ accessesIn es)
     × (accessesIn (access ∷ es) ≡ accessesIn es + 1)
+    × (accessesIn (call c ∷ es) ≡ accessesIn es)
     -- the page writes, n accesses having been made
     × PagesKept m n []
     × (PagesKept m n (wire j level ∷ es) ↔ PagesKept m n es)
@@ -74,12 +77,21 @@ Claim-175 =
     ↔ ((h ≡ m .newHart → f ≡ m .newFile → 8 ≤ n) × (h ≡ m .oldHart → f ≡ m .oldFile → n < 72)
     × PagesKept m n es))
     × (PagesKept m n (access ∷ es) ↔ PagesKept m (n + 1) es)
+    × (PagesKept m n (call c ∷ es) ↔ PagesKept m n es)
+    -- the calls besides: a shift that has none asks nothing
+    × CallsKept m []
+    × (CallsKept m (wire j level ∷ es) ↔ CallsKept m es)
+    × (CallsKept m (page h f a v ∷ es) ↔ CallsKept m es)
+    × (CallsKept m (access ∷ es) ↔ CallsKept m es)
+    × (CallsKept m (call c ∷ es)
+    ↔ (((onlyReads c ≡ true) ⊎ (elsewhere m c ≡ true)) × Small c × CallsKept m es))
     -- the shift with the move
     × (withMove m n [] ≡ [])
     × (withMove m n (wire j level ∷ es) ≡ Wire j level ∷ withMove m n es)
     × (withMove m n (page h f a v ∷ es) ≡ PageWrite h f a v ∷ withMove m n es)
     × (withMove m n (access ∷ es)
     ≡ Move (m .oldHart) (m .oldFile) (m .newHart) (m .newFile) (n + 1) ∷ withMove m (n + 1) es)
+    × (withMove m n (call c ∷ es) ≡ c ∷ withMove m n es)
     -- the shift without it
     × (withoutMove m [] ≡ [])
     × (withoutMove m (wire j level ∷ es) ≡ Wire j level ∷ withoutMove m es)
@@ -88,19 +100,7 @@ Claim-175 =
     × ((h ≡ m .newHart → f ≡ m .newFile → ⊥)
     → withoutMove m (page h f a v ∷ es) ≡ PageWrite h f a v ∷ withoutMove m es)
     × (withoutMove m (access ∷ es) ≡ withoutMove m es)
-    -- a run
-    × (ran [] x ≡ x)
-    × (ran (c ∷ cs) x ≡ ran cs (after c x))
-    × (after c x .block ≡ outcome c (x .block) (x .log) (x .saved) .block)
-    × (after c x .log ≡ outcome c (x .block) (x .log) (x .saved) .log)
-    × (after c x .saved ≡ outcome c (x .block) (x .log) (x .saved) .saved)
-    -- every access is done, n having been made
-    × AccessesDone m n [] x
-    × (AccessesDone m n (wire j level ∷ es) x ↔ AccessesDone m n es (after (Wire j level) x))
-    × (AccessesDone m n (page h f a v ∷ es) x ↔ AccessesDone m n es (after (PageWrite h f a v) x))
-    × (let next = Move (m .oldHart) (m .oldFile) (m .newHart) (m .newFile) (n + 1) in
-    AccessesDone m n (access ∷ es) x
-    ↔ ((outcome next (x .block) (x .log) (x .saved) .number ≡ 0) × AccessesDone m (n + 1) es (after next x)))
+    × (withoutMove m (call c ∷ es) ≡ c ∷ withoutMove m es)
 
 -- what is lent is ready for calls, its board fit and its lists of their lengths, if it has a block of 650
 -- words of 32 bits that keep the rules, a log of 63 words, and saved numbers of 64 bits: so what claims 102
@@ -120,3 +120,70 @@ Claim-178 =
     × (SmallCalls (pageWrite a v ∷ cs) ↔ SmallCalls cs)
     × (SmallCalls (top ∷ cs) ↔ SmallCalls cs)
     × (SmallCalls (claim ∷ cs) ↔ SmallCalls cs))
+
+-- ---- the words of the claims on the move
+
+-- a call is elsewhere exactly if it is a call on one file, old nor new, or asks for the signals of a hart that
+-- has neither; a call on a file is the one that it is named after; `Moved`, which the shifts of claims 111,
+-- 112 and 186 end with or do not, says what Claim-105 does; and the premises that these weaken say this and no
+-- more
+unfoldable pub Claim-187 : Type 0
+Claim-187 =
+    ((m : Stations) (a d f h k level n nf nh of oh s v w : ℕ)
+    → let Neither = (h ≡ m .oldHart → f ≡ m .oldFile → ⊥) × (h ≡ m .newHart → f ≡ m .newFile → ⊥) in
+    ((elsewhere m (PageRead h f a) ≡ true) ↔ Neither) × ((elsewhere m (PageWrite h f a v) ≡ true) ↔ Neither)
+    × ((elsewhere m (Register h f k s v) ≡ true) ↔ Neither) × ((elsewhere m (Top h f) ≡ true) ↔ Neither)
+    × ((elsewhere m (Claim h f) ≡ true) ↔ Neither)
+    × ((elsewhere m (Signals h) ≡ true) ↔ ((h ≢ m .oldHart) × (h ≢ m .newHart)))
+    × (elsewhere m Reset ≡ false) × (elsewhere m (Wire w level) ≡ false)
+    × (elsewhere m (DomainRead d a) ≡ false) × (elsewhere m (DomainWrite d a v) ≡ false)
+    × (elsewhere m (Move oh of nh nf n) ≡ false)
+    × (callOn h f (pageRead a) ≡ PageRead h f a) × (callOn h f (pageWrite a v) ≡ PageWrite h f a v)
+    × (callOn h f (register k s v) ≡ Register h f k s v) × (callOn h f top ≡ Top h f)
+    × (callOn h f claim ≡ Claim h f))
+    × ((m : Stations) (b b′ : Board)
+    → Moved m b b′
+    ↔ ((theFile (b .files) (fileNumber (m .newHart) (m .newFile))
+    ≡ theFile (b′ .files) (fileNumber (m .oldHart) (m .oldFile)))
+    × ((k : ℕ) → k < 20 → k ≢ fileNumber (m .oldHart) (m .oldFile) → k ≢ fileNumber (m .newHart) (m .newFile)
+    → theFile (b .files) k ≡ theFile (b′ .files) k)
+    × (b .wired .wires ≡ b′ .wired .wires)
+    × ((c : Bool) → domainIn (b .wired) c .pending ≡ domainIn (b′ .wired) c .pending)
+    × ((c : Bool) → domainIn (b .wired) c .enable ≡ domainIn (b′ .wired) c .enable)
+    × (b .wired .machine ≡ b′ .wired .machine) × (b .wired .child .source ≡ b′ .wired .child .source)
+    × (b .wired .child .delivery ≡ b′ .wired .child .delivery)))
+    × ((m : Stations) (l s : List ℕ) (es : List Event)
+    → Premises m l s es
+    ↔ (Started l s × TwoGuests m × ByMessages l × NoneNamesNew m l × AllAccesses es × PagesKept m 0 es
+    × CallsKept m es))
+    × ((m : Stations) (es : List Event) (c d : Call) (y z n j level h f a v : ℕ)
+    → PagesWithin y z m n []
+    × (PagesWithin y z m n (wire j level ∷ es) ↔ PagesWithin y z m n es)
+    × (PagesWithin y z m n (page h f a v ∷ es)
+    ↔ ((h ≡ m .newHart → f ≡ m .newFile → y ≤ n) × (h ≡ m .oldHart → f ≡ m .oldFile → n < z)
+    × PagesWithin y z m n es))
+    × (PagesWithin y z m n (access ∷ es) ↔ PagesWithin y z m (n + 1) es)
+    × (PagesWithin y z m n (call c ∷ es) ↔ PagesWithin y z m n es)
+    × Besides d m []
+    × (Besides d m (wire j level ∷ es) ↔ Besides d m es)
+    × (Besides d m (page h f a v ∷ es) ↔ Besides d m es)
+    × (Besides d m (access ∷ es) ↔ Besides d m es)
+    × (Besides d m (call c ∷ es)
+    ↔ (((onlyReads c ≡ true) ⊎ (elsewhere m c ≡ true) ⊎ (c ≡ d)) × Small c × Besides d m es)))
+    × ((m : Stations)
+    → (AnyOld m
+    ↔ ((m .oldHart < 4) × (m .oldFile < 5) × (m .newHart < 4) × (2 ≤ m .newFile) × (m .newFile ≤ 4)
+    × (m .oldHart ≡ m .newHart → m .oldFile ≡ m .newFile → ⊥)))
+    × (AnyNew m
+    ↔ ((m .oldHart < 4) × (2 ≤ m .oldFile) × (m .oldFile ≤ 4) × (m .newHart < 4) × (m .newFile < 5)
+    × (m .oldHart ≡ m .newHart → m .oldFile ≡ m .newFile → ⊥))))
+    × ((x : Lent) → LogLong x ↔ (length (x .log) ≡ 63))
+
+-- a premise is too weak exactly if some stations, a start and a shift meet it, and the shift with the move, with
+-- one log handed on, does not end as without it
+unfoldable pub Claim-188 : Type 1
+Claim-188 =
+    (P : Stations → Lent → List Event → Type 0)
+    → TooWeak P
+    ↔ ((m : Stations) × (x : Lent) × (es : List Event) × P m x es
+    × (Moved m (boardIn (ran (withMove m 0 es) x)) (boardIn (ran (withoutMove m es) x)) → ⊥))

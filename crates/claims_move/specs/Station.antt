@@ -1,19 +1,22 @@
--- Claims 104 to 112, 180 and 181, the auditor's question: when the monitor moves a station in the middle of a
--- shift, can a scan be dropped, doubled or handed to the wrong station? 01, "The move, with its premises".
---   MovedWhere P     P holds of what is lent after every shift with a move and after the same shift without
---                    it, where the premises of 01 are met: each is a definition of Rattle.move_laws,
---                    Premises
+-- Claims 104 to 112, 180, 181, 185 and 186, the auditor's question: when the monitor moves a station in the
+-- middle of a shift, can a scan be dropped, doubled or handed to the wrong station? 01, "The move, with its
+-- premises".
+--   MovedWhere P     P holds of every shift with a move, ms, beside the same shift without it, ns, both from
+--                    the block l on, where the premises are met: s is the saved numbers that the first access
+--                    brings. Each is a definition of Rattle.move_laws, Premises, or of Rattle.board_runs
 -- Premises: of Claim-104 `Ready x`, 650 words of a board that keeps the rules and whose files have words of
 -- 32 bits, 63 words of log and saved numbers of 64 bits, and `Small c`, a value of 64 bits; of claims
--- 105 to 110 and 180 the six of 01, `Started`, `TwoGuests`, `ByMessages`, `NoneNamesNew`, `AllAccesses` and
--- `PagesKept`, which Claim-111 shows can be met, and Claim-112 that each is needed; of Claim-110 besides
--- `SmallCalls cs`, register values of 64 bits in the calls afterwards. Claims 111, 112 and 181 have none.
--- No axioms.
-use Prim.Native.Nat.{ℕ, _+_, _*_, _≤_, _<_}
+-- 105 to 110, 180 and 185 the six of 01, `Started`, `TwoGuests`, `ByMessages`, `NoneNamesNew`, `AllAccesses`
+-- and `PagesKept`, which Claim-111 shows can be met, and Claim-112 that each is needed; `CallsKept`, what else
+-- may be called, where 01 has no call at all; and `Makes` and `HandedOn`, what each call brings: a log of 63
+-- words, and an access the saved numbers that the last one gave; of Claim-110 besides `SmallCalls cs`, register
+-- values of 64 bits in the calls afterwards. Claims 111, 112, 181 and 186 have none. No axioms.
+use Prim.Native.Nat.{ℕ, _+_, _*_, _/_, _%_, _≤_, _<_}
 use mathlib.Core.Path.{_≡_}
 use mathlib.Core.Bool.{Bool, true, false}
-use mathlib.Core.List.{List, map}
-use mathlib.Core.Logic.{_≢_}
+use mathlib.Core.List.{List, [], _∷_, map}
+use mathlib.Core.Logic.{_≢_, _↔_}
+use lib.ListN.{length, getD, replicate}
 use Rattle.words.specs.Bits.{hasBit}
 use Rattle.words.specs.Sets.{member}
 use Rattle.file.specs.Top.{topIdentity}
@@ -23,23 +26,28 @@ use Rattle.domain_region.specs.Region.{wordAt}
 use Rattle.domain.specs.Slot.{sourceAt}
 use Rattle.wired_state.specs.Wires.{domainIn}
 use Rattle.board_move_steps.specs.Names.{namesFile}
+use Rattle.board_block.specs.Block.{boardOf}
 use Rattle.board_call.specs.declared.Call.{Call}
-use Rattle.board_call.specs.declared.Call.the-variants.{Wire, DomainRead, PageRead, Register, Top, Claim}
-use Rattle.board_call.specs.declared.Call.the-variants.{Signals}
+use Rattle.board_call.specs.declared.Call.the-variants.{Reset, Wire, DomainRead, DomainWrite, PageRead}
+use Rattle.board_call.specs.declared.Call.the-variants.{PageWrite, Register, Top, Claim, Signals, Move}
 use Rattle.board_call.specs.Change.{signalsTo}
-use Rattle.board_call.specs.Outcome.{step}
+use Rattle.board_call.specs.Outcome.{step, outcome}
 use Rattle.board_call.specs.Refusal.{nameRefusal, refusalOf}
 use Rattle.board_call_laws.specs.Small.{Small}
-use Rattle.board_runs.specs.Runs.{Lent, outcomeOn, after, ran}
+use Rattle.board_runs.specs.Runs.{Made, leftBy, saidOf, saidWhere, Lent, after}
+use Rattle.board_runs.specs.Handed.{isAccess, savedBy, HandedOn, Makes}
 use Rattle.board_runs.specs.Ready.{boardIn, Ready}
 use Rattle.board_runs.specs.Reading.{onlyReads, storing}
-use Rattle.move_laws.specs.Shift.{Stations, Event, withMove, withoutMove}
+use Rattle.move_laws.specs.Shift.{Stations, Event, elsewhere, withMove, withoutMove}
 use Rattle.move_laws.specs.Premises.{Started, TwoGuests, ByMessages, NoneNamesNew, AllAccesses, PagesKept}
-use Rattle.move_laws.specs.Moved.{oldNumber, newNumber, oldIn, newIn, AccessesDone}
-use Rattle.move_laws.specs.After.{FileCall, callOn, saidOf, saidOn, SmallCalls}
+use Rattle.move_laws.specs.Premises.{CallsKept}
+use Rattle.move_laws.specs.Moved.{oldNumber, newNumber, oldIn, newIn}
+use Rattle.move_laws.specs.After.{FileCall, callOn, SmallCalls}
 use Rattle.move_cases.specs.Example.{Example}
 use Rattle.move_cases.specs.Needed.{PagesAre, NeedsAll, NeedsPagesNew, NeedsPagesOld, NeedsFresh}
-use Rattle.move_cases.specs.Needed.{NeedsMessages, NeedsGuestOld, NeedsGuestNew, NeedsStarted}
+use Rattle.move_cases.specs.Needed.{NeedsMessages, NeedsGuestOld, NeedsGuestNew, NeedsLogLong}
+use Rattle.move_cases.specs.Needed.{NeedsNoClaimOld, NeedsNoClaimNew, NeedsNoWriteOld, NeedsNoTarget}
+use Rattle.move_cases.specs.Needed.{NeedsNoReset}
 
 -- calls one after the other: what a call leaves is ready for the next one, whether it is refused or not; a
 -- refused one leaves all as it was, and an accepted one the board and the saved numbers that `step` says. So
@@ -55,20 +63,23 @@ Claim-104 =
     × (after c x .saved ≡ step c b (x .saved) .saved))
     × Ready (after c x)
 
-abbrev pub MovedWhere : (Stations → Lent → Lent → Type 0) → Type 0
+abbrev pub MovedWhere : (Stations → List ℕ → List ℕ → List Made → List Made → Type 0) → Type 0
 MovedWhere P =
-    (m : Stations) (x : Lent) (es : List Event) → Started x → TwoGuests m → ByMessages x → NoneNamesNew m x
-    → AllAccesses es → PagesKept m 0 es → P m (ran (withMove m 0 es) x) (ran (withoutMove m es) x)
+    (m : Stations) (l s : List ℕ) (es : List Event) (ms ns : List Made)
+    → Started l s → TwoGuests m → ByMessages l → NoneNamesNew m l → AllAccesses es → PagesKept m 0 es
+    → CallsKept m es → Makes (withMove m 0 es) ms → HandedOn s ms l → Makes (withoutMove m es) ns
+    → P m l s ms ns
 
 -- demand 3: the new file is the one that the station would have had with no move; every file but old and
 -- new, every wire, and every pending and enable bit of both domains is the same as with no move; and so is
 -- all else of the machine domain, and domaincfg, the sourcecfg words and the delivery structures of the
--- child
+-- child. Every call brings a log of its own, and between the accesses the other stations go on: 01's theorem
+-- is the case of shifts with no call besides
 -- [01 V22 V23 V30 M4 X8 X9]
 unfoldable pub Claim-105 : Type 0
 Claim-105 =
-    MovedWhere (λ m x y. let b = boardIn x in
-    let b′ = boardIn y in
+    MovedWhere (λ m l s ms ns. let b = boardOf (leftBy ms l) in
+    let b′ = boardOf (leftBy ns l) in
     (theFile (b .files) (fileNumber (m .newHart) (m .newFile))
     ≡ theFile (b′ .files) (fileNumber (m .oldHart) (m .oldFile)))
     × ((k : ℕ) → k < 20 → k ≢ fileNumber (m .oldHart) (m .oldFile) → k ≢ fileNumber (m .newHart) (m .newFile)
@@ -79,91 +90,126 @@ Claim-105 =
     × (b .wired .machine ≡ b′ .wired .machine) × (b .wired .child .source ≡ b′ .wired .child .source)
     × (b .wired .child .delivery ≡ b′ .wired .child .delivery))
 
--- with the premises of a move every one of the 89 accesses is done, and none is refused
+-- with the premises of a move every one of the 89 accesses is done, and none is refused: each answers 0 and 0
 -- [01 V13]
 unfoldable pub Claim-106 : Type 0
 Claim-106 =
-    (m : Stations) (x : Lent) (es : List Event) → Started x → TwoGuests m → ByMessages x → NoneNamesNew m x
-    → AllAccesses es → PagesKept m 0 es → AccessesDone m 0 es x
+    MovedWhere (λ m l s ms ns.
+    saidWhere isAccess ms l ≡ replicate 89 (record { number = 0; value = 0; count = 0 }))
 
 -- no scan is dropped: what is pending for the station with no move is pending in its new file
 -- [01 M4]
 unfoldable pub Claim-107 : Type 0
 Claim-107 =
-    MovedWhere (λ m x y. (i : ℕ) → member (oldIn m (boardIn y) .pending) i ≡ true
-    → member (newIn m (boardIn x) .pending) i ≡ true)
+    MovedWhere (λ m l s ms ns. (i : ℕ) → member (oldIn m (boardOf (leftBy ns l)) .pending) i ≡ true
+    → member (newIn m (boardOf (leftBy ms l)) .pending) i ≡ true)
 
 -- none is doubled or made up: what is pending in the new file is pending with no move; and a claim
--- afterwards answers the lowest identity that qualifies, or 0, as it would have, that identity is then gone,
--- and the file is again the one that there would have been
+-- afterwards, with any log of 63 words, answers the lowest identity that qualifies, or 0, as it would have,
+-- that identity is then gone, and the file is again the one that there would have been
 unfoldable pub Claim-108 : Type 0
 Claim-108 =
-    MovedWhere (λ m x y. ((i : ℕ) → member (newIn m (boardIn x) .pending) i ≡ true
-    → member (oldIn m (boardIn y) .pending) i ≡ true)
-    × (let new = Claim (m .newHart) (m .newFile) in
-    let old = Claim (m .oldHart) (m .oldFile) in
-    let i = topIdentity 255 (newIn m (boardIn x)) in
-    (saidOf (outcomeOn new x) ≡ record { number = 0; value = i * 65536 + i; count = 0 })
-    × (saidOf (outcomeOn new x) ≡ saidOf (outcomeOn old y))
-    × (i ≢ 0 → member (newIn m (boardIn (after new x)) .pending) i ≡ false)
-    × (newIn m (boardIn (after new x)) ≡ oldIn m (boardIn (after old y)))))
+    MovedWhere (λ m l s ms ns. ((i : ℕ) → member (newIn m (boardOf (leftBy ms l)) .pending) i ≡ true
+    → member (oldIn m (boardOf (leftBy ns l)) .pending) i ≡ true)
+    × ((g g′ t t′ : List ℕ) → length g ≡ 63 → length g′ ≡ 63
+    → let o = outcome (Claim (m .newHart) (m .newFile)) (leftBy ms l) g t in
+    let o′ = outcome (Claim (m .oldHart) (m .oldFile)) (leftBy ns l) g′ t′ in
+    let i = topIdentity 255 (newIn m (boardOf (leftBy ms l))) in
+    (saidOf o ≡ record { number = 0; value = i * 65536 + i; count = 0 }) × (saidOf o ≡ saidOf o′)
+    × (i ≢ 0 → member (newIn m (boardOf (o .block)) .pending) i ≡ false)
+    × (newIn m (boardOf (o .block)) ≡ oldIn m (boardOf (o′ .block)))))
 
 -- none is handed to another station: every file but old and new has the same pending bits
 unfoldable pub Claim-109 : Type 0
 Claim-109 =
-    MovedWhere (λ m x y. (k : ℕ) → k < 20 → k ≢ oldNumber m → k ≢ newNumber m
+    MovedWhere (λ m l s ms ns. (k : ℕ) → k < 20 → k ≢ oldNumber m → k ≢ newNumber m
     → (i : ℕ)
-    → member (theFile (boardIn x .files) k .pending) i ≡ member (theFile (boardIn y .files) k .pending) i)
+    → member (theFile (boardOf (leftBy ms l) .files) k .pending) i
+    ≡ member (theFile (boardOf (leftBy ns l) .files) k .pending) i)
 
--- and the shift goes on: any calls on the new file, with register values of 64 bits, answer what the same
--- calls on the old file would have answered, and leave the same file; and the new file signals its hart
--- exactly if the old one would have signalled its own
+-- and the shift goes on: any calls on the new file, with register values of 64 bits and logs of 63 words,
+-- answer what the same calls on the old file would have answered, and leave the same file; and the new file
+-- signals its hart exactly if the old one would have signalled its own
 unfoldable pub Claim-110 : Type 0
 Claim-110 =
-    MovedWhere (λ m x y. ((cs : List FileCall) → SmallCalls cs
-    → (saidOn (m .newHart) (m .newFile) cs x ≡ saidOn (m .oldHart) (m .oldFile) cs y)
-    × (newIn m (boardIn (ran (map (callOn (m .newHart) (m .newFile)) cs) x))
-    ≡ oldIn m (boardIn (ran (map (callOn (m .oldHart) (m .oldFile)) cs) y))))
-    × (hasBit (signalsTo (boardIn x) (m .newHart) 5) (m .newFile)
-    ≡ hasBit (signalsTo (boardIn y) (m .oldHart) 5) (m .oldFile)))
+    MovedWhere (λ m l s ms ns. ((cs : List FileCall) (us vs : List Made) → SmallCalls cs
+    → Makes (map (callOn (m .newHart) (m .newFile)) cs) us
+    → Makes (map (callOn (m .oldHart) (m .oldFile)) cs) vs
+    → (saidWhere (λ c. true) us (leftBy ms l) ≡ saidWhere (λ c. true) vs (leftBy ns l))
+    × (newIn m (boardOf (leftBy us (leftBy ms l))) ≡ oldIn m (boardOf (leftBy vs (leftBy ns l)))))
+    × (hasBit (signalsTo (boardOf (leftBy ms l)) (m .newHart) 5) (m .newFile)
+    ≡ hasBit (signalsTo (boardOf (leftBy ns l)) (m .oldHart) 5) (m .oldFile)))
 
--- what is left of the old file may have pending bits, but it is silent: its delivery is 0, it signals its
--- hart no more, no target of the child names it, of an active source or not, and no wire set afterwards
--- changes it
+-- the other stations go on: a call on a file that is neither old nor new, anywhere between the accesses, and
+-- the signals of a hart that has neither, answer what they would have answered with no move
+unfoldable pub Claim-185 : Type 0
+Claim-185 = MovedWhere (λ m l s ms ns. saidWhere (elsewhere m) ms l ≡ saidWhere (elsewhere m) ns l)
+
+-- what is left of the old file is silent: its delivery is 0, it signals its hart no more, no target of the
+-- child names it, of an active source or not, and no wire set afterwards changes it. What it holds was carried
+-- over: its pending and enable bits are those of the saved numbers, every bit that is pending in it is pending
+-- in new, and its enable bits and threshold are new's. So whoever uses it again and does not clear its pending
+-- bits first has these scans twice
 unfoldable pub Claim-180 : Type 0
 Claim-180 =
-    MovedWhere (λ m x y. let b = boardIn x in
-    (oldIn m b .delivery ≡ 0) × (hasBit (signalsTo b (m .oldHart) 5) (m .oldFile) ≡ false)
+    MovedWhere (λ m l s ms ns. let b = boardOf (leftBy ms l) in
+    let old = oldIn m b in
+    let new = newIn m b in
+    let r = savedBy s ms l in
+    (old .delivery ≡ 0) × (hasBit (signalsTo b (m .oldHart) 5) (m .oldFile) ≡ false)
     × ((i : ℕ) → 1 ≤ i → i ≤ 63
     → namesFile (sourceAt (b .wired .child) i .target) (m .oldHart) (m .oldFile) ≡ false)
-    × ((i level : ℕ) → oldIn m (boardIn (after (Wire i level) x)) ≡ oldIn m b))
+    × ((i level : ℕ) (g t : List ℕ) → length g ≡ 63
+    → oldIn m (boardOf (outcome (Wire i level) (leftBy ms l) g t .block)) ≡ old)
+    × ((i : ℕ) → 1 ≤ i → i ≤ 255 → member (old .pending) i ≡ hasBit (getD r (2 + i / 64) 0) (i % 64))
+    × ((i : ℕ) → 1 ≤ i → i ≤ 255 → member (old .enable) i ≡ hasBit (getD r (6 + i / 64) 0) (i % 64))
+    × ((i : ℕ) → 1 ≤ i → i ≤ 255 → member (old .pending) i ≡ true → member (new .pending) i ≡ true)
+    × (old .enable ≡ new .enable) × (old .threshold ≡ new .threshold))
 
 -- what only reads may be called at any moment of a shift, in the middle of a move too: a page read, a top,
--- the signals, a read of a file's register or of a word of a domain that is no claimi leave the block, the
--- log and the saved numbers as they were, accepted or refused, and so a run leaves what it leaves without
--- them
+-- the signals, a read of a file's register or of a word of a domain that is no claimi, and no other call. Each
+-- leaves the block, the log and the saved numbers as they were, accepted or refused. So a run leaves what it
+-- leaves without them, and two runs that are the same without them leave the same: a run that is a shift of
+-- Claim-105 once its reading calls are left out ends as that claim says
 unfoldable pub Claim-181 : Type 0
 Claim-181 =
-    ((x : Lent) (h f a s v d : ℕ)
-    → (after (PageRead h f a) x ≡ x) × (after (Top h f) x ≡ x) × (after (Signals h) x ≡ x)
-    × (after (Register h f 0 s v) x ≡ x)
-    × (((i : ℕ) → wordAt a ≢ Claimi i) → after (DomainRead d a) x ≡ x))
-    × ((c : Call) (x : Lent) → onlyReads c ≡ true → after c x ≡ x)
-    × ((cs : List Call) (x : Lent) → ran cs x ≡ ran (storing cs) x)
+    ((a d f h k level n nf nh of oh s v w : ℕ)
+    → (onlyReads (PageRead h f a) ≡ true) × (onlyReads (Top h f) ≡ true) × (onlyReads (Signals h) ≡ true)
+    × ((onlyReads (Register h f k s v) ≡ true) ↔ (k ≡ 0))
+    × ((onlyReads (DomainRead d a) ≡ true) ↔ ((i : ℕ) → wordAt a ≢ Claimi i))
+    × (onlyReads Reset ≡ false) × (onlyReads (Wire w level) ≡ false) × (onlyReads (DomainWrite d a v) ≡ false)
+    × (onlyReads (PageWrite h f a v) ≡ false) × (onlyReads (Claim h f) ≡ false)
+    × (onlyReads (Move oh of nh nf n) ≡ false))
+    × ((c : Call) (l g s : List ℕ) → onlyReads c ≡ true
+    → let o = outcome c l g s in (o .block ≡ l) × (o .log ≡ g) × (o .saved ≡ s))
+    × (storing [] ≡ [])
+    × ((m : Made) (ms : List Made)
+    → (onlyReads (m .call) ≡ true → storing (m ∷ ms) ≡ storing ms)
+    × (onlyReads (m .call) ≡ false → storing (m ∷ ms) ≡ m ∷ storing ms))
+    × ((ms : List Made) (l : List ℕ) → leftBy ms l ≡ leftBy (storing ms) l)
+    × ((ms us : List Made) (l : List ℕ) → storing ms ≡ storing us → leftBy ms l ≡ leftBy us l)
 
 -- ---- the premises
 
--- the premises of a move can be met: a start and a shift in full, in which a device and a wire bring messages
--- to old before they change over, and to new after it
+-- the premises of a move can be met: a start and a shift in full. Two devices, an edge source and a level
+-- source bring messages to old before they change over and to new after it, in the middle of steps too, and
+-- another station claims; at the end new is the file that the station would have had, with its bits in four
+-- words of 64 and its threshold of 200, and has nothing of what it held before
 -- [01 V18]
 unfoldable pub Claim-111 : Type 0
 Claim-111 = Example
 
 -- each premise of a move is needed: without it, or with a bound that is off by one, and with all the others,
--- there is a start and a shift whose end differs. Of `Started` it drops the length of the log alone, and of
+-- there is a start and a shift whose end differs. Of `Makes` it drops the length of the log, and of
 -- `TwoGuests` that old, or new, is a guest file
 -- [01 V12 V25 V26 V27]
 unfoldable pub Claim-112 : Type 0
 Claim-112 =
     NeedsAll × PagesAre × NeedsPagesNew × NeedsPagesOld × NeedsFresh × NeedsMessages × NeedsGuestOld
-    × NeedsGuestNew × NeedsStarted
+    × NeedsGuestNew × NeedsLogLong
+
+-- and so is that other calls are held back: with a claim of the moved station from old, or from new, a write to
+-- a register of old, one to a target of the child, or a reset between the accesses, there is a start and a shift
+-- whose end differs
+unfoldable pub Claim-186 : Type 0
+Claim-186 = NeedsNoClaimOld × NeedsNoClaimNew × NeedsNoWriteOld × NeedsNoTarget × NeedsNoReset

@@ -4,7 +4,6 @@
 --   stepOn c y       what the call c makes of both: refused, it leaves them
 --   boardRun cs y    what the calls cs make of them, in order
 -- To unfold boardRun is to unfold all that a wire, a page write and an access compute with.
-use Prim.Native.Nat.{ℕ, suc}
 use mathlib.Core.Path.{_≡_, refl, sym, ap, _∙_}
 use mathlib.Core.Bool.{cond}
 use mathlib.Core.List.{List, [], _∷_}
@@ -13,12 +12,13 @@ use lib.Dec.{eqb}
 use borrow.Author.Tests.{eq-eqb, ne-eqb}
 use Rattle.words.specs.Bits.{bitOf, hasBit, withBit, withoutBit, union}
 use Rattle.words.specs.Sets.{member, insert, remove, put}
-use Rattle.words.specs.Parts.{low, high, joined, fieldOf, packed}
+use Rattle.words.specs.Parts.{reversed, low, high, joined, fieldOf, packed}
 use Rattle.file_select.specs.Select.{selectLegal, registerOf, registersFrom}
 use Rattle.file_select.specs.Halves.{doubleword, putHalves, putDoubleword}
 use Rattle.file_select.specs.Deliveries.{deliveryLegal}
 use Rattle.file.specs.Page.{arrived, pageWritten}
 use Rattle.file.specs.Register.{held, written, accessedAt, accessed}
+use Rattle.file.specs.Top.{passes, lowest, qualifies, topIdentity, topOf, claimed}
 use Rattle.files.specs.Files.{fileNumber, isGuest, theFile, withFile, namedBy, reached, allReached}
 use Rattle.source_mode.specs.Mode.{isActive, isLevel, isRectified}
 use Rattle.file_message.specs.Message.{logWord}
@@ -33,12 +33,13 @@ use Rattle.domain_registers.specs.Write.{registerWritten}
 use Rattle.wired_state.specs.Wires.{sourceWired, wireSet, domainIn, withDomain}
 use Rattle.wired_registers.specs.Wired.{writtenAs, writtenIn}
 use Rattle.domain_sending.specs.Sending.{candidate, servedAt, messagesAt, sentFrom, sent}
-use Rattle.wired.specs.Controller.{flushed}
+use Rattle.domain_region.specs.Region.{addressLegal, registers, nameIn, wordIn, wordAt}
+use Rattle.wired.specs.Controller.{flushed, genmsiAs, genmsiBy}
 use Rattle.board_move_steps.specs.Names.{namesFile, renamed}
 use Rattle.board_move_steps.specs.Steps.{actOf}
 use Rattle.board_call.specs.declared.Call.{Call}
 use Rattle.board_call.specs.Move.{retargetedIn, Acted, acted}
-use Rattle.board_call.specs.Change.{change}
+use Rattle.board_call.specs.Change.{kindOf, change}
 use Rattle.board_call.specs.Numbers.{isWire, isFile, isGuestFile, isMove, isPageAddress}
 use Rattle.board_call.specs.Calls.{rowOf}
 use Rattle.board_call.specs.Refusal.{firstFailed, nameTests, nameRefusal, nameRefusalBy}
@@ -47,7 +48,6 @@ use Rattle.board_call_laws.specs.Small.{Small}
 use Rattle.board_runs.specs.Runs.{Lent, after, ran}
 use Rattle.board_runs.specs.Ready.{boardIn, Ready, AllSmall}
 use Rattle.board_runs.proofs.RunsEffects.{after-refused, ready-refusal, after-board, after-saved, ready-after}
-use Rattle.move_laws.specs.Shift.{Stations, Event, withMove, withoutMove}
 
 abbrev pub heldBy : Lent → Acted
 heldBy x = record { board = boardIn x; saved = x .saved }
@@ -66,8 +66,9 @@ unfolding stepOn step thenSent change acted retargetedIn actOf nameRefusalBy nam
     byMessages source.settled source.wireChanged source.retargeted hartOf guestOf numberOf receiverOf
     keptTarget logWord messageOf isActive isLevel isRectified fileNumber isGuest theFile withFile namedBy
     reached allReached held written accessedAt accessed arrived pageWritten deliveryLegal doubleword
-    putHalves putDoubleword selectLegal registerOf registersFrom low high joined fieldOf packed member
-    insert remove put bitOf hasBit withBit withoutBit union
+    putHalves putDoubleword selectLegal registerOf registersFrom reversed low high joined fieldOf packed
+    member insert remove put bitOf hasBit withBit withoutBit union kindOf passes lowest qualifies topIdentity
+    topOf claimed addressLegal registers nameIn wordIn wordAt genmsiAs genmsiBy
 boardRun [] y = y
 boardRun (c ∷ cs) y = boardRun cs (stepOn c y)
 
@@ -92,19 +93,3 @@ board-run [] x ready small = refl
 board-run (c ∷ cs) x ready small =
     board-run cs (after c x) (ready-after c x ready (small .0)) (small .1)
     ∙ ap (boardRun cs) (step-on c x ready (small .0))
-
--- ---- the calls of a shift are small
-
-pub small-with : (m : Stations) (n : ℕ) (es : List Event) → AllSmall (withMove m n es)
-unfolding withMove rowOf
-small-with m n [] = tt
-small-with m n (Event.wire i level ∷ es) = (tt, small-with m n es)
-small-with m n (Event.page h f a v ∷ es) = (tt, small-with m n es)
-small-with m n (Event.access ∷ es) = (tt, small-with m (suc n) es)
-
-pub small-without : (m : Stations) (es : List Event) → AllSmall (withoutMove m es)
-unfolding withoutMove rowOf
-small-without m [] = tt
-small-without m (Event.wire i level ∷ es) = (tt, small-without m es)
-small-without m (Event.page h f a v ∷ es) = (tt, small-without m es)
-small-without m (Event.access ∷ es) = small-without m es

@@ -3,3 +3,4 @@ pub mod BoardRun
 pub mod Starts
 pub mod ExampleShift
 pub mod NeededShifts
+pub mod BesidesShifts

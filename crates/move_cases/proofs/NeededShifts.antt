@@ -20,16 +20,18 @@ use Rattle.board_runs.specs.Runs.{Lent, ran}
 use Rattle.board_runs.specs.Ready.{boardIn}
 use Rattle.board_runs.proofs.RunsEffects.{after-refused}
 use Rattle.move_laws.specs.Shift.{Stations, Event, withMove, withoutMove}
-use Rattle.move_laws.specs.Shift.Event.{wire, page, access}
+use Rattle.move_laws.specs.Shift.Event.{wire, page, access, call}
 use Rattle.move_laws.specs.Premises.{ByMessages, NoneNamesNew, accessesIn, AllAccesses, PagesKept}
+use Rattle.move_laws.specs.Premises.{CallsKept}
 use Rattle.move_laws.specs.Moved.{oldIn, newIn}
+use Rattle.move_laws.proofs.EndEffects.{EventsSmall}
 use Rattle.move_cases.specs.Board.{stations, wiredTo, boardWith, lent}
-use Rattle.move_cases.specs.Needed.{PagesWithin, PagesAre, NeedsAll, NeedsPagesNew, NeedsPagesOld}
+use Rattle.move_cases.specs.Needed.{LogLong, PagesWithin, PagesAre, NeedsAll, NeedsPagesNew, NeedsPagesOld}
 use Rattle.move_cases.specs.Needed.{NeedsFresh, NeedsMessages, NeedsGuestOld, NeedsGuestNew}
-use Rattle.move_cases.specs.Needed.{NeedsStarted}
+use Rattle.move_cases.specs.Needed.{NeedsLogLong}
 use Rattle.move_cases.proofs.BoardRun.{boardRun}
 use Rattle.move_cases.proofs.Starts.{blockTests, freshTest, lent-board, lent-messages, lent-fresh}
-use Rattle.move_cases.proofs.Starts.{lent-any, lent-started, lent-breaks, good-old, good-new}
+use Rattle.move_cases.proofs.Starts.{lent-started, lent-breaks, good-old, good-new}
 use Rattle.move_cases.proofs.Starts.{good-direct}
 use Rattle.move_cases.proofs.ExampleShift.{board, other, two-guests}
 
@@ -44,37 +46,39 @@ pages-are m n es = (to n es, back n es)
     to n (wire i level ∷ es) p = to n es p
     to n (page h f a v ∷ es) p = (p .0, p .1, to n es (p .2))
     to n (access ∷ es) p = to (suc n) es p
+    to n (call c ∷ es) p = to n es p
 
     back : (n : ℕ) (es : List Event) → PagesWithin 8 72 m n es → PagesKept m n es
     back n [] p = tt
     back n (wire i level ∷ es) p = back n es p
     back n (page h f a v ∷ es) p = (p .0, p .1, back n es (p .2))
     back n (access ∷ es) p = back (suc n) es p
+    back n (call c ∷ es) p = back n es p
 
 -- ---- what the start of the example meets
 
-abbrev start : Lent
+abbrev pub start : Lent
 start = lent board 63
 
-messages : ByMessages start
+pub messages : ByMessages (start .block)
 unfolding blockTests
 messages = lent-messages board good-old 63 refl
 
-fresh : NoneNamesNew stations start
+pub fresh : NoneNamesNew stations (start .block)
 unfolding freshTest blockTests boardRun
 fresh = lent-fresh board good-old 63 stations refl
 
 -- ---- old signals, and new does not signal again before access 89
 
 pub needs-all : NeedsAll
-unfolding NeedsAll accessesIn PagesKept withMove withoutMove blockTests boardRun
+unfolding NeedsAll accessesIn PagesKept CallsKept LogLong lent EventsSmall withMove withoutMove blockTests boardRun
 needs-all =
     record {
       m = stations;
       x = start;
       es = replicate 88 access;
-      meets = (lent-started board good-old, two-guests, messages, fresh, refl, tt);
-      breaks = lent-breaks board good-old stations (replicate 88 access) (λ f. eqb (f .delivery) 1) refl refl;
+      meets = (lent-started board good-old 63, refl, two-guests, messages, fresh, refl, tt, tt);
+      breaks = lent-breaks board good-old stations (replicate 88 access) tt (λ f. eqb (f .delivery) 1) refl refl;
     }
 
 -- ---- access 8 clears identity 200 in new
@@ -83,21 +87,23 @@ abbrev tooEarly : List Event
 tooEarly = replicate 7 access ++ (page 1 3 0 200 ∷ replicate 82 access)
 
 pub needs-pages-new : NeedsPagesNew
-unfolding NeedsPagesNew AllAccesses accessesIn PagesWithin withMove withoutMove blockTests boardRun
+unfolding NeedsPagesNew AllAccesses accessesIn PagesWithin CallsKept LogLong lent EventsSmall withMove withoutMove blockTests boardRun
 needs-pages-new =
     record {
       m = stations;
       x = start;
       es = tooEarly;
       meets = (
-        lent-started board good-old,
+        lent-started board good-old 63,
+        refl,
         two-guests,
         messages,
         fresh,
         refl,
         ((λ e. omega arith), other, tt),
+        tt,
       );
-      breaks = lent-breaks board good-old stations tooEarly (λ f. member (f .pending) 200) refl refl;
+      breaks = lent-breaks board good-old stations tooEarly tt (λ f. member (f .pending) 200) refl refl;
     }
 
 -- ---- access 72 has read identity 3 in old
@@ -106,21 +112,23 @@ abbrev tooLate : List Event
 tooLate = replicate 72 access ++ (page 0 2 0 3 ∷ replicate 17 access)
 
 pub needs-pages-old : NeedsPagesOld
-unfolding NeedsPagesOld AllAccesses accessesIn PagesWithin withMove withoutMove blockTests boardRun
+unfolding NeedsPagesOld AllAccesses accessesIn PagesWithin CallsKept LogLong lent EventsSmall withMove withoutMove blockTests boardRun
 needs-pages-old =
     record {
       m = stations;
       x = start;
       es = tooLate;
       meets = (
-        lent-started board good-old,
+        lent-started board good-old 63,
+        refl,
         two-guests,
         messages,
         fresh,
         refl,
         (other, (λ e. omega arith), tt),
+        tt,
       );
-      breaks = lent-breaks board good-old stations tooLate (λ f. member (f .pending) 3) refl refl;
+      breaks = lent-breaks board good-old stations tooLate tt (λ f. member (f .pending) 3) refl refl;
     }
 
 -- ---- new has got identity 7, which was never sent to old
@@ -132,20 +140,22 @@ abbrev sentToNew : List Event
 sentToNew = replicate 8 access ++ (wire 1 1 ∷ replicate 81 access)
 
 pub needs-fresh : NeedsFresh
-unfolding NeedsFresh AllAccesses accessesIn PagesKept withMove withoutMove blockTests boardRun
+unfolding NeedsFresh AllAccesses accessesIn PagesKept CallsKept LogLong lent EventsSmall withMove withoutMove blockTests boardRun
 needs-fresh =
     record {
       m = stations;
       x = lent namingNew 63;
       es = sentToNew;
       meets = (
-        lent-started namingNew good-new,
+        lent-started namingNew good-new 63,
+        refl,
         two-guests,
         lent-messages namingNew good-new 63 refl,
         refl,
         tt,
+        tt,
       );
-      breaks = lent-breaks namingNew good-new stations sentToNew (λ f. not (member (f .pending) 7)) refl refl;
+      breaks = lent-breaks namingNew good-new stations sentToNew tt (λ f. not (member (f .pending) 7)) refl refl;
     }
 
 -- ---- every access is refused, and identity 5 stays in old
@@ -157,20 +167,22 @@ abbrev direct : Board
 direct = boardWith (startBoard .wired)
 
 pub needs-messages : NeedsMessages
-unfolding NeedsMessages AllAccesses accessesIn PagesKept withMove withoutMove freshTest blockTests boardRun
+unfolding NeedsMessages AllAccesses accessesIn PagesKept CallsKept LogLong lent EventsSmall withMove withoutMove freshTest blockTests boardRun
 needs-messages =
     record {
       m = stations;
       x = lent direct 63;
       es = accessesOnly;
       meets = (
-        lent-started direct good-direct,
+        lent-started direct good-direct 63,
+        refl,
         two-guests,
         lent-fresh direct good-direct 63 stations refl,
         refl,
         tt,
+        tt,
       );
-      breaks = lent-breaks direct good-direct stations accessesOnly (λ f. member (f .pending) 5) refl refl;
+      breaks = lent-breaks direct good-direct stations accessesOnly tt (λ f. member (f .pending) 5) refl refl;
     }
 
 -- ---- every access is refused, and identity 3 stays in old, the supervisor's file
@@ -182,21 +194,23 @@ abbrev supervised : List Event
 supervised = page 0 1 0 3 ∷ accessesOnly
 
 pub needs-guest-old : NeedsGuestOld
-unfolding NeedsGuestOld AllAccesses accessesIn PagesKept withMove withoutMove freshTest blockTests boardRun
+unfolding NeedsGuestOld AllAccesses accessesIn PagesKept CallsKept LogLong lent EventsSmall withMove withoutMove freshTest blockTests boardRun
 needs-guest-old =
     record {
       m = fromFileOne;
       x = start;
       es = supervised;
       meets = (
-        lent-started board good-old,
+        lent-started board good-old 63,
+        refl,
         record { old = refl; new = refl; different = refl },
         messages,
         lent-fresh board good-old 63 fromFileOne refl,
         refl,
         (other, (λ e. omega arith), tt),
+        tt,
       );
-      breaks = lent-breaks board good-old fromFileOne supervised (λ f. member (f .pending) 3) refl refl;
+      breaks = lent-breaks board good-old fromFileOne supervised tt (λ f. member (f .pending) 3) refl refl;
     }
 
 -- ---- every access is refused, and new, the supervisor's file, has not got identity 5
@@ -205,21 +219,23 @@ abbrev toFileOne : Stations
 toFileOne = record { oldHart = 0; oldFile = 2; newHart = 1; newFile = 1 }
 
 pub needs-guest-new : NeedsGuestNew
-unfolding NeedsGuestNew AllAccesses accessesIn PagesKept withMove withoutMove freshTest blockTests boardRun
+unfolding NeedsGuestNew AllAccesses accessesIn PagesKept CallsKept LogLong lent EventsSmall withMove withoutMove freshTest blockTests boardRun
 needs-guest-new =
     record {
       m = toFileOne;
       x = start;
       es = accessesOnly;
       meets = (
-        lent-started board good-old,
+        lent-started board good-old 63,
+        refl,
         record { old = refl; new = refl; different = refl },
         messages,
         lent-fresh board good-old 63 toFileOne refl,
         refl,
         tt,
+        tt,
       );
-      breaks = lent-breaks board good-old toFileOne accessesOnly (λ f. member (f .pending) 5) refl refl;
+      breaks = lent-breaks board good-old toFileOne accessesOnly tt (λ f. member (f .pending) 5) refl refl;
     }
 
 -- ---- every call is refused
@@ -240,22 +256,23 @@ shortLog = lent board 62
 stays : (cs : List Call) → boardIn (ran cs shortLog) ≡ board
 unfolding lent
 stays cs =
-    ap boardIn (refused-ran cs shortLog (lent-any board good-old 62 .block) (λ e. omega arith))
+    ap boardIn (refused-ran cs shortLog (lent-started board good-old 62 .block) (λ e. omega arith))
     ∙ lent-board board good-old 62
 
-pub needs-started : NeedsStarted
-unfolding NeedsStarted AllAccesses accessesIn PagesKept freshTest blockTests boardRun
-needs-started =
+pub needs-log-long : NeedsLogLong
+unfolding NeedsLogLong AllAccesses accessesIn PagesKept CallsKept LogLong lent EventsSmall freshTest blockTests boardRun
+needs-log-long =
     record {
       m = stations;
       x = shortLog;
       es = accessesOnly;
       meets = (
-        lent-any board good-old 62,
+        lent-started board good-old 62,
         two-guests,
         lent-messages board good-old 62 refl,
         lent-fresh board good-old 62 stations refl,
         refl,
+        tt,
         tt,
       );
       breaks = λ e. false≢true

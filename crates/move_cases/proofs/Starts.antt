@@ -14,8 +14,8 @@ use native.Mathlib.Omega.{arith}
 use lib.Dec.{eqb, ltb}
 use lib.ListN.{length, getD, replicate}
 use borrow.Author.Tests.{ltb-true, eqb-true}
-use Rattle.words.specs.Bits.{bitOf, hasBit}
-use Rattle.words.specs.Sets.{member, WordsFit}
+use Rattle.words.specs.Bits.{bitOf, hasBit, withBit}
+use Rattle.words.specs.Sets.{member, insert, WordsFit}
 use Rattle.words.specs.Parts.{fieldOf, packed}
 use Rattle.words.specs.Every.{every}
 use Rattle.words.proofs.TestsLaws.{and-first, and-second, not-same}
@@ -42,7 +42,7 @@ use Rattle.wired_rules.specs.Rules.{domaincfgRange, genmsiRange, structureRange
 use Rattle.wired_rules.specs.Rules.{genmsiRule}
 use Rattle.wired_rules.specs.Rules.{sourceRule, domainSound, delegatedRule, wiredSound}
 use Rattle.board_move_steps.specs.Names.{namesFile, renamed}
-use Rattle.sizes.specs.Sizes.{blockSize, savedSize}
+use Rattle.sizes.specs.Sizes.{blockSize, logSize, savedSize}
 use Rattle.board_block.specs.Block.{Board, boardOf, domainWords, wiredWords, blockOf, boardSound}
 use Rattle.board_block.specs.Start.{startFile, startFilesFrom, startDomain, startBoard}
 use Rattle.board_call.specs.declared.Call.{Call}
@@ -53,9 +53,10 @@ use Rattle.board_runs.specs.Ready.{boardIn, Ready, AllSmall}
 use Rattle.move_laws.specs.Shift.{Stations, Event, withMove, withoutMove}
 use Rattle.move_laws.specs.Premises.{Started, ByMessages, NoneNamesNew}
 use Rattle.move_laws.specs.Moved.{oldIn, newIn, Moved}
-use Rattle.move_cases.specs.Board.{station, machineDomain, childTo, wiredTo, boardWith, lent}
-use Rattle.move_cases.specs.Needed.{StartedNoLog}
-use Rattle.move_cases.proofs.BoardRun.{heldBy, boardRun, board-run, small-with, small-without}
+use Rattle.move_cases.specs.Board.{holding, station, stale, machineDomain, childTo, wiredTo}
+use Rattle.move_cases.specs.Board.{boardHaving, boardWith, lent}
+use Rattle.move_laws.proofs.EndEffects.{EventsSmall, small-with, small-without}
+use Rattle.move_cases.proofs.BoardRun.{heldBy, boardRun, board-run}
 
 -- ---- the tests
 
@@ -77,7 +78,8 @@ unfolding allBelow every wordsOf fileWords domainWords wiredWords blockOf file.f
     sourceRule domainSound delegatedRule wiredSound boardSound sourceAt domaincfgOf isEnabled byMessages
     hartOf guestOf numberOf receiverOf keptTarget isActive isLevel isRectified isGuest theFile deliveryLegal
     fieldOf packed member bitOf hasBit startFile startFilesFrom startDomain startBoard renamed fileNumber
-    withFile station machineDomain childTo wiredTo boardWith boardOf filesOf filesFrom fileAt wiredOf domainOf
+    withFile insert withBit holding station stale machineDomain childTo wiredTo boardHaving boardWith boardOf
+    filesOf filesFrom fileAt wiredOf domainOf
 blockTests b = eqb (length (blockOf b)) blockSize && allBelow (2 ^ 32) (blockOf b) && boardSound b
 
 unfoldable pub freshTest : Stations → Board → ℕ → Bool
@@ -95,11 +97,11 @@ barred false q e h = absurd (false≢true h)
 abbrev pub startOf : Board → call.Acted
 startOf b = record { board = b; saved = replicate savedSize 0 }
 
-pub ready-started : (x : Lent) → Started x → Ready x
-ready-started x s =
+pub ready-started : (x : Lent) → Started (x .block) (x .saved) → length (x .log) ≡ logSize → Ready x
+ready-started x s full =
     record {
       long = s .block;
-      full = s .log;
+      full = full;
       fit = fit-block (x .block) (s .block) (s .words) (s .rules);
       saved = s .saved-fit;
     }
@@ -113,18 +115,18 @@ module _ (b : Board) (good : Good b) (n : ℕ) where
   unfolding lent
   lent-board = good .back
 
-  pub lent-messages : byMessages (b .wired .child) ≡ true → ByMessages (lent b n)
-  unfolding ByMessages
-  lent-messages e = rw lent-board e
+  pub lent-messages : byMessages (b .wired .child) ≡ true → ByMessages (lent b n .block)
+  unfolding ByMessages lent
+  lent-messages e = rw (good .back) e
 
-  pub lent-fresh : (m : Stations) → every (freshTest m b) 1 63 ≡ true → NoneNamesNew m (lent b n)
-  unfolding NoneNamesNew freshTest
+  pub lent-fresh : (m : Stations) → every (freshTest m b) 1 63 ≡ true → NoneNamesNew m (lent b n .block)
+  unfolding NoneNamesNew freshTest lent
   lent-fresh m e i l h =
-      rw lent-board (barred _ _ (every-each (freshTest m b) 1 63 e i l (omega arith)))
+      rw (good .back) (barred _ _ (every-each (freshTest m b) 1 63 e i l (omega arith)))
 
-  pub lent-any : StartedNoLog (lent b n)
+  pub lent-started : Started (lent b n .block) (lent b n .saved)
   unfolding lent blockTests WordsFit
-  lent-any =
+  lent-started =
       let long : Bool = eqb (length (blockOf b)) blockSize in
       let fit : Bool = allBelow (2 ^ 32) (blockOf b) in
       let both = and-first (long && fit) (boardSound b) (good .tests) in
@@ -137,35 +139,26 @@ module _ (b : Board) (good : Good b) (n : ℕ) where
       }
 
 module _ (b : Board) (good : Good b) where
-  pub lent-started : Started (lent b 63)
+  pub lent-ready : Ready (lent b 63)
   unfolding lent
-  lent-started =
-      let s = lent-any b good 63 in
-      record {
-        block = s .block;
-        words = s .words;
-        rules = s .rules;
-        log = refl;
-        saved-long = s .saved-long;
-        saved-fit = s .saved-fit;
-      }
+  lent-ready = ready-started (lent b 63) (lent-started b good 63) refl
 
   -- what calls leave of it
   pub lent-ran : (cs : List Call) → AllSmall cs → heldBy (ran cs (lent b 63)) ≡ boardRun cs (startOf b)
   unfolding lent
   lent-ran cs small =
-      board-run cs (lent b 63) (ready-started (lent b 63) lent-started) small
+      board-run cs (lent b 63) lent-ready small
       ∙ ap (λ (c : Board). boardRun cs (startOf c)) (good .back)
 
   -- a shift that ends with another file, by a test of both files
-  pub lent-breaks : (m : Stations) (es : List Event) (t : File → Bool)
+  pub lent-breaks : (m : Stations) (es : List Event) → EventsSmall es → (t : File → Bool)
       → t (newIn m (boardRun (withMove m 0 es) (startOf b) .board)) ≡ false
       → t (oldIn m (boardRun (withoutMove m es) (startOf b) .board)) ≡ true
       → Moved m (boardIn (ran (withMove m 0 es) (lent b 63))) (boardIn (ran (withoutMove m es) (lent b 63)))
       → ⊥
-  lent-breaks m es t new old e =
-      let w = lent-ran (withMove m 0 es) (small-with m 0 es) in
-      let u = lent-ran (withoutMove m es) (small-without m es) in
+  lent-breaks m es small t new old e =
+      let w = lent-ran (withMove m 0 es) (small-with m es 0 small) in
+      let u = lent-ran (withoutMove m es) (small-without m es small) in
       not-same _ old
       (sym (ap (λ (y : call.Acted). t (oldIn m (y .board))) u) ∙ sym (ap t (e .station))
       ∙ ap (λ (y : call.Acted). t (newIn m (y .board))) w ∙ new)

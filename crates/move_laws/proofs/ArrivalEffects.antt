@@ -94,28 +94,34 @@ module _ (ns : ℕ → ℕ) (old new : ℕ) where
               ∙ sym (theFile-withFile-other gs old _ k a);
         }
 
+    -- a file that is neither is put in its place on both boards
+    pub put-other : (k : ℕ) → k ≢ new → k ≢ old → (x y : File) → x ≡ y
+        → FilesMoved n (withFile fs k x) (withFile gs k y) s
+    put-other k notNew notOld x y e =
+        record {
+          related =
+              rw (
+                theFile-withFile-other fs k x old (λ q. notOld (sym q)),
+                theFile-withFile-other fs k x new (λ q. notNew (sym q)),
+                theFile-withFile-other gs k y old (λ q. notOld (sym q)),
+              )
+              (r .related);
+          others = λ j l a b. at j l a b (ℕ-discrete j k);
+        }
+      where
+        at : (j : ℕ) → j < fileCount → j ≢ old → j ≢ new → Dec (j ≡ k)
+            → theFile (withFile fs k x) j ≡ theFile (withFile gs k y) j
+        at j l a b (yes q) =
+            rw q (theFile-withFile-same fs k x (omega arith) ∙ e
+            ∙ sym (theFile-withFile-same gs k y (omega arith)))
+        at j l a b (no d) =
+            theFile-withFile-other fs k x j d ∙ r .others j l a b ∙ sym (theFile-withFile-other gs k y j d)
+
     module _ (k : ℕ) (kLt : k < fileCount) (notNew : k ≢ new) where
       arrival-other : k ≢ old → FilesMoved n (arrivedAt ns fs k i) (arrivedAt ns gs k i) s
       arrival-other notOld =
-          record {
-            related =
-                rw (
-                  theFile-withFile-other fs k (here k) old (λ e. notOld (sym e)),
-                  theFile-withFile-other fs k (here k) new (λ e. notNew (sym e)),
-                  theFile-withFile-other gs k (there k) old (λ e. notOld (sym e)),
-                )
-                (r .related);
-            others = λ j l a b. at j l a b (ℕ-discrete j k);
-          }
-        where
-          at : (j : ℕ) → j < fileCount → j ≢ old → j ≢ new → Dec (j ≡ k)
-              → theFile (arrivedAt ns fs k i) j ≡ theFile (arrivedAt ns gs k i) j
-          at j l a b (yes e) =
-              rw e (theFile-withFile-same fs k _ (omega arith)
-              ∙ ap (λ (f : File). arrived (ns k) f i) (r .others k kLt notOld notNew)
-              ∙ sym (theFile-withFile-same gs k _ (omega arith)))
-          at j l a b (no d) =
-              theFile-withFile-other fs k _ j d ∙ r .others j l a b ∙ sym (theFile-withFile-other gs k _ j d)
+          put-other k notNew notOld (here k) (there k)
+          (ap (λ (f : File). arrived (ns k) f i) (r .others k kLt notOld notNew))
 
       -- a message for the same file on both boards; to old only while it is still read
       pub arrival-same : (k ≡ old → n < 72) → FilesMoved n (arrivedAt ns fs k i) (arrivedAt ns gs k i) s

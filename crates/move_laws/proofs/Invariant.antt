@@ -51,7 +51,7 @@ use Rattle.move_laws.specs.Shift.{Stations, isOld, isNew}
 use Rattle.move_laws.specs.Premises.{TwoGuests}
 use Rattle.move_laws.specs.Moved.{oldNumber, newNumber}
 use Rattle.move_laws.proofs.ArrivalEffects.{FilesMoved, arrivedAt, pageNumber, page-arrives}
-use Rattle.move_laws.proofs.ArrivalEffects.{arrival-same, arrival-new}
+use Rattle.move_laws.proofs.ArrivalEffects.{arrival-same, arrival-new, put-other}
 use Rattle.move_laws.proofs.ActedEffects.{guest-whole, acted-three, acted-others, acted-wired}
 
 -- how many identities each file has
@@ -71,7 +71,7 @@ machine-apart k h f there q =
     let parts = number-parts k 0 h f (omega arith) (guest-high h f there) q in
     omega (arith, guest-low h f there, parts .1)
 
-number-below : (h f : ℕ) → h < 4 → f < 5 → fileNumber h f < fileCount
+pub number-below : (h f : ℕ) → h < 4 → f < 5 → fileNumber h f < fileCount
 unfolding fileNumber
 number-below h f a b = omega arith
 
@@ -164,6 +164,21 @@ module _ (m : Stations) (g : TwoGuests m) where
               (omega (arith, number-read h f, number-lt h f there))
               (λ e. not-same _ (is-new h f (file-lt h f there) e) u)
               (λ e. toOld (is-old h f (file-lt h f there) e)))));
+          only = r .only;
+          targets = r .targets;
+          messages = r .messages;
+        }
+
+    -- ---- a call on a file that is neither old nor new
+
+    pub middle-other : (k : ℕ) → k ≢ newNumber m → k ≢ oldNumber m → (x y : File) → x ≡ y
+        → Middle n (onlyFile b k x) (onlyFile b′ k y) s
+    middle-other k notNew notOld x y e =
+        record {
+          files =
+              put-other identitiesAt (oldNumber m) (newNumber m) refl large-sized n (b .files) (b′ .files) s
+              (fit .shaped .many) (fit′ .shaped .many) (fit .files) (fit′ .files) (r .files) different old-lt
+              new-lt 0 k notNew notOld x y e;
           only = r .only;
           targets = r .targets;
           messages = r .messages;

@@ -2,6 +2,11 @@
 pub mod ArrivalEffects
 pub mod ActedEffects
 pub mod Invariant
+pub mod BesideEffects
+pub mod OnFileEffects
+pub mod WatchEffects
+pub mod OthersEffects
 pub mod ShiftEffects
 pub mod AfterEffects
 pub mod LeftEffects
+pub mod EndEffects

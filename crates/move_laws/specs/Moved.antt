@@ -4,27 +4,19 @@
 --   Moved m b b′           b, after the shift with the move, and b′, after the one without it: the file new
 --                          of b is the file old of b′; every file but these two, every wire, and every
 --                          pending and enable bit of both domains is the same
---   MoveKeeps              so it is for every move, start and shift that meets the premises
---   AccessesDone m n es x  every access of the shift is done, and none refused
---   MoveDone               so it is then, too
 -- Not claimed: the targets that step 3 rewrites differ by design; what new held before the move is lost;
 -- old is left with what it held at access 72, silent, as OldLeft of After says; and the logs are not
 -- compared, since their words name the files.
-use Prim.Native.Nat.{ℕ, suc, _<_}
+use Prim.Native.Nat.{ℕ, _<_}
 use mathlib.Core.Path.{_≡_}
 use mathlib.Core.Bool.{Bool}
-use mathlib.Core.List.{List, [], _∷_}
 use mathlib.Core.Logic.{_≢_}
 use Rattle.sizes.specs.Sizes.{fileCount}
 use Rattle.file.specs.declared.File.{File}
 use Rattle.files.specs.Files.{fileNumber, theFile}
 use Rattle.wired_state.specs.Wires.{domainIn}
 use Rattle.board_block.specs.Block.{Board}
-use Rattle.board_call.specs.declared.Call.the-variants.{Wire, PageWrite}
-use Rattle.board_runs.specs.Runs.{Lent, outcomeOn, after, ran}
-use Rattle.board_runs.specs.Ready.{boardIn}
-use Rattle.move_laws.specs.Shift.{Stations, Event, accessOf, withMove, withoutMove}
-use Rattle.move_laws.specs.Premises.{Premises}
+use Rattle.move_laws.specs.Shift.{Stations}
 
 abbrev pub oldNumber : Stations → ℕ
 oldNumber m = fileNumber (m .oldHart) (m .oldFile)
@@ -49,18 +41,3 @@ pub record Moved (m : Stations) (b b′ : Board) : Type 0 where
   pub machine : b .wired .machine ≡ b′ .wired .machine
   pub sources : b .wired .child .source ≡ b′ .wired .child .source
   pub structures : b .wired .child .delivery ≡ b′ .wired .child .delivery
-
-unfoldable pub MoveKeeps : Type 0
-MoveKeeps =
-    (m : Stations) (x : Lent) (es : List Event) → Premises m x es
-    → Moved m (boardIn (ran (withMove m 0 es) x)) (boardIn (ran (withoutMove m es) x))
-
-unfoldable pub AccessesDone : Stations → ℕ → List Event → Lent → Type 0
-AccessesDone m n [] x = Unit {0}
-AccessesDone m n (Event.wire i level ∷ es) x = AccessesDone m n es (after (Wire i level) x)
-AccessesDone m n (Event.page h f a v ∷ es) x = AccessesDone m n es (after (PageWrite h f a v) x)
-AccessesDone m n (Event.access ∷ es) x =
-    (outcomeOn (accessOf m (suc n)) x .number ≡ 0) × AccessesDone m (suc n) es (after (accessOf m (suc n)) x)
-
-unfoldable pub MoveDone : Type 0
-MoveDone = (m : Stations) (x : Lent) (es : List Event) → Premises m x es → AccessesDone m 0 es x

@@ -1,0 +1,113 @@
+-- A shift as it is made, each call with a log of its own and each access with the saved numbers that the last
+-- one gave: it leaves and answers what the shift does that hands one log on. No contract cites this file.
+-- Assumes nothing.
+use Prim.Native.Nat.{ℕ, suc}
+use mathlib.Core.Path.{_≡_, refl, sym, _∙_}
+use mathlib.Core.List.{List, [], _∷_, map}
+use lib.ListN.{replicate}
+use Rattle.board_move_steps.specs.Steps.{accesses}
+use Rattle.board_call.specs.Calls.{rowOf}
+use Rattle.board_call_laws.specs.Small.{Small}
+use Rattle.board_runs.specs.Runs.{Made, saidWhere, Lent, ran}
+use Rattle.board_runs.specs.Handed.{isAccess, HandedOn, Makes}
+use Rattle.board_runs.specs.Ready.{Ready, AllSmall}
+use Rattle.board_runs.proofs.MadeEffects.{Follows, follows, NoAccess, handed-none}
+use Rattle.move_laws.specs.Shift.{Stations, Event, elsewhere, withMove, withoutMove}
+use Rattle.move_laws.specs.Premises.{CallsKept, Premises}
+use Rattle.move_laws.specs.After.{FileCall, callOn, SmallCalls}
+use Rattle.move_laws.proofs.OnFileEffects.{small-on, no-access}
+use Rattle.move_laws.proofs.OthersEffects.{kept-no-access}
+use Rattle.move_laws.proofs.ShiftEffects.{nothing, lentFrom, started-ready, move-done, move-others}
+
+-- ---- the calls of a shift
+
+-- the calls besides have values of 64 bits
+unfoldable pub EventsSmall : List Event → Type 0
+EventsSmall [] = Unit {0}
+EventsSmall (Event.wire i level ∷ es) = EventsSmall es
+EventsSmall (Event.page h f a v ∷ es) = EventsSmall es
+EventsSmall (Event.access ∷ es) = EventsSmall es
+EventsSmall (Event.call c ∷ es) = Small c × EventsSmall es
+
+module _ (m : Stations) where
+  kept-small : (es : List Event) → CallsKept m es → EventsSmall es
+  unfolding EventsSmall CallsKept
+  kept-small [] q = tt
+  kept-small (Event.wire i level ∷ es) q = kept-small es q
+  kept-small (Event.page h f a v ∷ es) q = kept-small es q
+  kept-small (Event.access ∷ es) q = kept-small es q
+  kept-small (Event.call c ∷ es) q = (q .1, kept-small es (q .2))
+
+  pub small-with : (es : List Event) (n : ℕ) → EventsSmall es → AllSmall (withMove m n es)
+  unfolding withMove EventsSmall rowOf
+  small-with [] n q = tt
+  small-with (Event.wire i level ∷ es) n q = (tt, small-with es n q)
+  small-with (Event.page h f a v ∷ es) n q = (tt, small-with es n q)
+  small-with (Event.access ∷ es) n q = (tt, small-with es (suc n) q)
+  small-with (Event.call c ∷ es) n q = (q .0, small-with es n (q .1))
+
+  pub small-without : (es : List Event) → EventsSmall es → AllSmall (withoutMove m es)
+  unfolding withoutMove EventsSmall rowOf
+  small-without [] q = tt
+  small-without (Event.wire i level ∷ es) q = (tt, small-without es q)
+  small-without (Event.page h f a v ∷ es) q = (tt, small-without es q)
+  small-without (Event.access ∷ es) q = small-without es q
+  small-without (Event.call c ∷ es) q = (q .0, small-without es (q .1))
+
+  none-without : (es : List Event) → CallsKept m es → NoAccess (withoutMove m es)
+  unfolding withoutMove CallsKept NoAccess isAccess rowOf
+  none-without [] q = tt
+  none-without (Event.wire i level ∷ es) q = (refl, none-without es q)
+  none-without (Event.page h f a v ∷ es) q = (refl, none-without es q)
+  none-without (Event.access ∷ es) q = none-without es q
+  none-without (Event.call c ∷ es) q = (kept-no-access m c (q .0), none-without es (q .2))
+
+-- ---- the shift, with the move and without it
+
+module _ (m : Stations) (l s : List ℕ) (es : List Event) (ms ns : List Made) (p : Premises m l s es)
+    (with : Makes (withMove m 0 es) ms) (without : Makes (withoutMove m es) ns) (handed : HandedOn s ms l)
+  where
+    abbrev start : Lent
+    start = lentFrom l s
+
+    abbrev here : Lent
+    here = ran (withMove m 0 es) start
+
+    abbrev there : Lent
+    there = ran (withoutMove m es) start
+
+    ready : Ready start
+    ready = started-ready l s (p .started)
+
+    pub follows-here : Follows (withMove m 0 es) ms start
+    follows-here = follows (withMove m 0 es) ms start ready (small-with m es 0 (kept-small m es (p .calls))) with handed
+
+    pub follows-there : Follows (withoutMove m es) ns start
+    follows-there =
+        follows (withoutMove m es) ns start ready (small-without m es (kept-small m es (p .calls))) without
+        (handed-none (withoutMove m es) ns s l without (none-without m es (p .calls)))
+
+    pub accesses-said : saidWhere isAccess ms l ≡ replicate accesses nothing
+    accesses-said = follows-here .said isAccess ∙ move-done m l s es p
+
+    pub others-said : saidWhere (elsewhere m) ms l ≡ saidWhere (elsewhere m) ns l
+    others-said =
+        follows-here .said (elsewhere m) ∙ move-others m l s es p ∙ sym (follows-there .said (elsewhere m))
+
+-- ---- calls on one file
+
+module _ (h f : ℕ) where
+  small-calls : (cs : List FileCall) → SmallCalls cs → AllSmall (map (callOn h f) cs)
+  small-calls [] small = tt
+  small-calls (c ∷ cs) small = (small-on h f c (small .0), small-calls cs (small .1))
+
+  none-calls : (cs : List FileCall) → NoAccess (map (callOn h f) cs)
+  unfolding NoAccess
+  none-calls [] = tt
+  none-calls (c ∷ cs) = (no-access h f c, none-calls cs)
+
+  pub follows-calls : (cs : List FileCall) (ms : List Made) (x : Lent) → Ready x → SmallCalls cs
+      → Makes (map (callOn h f) cs) ms → Follows (map (callOn h f) cs) ms x
+  follows-calls cs ms x ready small makes =
+      follows (map (callOn h f) cs) ms x ready (small-calls cs small) makes
+      (handed-none (map (callOn h f) cs) ms (x .saved) (x .block) makes (none-calls cs))
