@@ -50,8 +50,8 @@ def inline(text, link, inside=False):
 
 def row(line, cell, link):
     cells = re.split(r'(?<!\\)\|', line.strip().strip('|'))
-    # a sentence's own row begins with its name
-    named = re.match(r'\s*([A-Z]\d+(?:\.\d+)?) ', cells[0])
+    # a sentence's own row begins with its name, and one of the standard with its place
+    named = re.match(r'\s*([A-Z]\d+(?:\.\d+)?|\d+(?:\.\d+)*-\d+(?:\.\d+)?) ', cells[0])
     mark = ' id="%s"' % named.group(1) if named else ''
     return '<tr%s>%s</tr>' % (mark, ''.join('<%s>%s</%s>' % (cell, inline(c.strip(), link), cell) for c in cells))
 

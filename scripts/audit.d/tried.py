@@ -17,9 +17,9 @@ def rows(path):
 
 
 def sentences():
-    """The sentences of the list, by name."""
+    """The sentences of the list, by name: their words, without a sentence's place and sum."""
     text = Path('docs/sentences.txt').read_text(encoding='utf-8')
-    return dict(re.findall(r'^([A-Z]\d+(?:\.\d+)?) (.+)$', text, re.M))
+    return dict(re.findall(r'^([A-Z]\d+(?:\.\d+)?) (?:\d+\.\d+(?:-\d+)? [0-9a-f]{8} )?(.+)$', text, re.M))
 
 
 def edits():

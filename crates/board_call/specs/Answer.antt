@@ -10,7 +10,7 @@ use Rattle.board_call.specs.declared.Answer.the-variants.{Done, StateLen
 use Rattle.board_call.specs.declared.Answer.the-variants.{NoSuch}
 use Rattle.board_call.specs.declared.Answer.the-variants.{BadAddress, IllegalSelect}
 
--- [01 C8]
+-- [01 C8 P16]
 abbrev pub refusalNumber : Answer → ℕ
 refusalNumber (Done v n) = 0
 refusalNumber StateLength = 1

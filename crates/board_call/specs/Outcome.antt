@@ -80,7 +80,7 @@ unfoldable pub outcome : Call → List ℕ → List ℕ → List ℕ → Outcome
 outcome c l g s =
     let n = refusalOf c l g in cond (eqb n 0) (doneAs (step c (boardOf l) s) g) (refusedAs n l g s)
 
--- [01 X1 X2 X3]
+-- [01 P17 X1 X2 X3]
 pub record Gives (o : Outcome) (r : Answer) (l g s : List ℕ) : Type 0 where
   pub number : refusalNumber r ≡ o .number
   pub value : answerValue r ≡ o .value

@@ -21,7 +21,7 @@ RefusedAs r n = (refusalNumber r ≡ n) × (answerValue r ≡ 0) × (answerCount
 -- state block's length, 2 for the log's, 3 for a broken state rule, 4 for what is not there, 5 for an
 -- address, 6 for a select number, each with 0 and 0; and what a contract lets a call answer and leave is,
 -- place by place, what its outcome has
--- [01 C8 X1]
+-- [01 C8 P16 P17 X1]
 unfoldable pub Claim-177 : Type 0
 Claim-177 =
     ((v n : ℕ)
