@@ -41,8 +41,10 @@ class Row:
         self.words, self.line, self.answers = words, line, []
         self.name = f'{section}-{place}' + (f'.{sub}' if sub else '')
 
-    def kind(self):
-        return self.answers[0][0] if self.answers else 'note'
+    def counts(self, kind):
+        """A row counts by what stands first in it, and among those left open wherever it names a decided point."""
+        kinds = [kind for kind, _ in self.answers] or ['note']
+        return kind in kinds if kind == 'left open' else kind == kinds[0]
 
 
 def read():
@@ -85,6 +87,9 @@ def findings(found, sentences, decisions, claims):
             if row.name in names:
                 yield f'{where} has a row already'
             names.add(row.name)
+            before = f'{row.section}-{row.place}.{int(row.sub or 1) - 1}'
+            if row.sub and row.sub != '1' and before not in names:
+                yield f'{where} stands where {before} is missing'
             if row.words and not row.answers:
                 yield f'{where} has nothing that answers it'
             for kind, those in row.answers:
@@ -95,6 +100,14 @@ def findings(found, sentences, decisions, claims):
                     yield from (f'{where} names {name}, which there is not'
                                 for name in those.split() if name not in known.get(kind, sentences))
     yield from (f'{LIST}:1: {gap}' for gap in papers.gaps(places(found)))
+
+
+def counted(found):
+    """How many rows there are, and what answers them, as README says it."""
+    rows = [row for _, rows in found for row in rows if row.words]
+    of = {kind: sum(row.counts(kind) for row in rows) for kind in KINDS}
+    return (f'{len(rows)} rows: {of["claims"]} with claims, {of["01 decides"]} that paper 01 decides, '
+            f'{of["not here"]} that it leaves out, {of["no claim"]} with no claim; {of["left open"]} rest on a decided point')
 
 
 def answered(row):
@@ -109,10 +122,11 @@ def answered(row):
 
 def numbers(found):
     kinds = [*KINDS, 'note']
-    table = [(heading.split()[0], *(sum(row.kind() == kind for row in rows) for kind in kinds))
+    table = [(heading.split()[0], *(sum(row.counts(kind) for row in rows) for kind in kinds))
              for heading, rows in found]
     table.append(('all', *(sum(line[k] for line in table) for k in range(1, len(kinds) + 1))))
-    yield f'\n## In numbers\n\nA row counts by what stands first in it.\n\n| section | {" | ".join(kinds)} |\n'
+    yield '\n## In numbers\n\nA row counts by what stands first in it, and as left open if it names a decided point.\n\n'
+    yield f'| section | {" | ".join(kinds)} |\n'
     yield '|---' * (len(kinds) + 1) + '|\n'
     yield from ('| ' + ' | '.join(map(str, line)) + ' |\n' for line in table)
 
