@@ -195,7 +195,6 @@ Claim-181 =
 -- source bring messages to old before they change over and to new after it, in the middle of steps too, and
 -- another station claims; at the end new is the file that the station would have had, with its bits in four
 -- words of 64 and its threshold of 200, and has nothing of what it held before
--- [01 V18]
 unfoldable pub Claim-111 : Type 0
 Claim-111 = Example
 
