@@ -37,6 +37,8 @@ def inline(text, link, inside=False):
     text = re.sub(r'`([^`]+)`', quoted, text)
     text = re.sub(r'(!?)\[([^\]]*)\]\(([^)\s]+)\)', linked, text)
     text = re.sub(r'\b(?:Claim|Demand|Request)-\d+\b', lambda m: numbered(m.group(0), 'claim'), text)
+    # a sentence of paper 01 is named with the paper, 01 F3
+    text = re.sub(r'\b01 ([A-Z]\d+)\b', lambda m: '01 ' + numbered(m.group(1), 'sentence'), text)
     # a decision's own paragraph begins with its number
     text = re.sub(r'^\*\*(D\d+)\.', lambda m: keep('<a id="%s"></a>' % m.group(1)) + m.group(0), text)
     text = re.sub(r'(?<!\*\*)\bD\d+\b', lambda m: numbered(m.group(0), 'decision'), text)
@@ -88,7 +90,7 @@ STARTS = r'(#+ |```|\||[-*] |\d+\. )'
 
 
 def to_html(text, link):
-    """link gives a link's place, and that of 'claim:NAME', 'decision:NAME' or 'built:NAME', or None if there is none."""
+    """link gives a link's place, and that of 'claim:', 'decision:', 'sentence:' or 'built:' NAME, or None for none."""
     lines, out, k = text.split('\n'), [], 0
     while k < len(lines):
         line = lines[k]

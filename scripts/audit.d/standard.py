@@ -106,8 +106,8 @@ def counted(found):
     """How many rows there are, and what answers them, as README says it."""
     rows = [row for _, rows in found for row in rows if row.words]
     of = {kind: sum(row.counts(kind) for row in rows) for kind in KINDS}
-    return (f'{len(rows)} rows: {of["claims"]} with claims, {of["01 decides"]} that paper 01 decides, '
-            f'{of["not here"]} that it leaves out, {of["no claim"]} with no claim; {of["left open"]} rest on a decided point')
+    return (f'{len(rows)} rows: {of["claims"]} with claims, {of["01 decides"]} that paper 01 decides, {of["not here"]} '
+            f'that it leaves out, {of["no claim"]} with no claim; {of["left open"]} rest on a decided point')
 
 
 def answered(row):
@@ -125,7 +125,7 @@ def numbers(found):
     table = [(heading.split()[0], *(sum(row.counts(kind) for row in rows) for kind in kinds))
              for heading, rows in found]
     table.append(('all', *(sum(line[k] for line in table) for k in range(1, len(kinds) + 1))))
-    yield '\n## In numbers\n\nA row counts by what stands first in it, and as left open if it names a decided point.\n\n'
+    yield '\n## In numbers\n\nA row counts by what stands first in it, as left open if it names a decided point.\n\n'
     yield f'| section | {" | ".join(kinds)} |\n'
     yield '|---' * (len(kinds) + 1) + '|\n'
     yield from ('| ' + ' | '.join(map(str, line)) + ' |\n' for line in table)
