@@ -34,7 +34,8 @@ pub record Alike (o o′ : Outcome) : Type 0 where
   pub block : o .block ≡ o′ .block
 
 module _ (c : Call) (l g g′ s : List ℕ) (same : length g ≡ length g′) where
-  pub outcome-log : Alike (outcome c l g s) (outcome c l g′ s) × (outcome c l g s .saved ≡ outcome c l g′ s .saved)
+  pub outcome-log : Alike (outcome c l g s) (outcome c l g′ s)
+      × (outcome c l g s .saved ≡ outcome c l g′ s .saved)
   outcome-log = at (ℕ-discrete (refusalOf c l g) 0)
     where
       again : refusalOf c l g′ ≡ refusalOf c l g

@@ -1,5 +1,5 @@
--- Claims 175, 178, 187 and 188, from the definitions of the premises, line by line, and from the law that the board of
--- a block that keeps the rules is fit. Assumes nothing.
+-- Claims 175, 178, 187 and 188, from the definitions of the premises, line by line, and from the law that
+-- the board of a block that keeps the rules is fit. Assumes nothing.
 use Prim.Native.Nat.{ℕ, suc, _+_, _^_, _≤_, _<_}
 use mathlib.Core.Path.{_≡_, refl, sym, ap, subst}
 use mathlib.Core.Bool.{Bool, true, false, not, _&&_, _||_, false≢true}
@@ -354,7 +354,10 @@ claim-187 = (
             k .2,
           )),
         ),
-        (subst (λ (k : ℕ). PagesWithin y z m k es) next, subst (λ (k : ℕ). PagesWithin y z m k es) (sym next)),
+        (
+          subst (λ (k : ℕ). PagesWithin y z m k es) next,
+          subst (λ (k : ℕ). PagesWithin y z m k es) (sym next),
+        ),
         ((λ p. p), (λ p. p)),
         tt,
         ((λ p. p), (λ p. p)),

@@ -248,7 +248,8 @@ claim-180 m l s es ms ns a b c d e f g h i j =
     let p = premises m l s es ms ns a b c d e f g h i j in
     let left = move-leaves m l s es p in
     let held = move-held m l s es p in
-    rw (left-here m l s es ms ns a b c d e f g h i j, follows-with m l s es ms ns a b c d e f g h i j .saved) (
+    let kept = follows-with m l s es ms ns a b c d e f g h i j .saved in
+    rw (left-here m l s es ms ns a b c d e f g h i j, kept) (
       left .silent,
       left .signal,
       left .unnamed,

@@ -1,6 +1,7 @@
--- Claims 175, 178, 187 and 188: what 01 asks of a move, each premise in plain numbers; the two shifts that are
--- compared, event by event; that what is lent by the rules is ready for calls; and what the shifts of claims
--- 111, 112 and 186 are told with. 01, "The move, with its premises", "Calls and their refusals", "State rules".
+-- Claims 175, 178, 187 and 188: what 01 asks of a move, each premise in plain numbers; the two shifts that
+-- are compared, event by event; that what is lent by the rules is ready for calls; and what the shifts of
+-- claims 111, 112 and 186 are told with. 01, "The move, with its premises", "Calls and their refusals",
+-- "State rules".
 --   Ready x          what the claims on calls one after the other ask of what is lent
 --   Small c          what they ask of a call, and SmallCalls cs of calls on a file
 --   Fit b            what the claims on one call ask of a board
@@ -43,8 +44,8 @@ use Rattle.move_cases.specs.Needed.{PagesWithin, LogLong, AnyOld, AnyNew, Besid
 -- different files 2 to 4 of harts 0 to 3; at the start no active source of the child names new, the child is
 -- not in direct mode, and what is lent has its lengths and keeps the rules; the accesses are 89, with their
 -- numbers in order; nobody writes to new before access 8, nor to old from access 72 on; a call besides only
--- reads, or is one on a file that is neither; and the compared shift has the same wires, page writes and calls,
--- the page writes to new going to old, and no access
+-- reads, or is one on a file that is neither; and the compared shift has the same wires, page writes and
+-- calls, the page writes to new going to old, and no access
 -- [01 V12 V13 V22 V23 V25 V26 V27 V28 V29]
 unfoldable pub Claim-175 : Type 0
 Claim-175 =
@@ -123,10 +124,10 @@ Claim-178 =
 
 -- ---- the words of the claims on the move
 
--- a call is elsewhere exactly if it is a call on one file, old nor new, or asks for the signals of a hart that
--- has neither; a call on a file is the one that it is named after; `Moved`, which the shifts of claims 111,
--- 112 and 186 end with or do not, says what Claim-105 does; and the premises that these weaken say this and no
--- more
+-- a call is elsewhere exactly if it is a call on one file, old nor new, or asks for the signals of a hart
+-- that has neither; a call on a file is the one that it is named after; `Moved`, which the shifts of claims
+-- 111, 112 and 186 end with or do not, says what Claim-105 does; and the premises that these weaken say this
+-- and no more
 unfoldable pub Claim-187 : Type 0
 Claim-187 =
     ((m : Stations) (a d f h k level n nf nh of oh s v w : ℕ)
@@ -179,8 +180,8 @@ Claim-187 =
     × (m .oldHart ≡ m .newHart → m .oldFile ≡ m .newFile → ⊥))))
     × ((x : Lent) → LogLong x ↔ (length (x .log) ≡ 63))
 
--- a premise is too weak exactly if some stations, a start and a shift meet it, and the shift with the move, with
--- one log handed on, does not end as without it
+-- a premise is too weak exactly if some stations, a start and a shift meet it, and the shift with the move,
+-- with one log handed on, does not end as without it
 unfoldable pub Claim-188 : Type 1
 Claim-188 =
     (P : Stations → Lent → List Event → Type 0)

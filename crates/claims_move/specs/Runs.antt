@@ -4,8 +4,8 @@
 --   leftBy ms l    the block that the calls ms leave of l; saidWhere p ms l, what those of them answer that p
 --                  picks; savedBy s ms l, the saved numbers that the accesses of a move among them leave of s
 --   handing cs x   the calls cs, each with the log and the saved numbers that the last one left
--- Premises: of Claim-183 that both logs have one length; of the last part of Claim-184 `Ready x` and `AllSmall
--- cs`, which Claim-178 has in plain numbers. The rest has none. No axioms.
+-- Premises: of Claim-183 that both logs have one length; of the last part of Claim-184 `Ready x` and
+-- `AllSmall cs`, which Claim-178 has in plain numbers. The rest has none. No axioms.
 use Prim.Native.Nat.{ℕ}
 use mathlib.Core.Path.{_≡_}
 use mathlib.Core.Bool.{Bool, true, false}

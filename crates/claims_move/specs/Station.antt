@@ -5,12 +5,12 @@
 --                    the block l on, where the premises are met: s is the saved numbers that the first access
 --                    brings. Each is a definition of Rattle.move_laws, Premises, or of Rattle.board_runs
 -- Premises: of Claim-104 `Ready x`, 650 words of a board that keeps the rules and whose files have words of
--- 32 bits, 63 words of log and saved numbers of 64 bits, and `Small c`, a value of 64 bits; of claims
--- 105 to 110, 180 and 185 the six of 01, `Started`, `TwoGuests`, `ByMessages`, `NoneNamesNew`, `AllAccesses`
--- and `PagesKept`, which Claim-111 shows can be met, and Claim-112 that each is needed; `CallsKept`, what else
+-- 32 bits, 63 words of log and saved numbers of 64 bits, and `Small c`, a value of 64 bits; of claims 105 to
+-- 110, 180 and 185 the six of 01, `Started`, `TwoGuests`, `ByMessages`, `NoneNamesNew`, `AllAccesses` and
+-- `PagesKept`, which Claim-111 shows can be met, and Claim-112 that each is needed; `CallsKept`, what else
 -- may be called, where 01 has no call at all; and `Makes` and `HandedOn`, what each call brings: a log of 63
--- words, and an access the saved numbers that the last one gave; of Claim-110 besides `SmallCalls cs`, register
--- values of 64 bits in the calls afterwards. Claims 111, 112, 181 and 186 have none. No axioms.
+-- words, and an access the saved numbers that the last one gave; of Claim-110 besides `SmallCalls cs`,
+-- register values of 64 bits in the calls afterwards. Claims 111, 112, 181 and 186 have none. No axioms.
 use Prim.Native.Nat.{ℕ, _+_, _*_, _/_, _%_, _≤_, _<_}
 use mathlib.Core.Path.{_≡_}
 use mathlib.Core.Bool.{Bool, true, false}
@@ -146,10 +146,10 @@ unfoldable pub Claim-185 : Type 0
 Claim-185 = MovedWhere (λ m l s ms ns. saidWhere (elsewhere m) ms l ≡ saidWhere (elsewhere m) ns l)
 
 -- what is left of the old file is silent: its delivery is 0, it signals its hart no more, no target of the
--- child names it, of an active source or not, and no wire set afterwards changes it. What it holds was carried
--- over: its pending and enable bits are those of the saved numbers, every bit that is pending in it is pending
--- in new, and its enable bits and threshold are new's. So whoever uses it again and does not clear its pending
--- bits first has these scans twice
+-- child names it, of an active source or not, and no wire set afterwards changes it. What it holds was
+-- carried over: its pending and enable bits are those of the saved numbers, every bit that is pending in it
+-- is pending in new, and its enable bits and threshold are new's. So whoever uses it again and does not
+-- clear its pending bits first has these scans twice
 unfoldable pub Claim-180 : Type 0
 Claim-180 =
     MovedWhere (λ m l s ms ns. let b = boardOf (leftBy ms l) in
@@ -167,10 +167,10 @@ Claim-180 =
     × (old .enable ≡ new .enable) × (old .threshold ≡ new .threshold))
 
 -- what only reads may be called at any moment of a shift, in the middle of a move too: a page read, a top,
--- the signals, a read of a file's register or of a word of a domain that is no claimi, and no other call. Each
--- leaves the block, the log and the saved numbers as they were, accepted or refused. So a run leaves what it
--- leaves without them, and two runs that are the same without them leave the same: a run that is a shift of
--- Claim-105 once its reading calls are left out ends as that claim says
+-- the signals, a read of a file's register or of a word of a domain that is no claimi, and no other call.
+-- Each leaves the block, the log and the saved numbers as they were, accepted or refused. So a run leaves
+-- what it leaves without them, and two runs that are the same without them leave the same: a run that is a
+-- shift of Claim-105 once its reading calls are left out ends as that claim says
 unfoldable pub Claim-181 : Type 0
 Claim-181 =
     ((a d f h k level n nf nh of oh s v w : ℕ)
@@ -207,8 +207,8 @@ Claim-112 =
     NeedsAll × PagesAre × NeedsPagesNew × NeedsPagesOld × NeedsFresh × NeedsMessages × NeedsGuestOld
     × NeedsGuestNew × NeedsLogLong
 
--- and so is that other calls are held back: with a claim of the moved station from old, or from new, a write to
--- a register of old, one to a target of the child, or a reset between the accesses, there is a start and a shift
--- whose end differs
+-- and so is that other calls are held back: with a claim of the moved station from old, or from new, a write
+-- to a register of old, one to a target of the child, or a reset between the accesses, there is a start and
+-- a shift whose end differs
 unfoldable pub Claim-186 : Type 0
 Claim-186 = NeedsNoClaimOld × NeedsNoClaimNew × NeedsNoWriteOld × NeedsNoTarget × NeedsNoReset

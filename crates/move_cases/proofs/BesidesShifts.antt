@@ -34,7 +34,16 @@ needs-no-claim-old =
       m = stations;
       x = start;
       es = claimedOld;
-      meets = (lent-started board good-old 63, refl, two-guests, messages, fresh, refl, tt, (inr refl, tt, tt));
+      meets = (
+        lent-started board good-old 63,
+        refl,
+        two-guests,
+        messages,
+        fresh,
+        refl,
+        tt,
+        (inr refl, tt, tt),
+      );
       breaks = lent-breaks board good-old stations claimedOld (tt, tt) (λ f. not (member (f .pending) 5)) refl
           refl;
     }
@@ -52,7 +61,16 @@ needs-no-claim-new =
       m = stations;
       x = start;
       es = claimedNew;
-      meets = (lent-started board good-old 63, refl, two-guests, messages, fresh, refl, tt, (inr refl, tt, tt));
+      meets = (
+        lent-started board good-old 63,
+        refl,
+        two-guests,
+        messages,
+        fresh,
+        refl,
+        tt,
+        (inr refl, tt, tt),
+      );
       breaks = lent-breaks board good-old stations claimedNew (tt, tt) (λ f. member (f .pending) 5) refl refl;
     }
 
@@ -86,7 +104,8 @@ needs-no-write-old =
 -- ---- the target names old again, and so does not follow the station
 
 abbrev targetWritten : List Event
-targetWritten = replicate 9 access ++ (call (DomainWrite 1 0x3004 0x1007) ∷ replicate 80 access) ++ (wire 1 1 ∷ [])
+targetWritten =
+    replicate 9 access ++ (call (DomainWrite 1 0x3004 0x1007) ∷ replicate 80 access) ++ (wire 1 1 ∷ [])
 
 pub needs-no-target : NeedsNoTarget
 unfolding NeedsNoTarget AllAccesses accessesIn PagesKept LogLong Besides EventsSmall rowOf lent withMove
@@ -96,8 +115,18 @@ needs-no-target =
       m = stations;
       x = start;
       es = targetWritten;
-      meets = (lent-started board good-old 63, refl, two-guests, messages, fresh, refl, tt, (inr refl, tt, tt));
-      breaks = lent-breaks board good-old stations targetWritten (tt, tt) (λ f. member (f .pending) 7) refl refl;
+      meets = (
+        lent-started board good-old 63,
+        refl,
+        two-guests,
+        messages,
+        fresh,
+        refl,
+        tt,
+        (inr refl, tt, tt),
+      );
+      breaks = lent-breaks board good-old stations targetWritten (tt, tt) (λ f. member (f .pending) 7) refl
+          refl;
     }
 
 -- ---- the accesses after a reset are refused, and identity 9 stays in old

@@ -161,14 +161,20 @@ example =
       premises = example-premises;
       early-old = seen early early-small (oldIn stations) ∙ refl;
       early-new = seen early early-small (newIn stations) ∙ refl;
-      edge-count = ap (λ (o : Outcome). o .count) (next-outcome (early ++ edgeOver) edge-small (rises 1) tt refl) ∙ refl;
-      edge-word = ap (λ (o : Outcome). getD (o .log) 0 0) (next-outcome (early ++ edgeOver) edge-small (rises 1) tt refl) ∙ refl;
+      edge-count =
+          ap (λ (o : Outcome). o .count) (next-outcome (early ++ edgeOver) edge-small (rises 1) tt refl)
+          ∙ refl;
+      edge-word =
+          ap (λ (o : Outcome). getD (o .log) 0 0)
+          (next-outcome (early ++ edgeOver) edge-small (rises 1) tt refl)
+          ∙ refl;
       over-old = seen over over-small (oldIn stations) ∙ refl;
       over-new = seen over over-small (newIn stations) ∙ refl;
       other-claim =
           ap (λ (o : Outcome). o .value) (next-outcome claiming claiming-small (Claim 0 3) tt refl) ∙ refl;
       level-count = ap (λ (o : Outcome). o .count) (next-outcome over over-small (rises 40) tt refl) ∙ refl;
-      level-word = ap (λ (o : Outcome). getD (o .log) 0 0) (next-outcome over over-small (rises 40) tt refl) ∙ refl;
+      level-word =
+          ap (λ (o : Outcome). getD (o .log) 0 0) (next-outcome over over-small (rises 40) tt refl) ∙ refl;
       level-new = ap (newIn stations) (next-board over over-small (rises 40) tt refl) ∙ refl;
       done =
           ap (λ (x : Lent). saidWhere isAccess (handing (withMove stations 0 shift) x) (start .block))

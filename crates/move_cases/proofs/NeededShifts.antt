@@ -26,9 +26,9 @@ use Rattle.move_laws.specs.Premises.{CallsKept}
 use Rattle.move_laws.specs.Moved.{oldIn, newIn}
 use Rattle.move_laws.proofs.EndEffects.{EventsSmall}
 use Rattle.move_cases.specs.Board.{stations, wiredTo, boardWith, lent}
-use Rattle.move_cases.specs.Needed.{LogLong, PagesWithin, PagesAre, NeedsAll, NeedsPagesNew, NeedsPagesOld}
-use Rattle.move_cases.specs.Needed.{NeedsFresh, NeedsMessages, NeedsGuestOld, NeedsGuestNew}
-use Rattle.move_cases.specs.Needed.{NeedsLogLong}
+use Rattle.move_cases.specs.Needed.{LogLong, PagesWithin, PagesAre, NeedsAll, NeedsPagesNew}
+use Rattle.move_cases.specs.Needed.{NeedsPagesOld, NeedsFresh, NeedsMessages, NeedsGuestOld}
+use Rattle.move_cases.specs.Needed.{NeedsGuestNew, NeedsLogLong}
 use Rattle.move_cases.proofs.BoardRun.{boardRun}
 use Rattle.move_cases.proofs.Starts.{blockTests, freshTest, lent-board, lent-messages, lent-fresh}
 use Rattle.move_cases.proofs.Starts.{lent-started, lent-breaks, good-old, good-new}
@@ -71,14 +71,16 @@ fresh = lent-fresh board good-old 63 stations refl
 -- ---- old signals, and new does not signal again before access 89
 
 pub needs-all : NeedsAll
-unfolding NeedsAll accessesIn PagesKept CallsKept LogLong lent EventsSmall withMove withoutMove blockTests boardRun
+unfolding NeedsAll accessesIn PagesKept CallsKept LogLong lent EventsSmall withMove withoutMove blockTests
+    boardRun
 needs-all =
     record {
       m = stations;
       x = start;
       es = replicate 88 access;
       meets = (lent-started board good-old 63, refl, two-guests, messages, fresh, refl, tt, tt);
-      breaks = lent-breaks board good-old stations (replicate 88 access) tt (λ f. eqb (f .delivery) 1) refl refl;
+      breaks = lent-breaks board good-old stations (replicate 88 access) tt (λ f. eqb (f .delivery) 1) refl
+          refl;
     }
 
 -- ---- access 8 clears identity 200 in new
@@ -87,7 +89,8 @@ abbrev tooEarly : List Event
 tooEarly = replicate 7 access ++ (page 1 3 0 200 ∷ replicate 82 access)
 
 pub needs-pages-new : NeedsPagesNew
-unfolding NeedsPagesNew AllAccesses accessesIn PagesWithin CallsKept LogLong lent EventsSmall withMove withoutMove blockTests boardRun
+unfolding NeedsPagesNew AllAccesses accessesIn PagesWithin CallsKept LogLong lent EventsSmall withMove
+    withoutMove blockTests boardRun
 needs-pages-new =
     record {
       m = stations;
@@ -112,7 +115,8 @@ abbrev tooLate : List Event
 tooLate = replicate 72 access ++ (page 0 2 0 3 ∷ replicate 17 access)
 
 pub needs-pages-old : NeedsPagesOld
-unfolding NeedsPagesOld AllAccesses accessesIn PagesWithin CallsKept LogLong lent EventsSmall withMove withoutMove blockTests boardRun
+unfolding NeedsPagesOld AllAccesses accessesIn PagesWithin CallsKept LogLong lent EventsSmall withMove
+    withoutMove blockTests boardRun
 needs-pages-old =
     record {
       m = stations;
@@ -140,7 +144,8 @@ abbrev sentToNew : List Event
 sentToNew = replicate 8 access ++ (wire 1 1 ∷ replicate 81 access)
 
 pub needs-fresh : NeedsFresh
-unfolding NeedsFresh AllAccesses accessesIn PagesKept CallsKept LogLong lent EventsSmall withMove withoutMove blockTests boardRun
+unfolding NeedsFresh AllAccesses accessesIn PagesKept CallsKept LogLong lent EventsSmall withMove withoutMove
+    blockTests boardRun
 needs-fresh =
     record {
       m = stations;
@@ -155,7 +160,8 @@ needs-fresh =
         tt,
         tt,
       );
-      breaks = lent-breaks namingNew good-new stations sentToNew tt (λ f. not (member (f .pending) 7)) refl refl;
+      breaks = lent-breaks namingNew good-new stations sentToNew tt (λ f. not (member (f .pending) 7)) refl
+          refl;
     }
 
 -- ---- every access is refused, and identity 5 stays in old
@@ -167,7 +173,8 @@ abbrev direct : Board
 direct = boardWith (startBoard .wired)
 
 pub needs-messages : NeedsMessages
-unfolding NeedsMessages AllAccesses accessesIn PagesKept CallsKept LogLong lent EventsSmall withMove withoutMove freshTest blockTests boardRun
+unfolding NeedsMessages AllAccesses accessesIn PagesKept CallsKept LogLong lent EventsSmall withMove
+    withoutMove freshTest blockTests boardRun
 needs-messages =
     record {
       m = stations;
@@ -194,7 +201,8 @@ abbrev supervised : List Event
 supervised = page 0 1 0 3 ∷ accessesOnly
 
 pub needs-guest-old : NeedsGuestOld
-unfolding NeedsGuestOld AllAccesses accessesIn PagesKept CallsKept LogLong lent EventsSmall withMove withoutMove freshTest blockTests boardRun
+unfolding NeedsGuestOld AllAccesses accessesIn PagesKept CallsKept LogLong lent EventsSmall withMove
+    withoutMove freshTest blockTests boardRun
 needs-guest-old =
     record {
       m = fromFileOne;
@@ -219,7 +227,8 @@ abbrev toFileOne : Stations
 toFileOne = record { oldHart = 0; oldFile = 2; newHart = 1; newFile = 1 }
 
 pub needs-guest-new : NeedsGuestNew
-unfolding NeedsGuestNew AllAccesses accessesIn PagesKept CallsKept LogLong lent EventsSmall withMove withoutMove freshTest blockTests boardRun
+unfolding NeedsGuestNew AllAccesses accessesIn PagesKept CallsKept LogLong lent EventsSmall withMove
+    withoutMove freshTest blockTests boardRun
 needs-guest-new =
     record {
       m = toFileOne;
@@ -260,7 +269,8 @@ stays cs =
     ∙ lent-board board good-old 62
 
 pub needs-log-long : NeedsLogLong
-unfolding NeedsLogLong AllAccesses accessesIn PagesKept CallsKept LogLong lent EventsSmall freshTest blockTests boardRun
+unfolding NeedsLogLong AllAccesses accessesIn PagesKept CallsKept LogLong lent EventsSmall freshTest
+    blockTests boardRun
 needs-log-long =
     record {
       m = stations;

@@ -1,5 +1,5 @@
 -- Each premise of a move is needed: with one of them dropped or weakened, and all the others, there is a
--- shift that does not end as it should. So it is of what has to be held back during a move: calls of the moved
+-- shift that does not end as it should. So is what has to be held back during a move: calls of the moved
 -- station, on old and on new, writes to the child domain, and a reset. 01, "The move, with its premises".
 -- Assumes nothing.
 --   PagesWithin a z m n es   no page write to new before access a, and none to old from access z on
@@ -7,8 +7,8 @@
 --   LogLong x                the log has 63 words
 --   AnyOld m, AnyNew m       TwoGuests, but that old, or new, may be any file that is there
 --   Besides d m es           every call besides is as CallsKept says, or is the call d
---   TooWeak P                there are stations, a start and a shift that meet P, and the shift with the move,
---                            with one log handed on, does not end as Moved says
+--   TooWeak P                there are stations, a start and a shift that meet P, and the shift with the
+--                            move, with one log handed on, does not end as Moved says
 --   Needs..                  so it is without the premise that is named, or with a bound that is off by one
 --   Letting d, NeedsNo..     so it is if the call d may be made too
 -- Not claimed: that each field of Started is needed; nor that old and new have to be different, for otherwise

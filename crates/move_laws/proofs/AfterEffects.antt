@@ -43,6 +43,9 @@ refusalIn (FileCall.register k s v) = cond (ltb k 4) (cond (selectLegal s) 0 6) 
 refusalIn FileCall.top = 0
 refusalIn FileCall.claim = 0
 
+abbrev answered : ℕ → Said
+answered v = record { number = 0; value = v; count = 0 }
+
 refusal-on : (h f : ℕ) → isGuestFile h f ≡ true → (b : Board) (c : FileCall)
     → nameRefusal (callOn h f c) b ≡ refusalIn c
 unfolding nameRefusalBy nameTests firstFailed rowOf
@@ -82,8 +85,7 @@ module _ (m : Stations) (g : TwoGuests m) where
             → saidOf (outcomeOn (onNew c) x) ≡ saidOf (outcomeOn (onOld c) y)
         at (yes e) =
             said-done (m .newHart) (m .newFile) x ready c e
-            ∙ ap₂ (λ (z : File) (i : Bool). record { number = 0; value = answers identities i c z; count = 0 })
-            same both-guests
+            ∙ ap₂ (λ (z : File) (i : Bool). answered (answers identities i c z)) same both-guests
             ∙ sym (said-done (m .oldHart) (m .oldFile) y ready′ c (sym refusal-both ∙ e))
         at (no d) =
             said-refused (m .newHart) (m .newFile) x ready c d

@@ -80,7 +80,8 @@ module _ (m : Stations) (l s : List ℕ) (es : List Event) (ms ns : List Made) (
     ready = started-ready l s (p .started)
 
     pub follows-here : Follows (withMove m 0 es) ms start
-    follows-here = follows (withMove m 0 es) ms start ready (small-with m es 0 (kept-small m es (p .calls))) with handed
+    follows-here =
+        follows (withMove m 0 es) ms start ready (small-with m es 0 (kept-small m es (p .calls))) with handed
 
     pub follows-there : Follows (withoutMove m es) ns start
     follows-there =

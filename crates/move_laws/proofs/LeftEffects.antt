@@ -1,8 +1,10 @@
--- What a move leaves of old: it is silent, no target of the child names it, and so no wire changes it; and it
--- holds what the saved numbers hold, all of which new holds too. No contract cites this file. Assumes nothing.
+-- What a move leaves of old: it is silent, no target of the child names it, and so no wire changes it; and
+-- it holds what the saved numbers hold, all of which new holds too. No contract cites this file. Assumes
+-- nothing.
 --   OldLeft m b     b is as a move leaves it: the delivery of old is 0, old signals its hart no more, and no
 --                   target of the child names it
---   Held m b s      what old holds of pending and enable bits is what the saved numbers s have, and new has it
+--   Held m b s      what old holds of pending and enable bits is what the saved numbers s have, and new has
+--                   it too
 use Prim.Native.Nat.{ℕ, _+_, _/_, _%_, _≤_, _<_}
 use mathlib.Core.Path.{_≡_, sym, ap, ap₂, _∙_}
 use mathlib.Core.Bool.{Bool, true, false}

@@ -1,5 +1,5 @@
--- The two runs side by side, and the signals of a hart that has neither old nor new: they are the same in both.
--- No contract cites this file. Assumes nothing.
+-- The two runs side by side, and the signals of a hart that has neither old nor new: they are the same in
+-- both. No contract cites this file. Assumes nothing.
 use Prim.Native.Nat.{ℕ, zero, suc, _≤_, _<_}
 use mathlib.Core.Path.{_≡_, refl, sym, ap, ap₂, _∙_}
 use mathlib.Core.Bool.{Bool, true, false, not, _&&_, _||_}
