@@ -25,7 +25,7 @@ use Rattle.board_call_laws.specs.Small.{Small}
 use Rattle.board_call_laws.proofs.HartCallEffects.{signal-bit, signal-guest-own}
 use Rattle.board_move_laws.proofs.MoveCallEffects.{guest-there}
 use Rattle.board_move_laws.proofs.MoveEffects.{guest-low, guest-high}
-use Rattle.board_runs.specs.Runs.{saidOf, saidWhere, Lent, outcomeOn, after, ran, handing}
+use Rattle.board_runs.specs.Runs.{Said, saidOf, saidWhere, Lent, outcomeOn, after, ran, handing}
 use Rattle.board_runs.specs.Ready.{boardIn, Ready}
 use Rattle.board_runs.proofs.RunsEffects.{ready-after}
 use Rattle.move_laws.specs.Shift.{Stations}
