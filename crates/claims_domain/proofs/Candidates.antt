@@ -2,14 +2,14 @@
 use Prim.Native.Nat.{ℕ, zero, suc, _+_, _≤_, _<_}
 use mathlib.Core.Path.{_≡_, sym, ap, subst, _∙_}
 use mathlib.Core.Bool.{Bool, true, false, _&&_, _||_, false≢true}
-use mathlib.Core.List.{List, _∷_}
+use mathlib.Core.List.{List, [], _∷_}
 use mathlib.Core.Logic.{_≢_, ⊎-elim}
 use native.Mathlib.Decide.{ℕ-discrete}
 use native.Mathlib.Omega.{arith}
 use lib.Dec.{eqb}
 use lib.ListN.{length, getD}
 use borrow.Author.Tests.{eqb-true, eq-eqb}
-use Rattle.words.proofs.TestsLaws.{tested, and-first, and-second, and-both, or-cases, or-right}
+use Rattle.words.proofs.TestsLaws.{tested, and-first, and-second, and-both, or-cases, or-left, or-right}
 use Rattle.source_mode.specs.Mode.{isActive}
 use Rattle.source.specs.declared.Source.{Source}
 use Rattle.domain.specs.Slot.{sourceAt}
@@ -117,17 +117,40 @@ module _ (s : Source) where
       and-both (isActive (s .mode) && s .pending) (s .enabled)
       (and-both (isActive (s .mode)) (s .pending) a b) c
 
+-- ---- somewhere in a list
+
+module _ (test : ℕ → Bool) where
+  place-on : (ms : List ℕ) → anyOf test ms ≡ true
+      → (k : ℕ) × (k < length ms) × (test (getD ms k 0) ≡ true)
+  unfolding anyOf
+  place-on [] e = absurd (false≢true e)
+  place-on (m ∷ ms) e =
+      ⊎-elim (λ t. (0, omega arith, t))
+      (λ t. let r = place-on ms t in (suc (r .0), omega (arith, r .1), r .2))
+      (or-cases (test m) (anyOf test ms) e)
+
+  place-of : (ms : List ℕ) (k : ℕ) → k < length ms → test (getD ms k 0) ≡ true → anyOf test ms ≡ true
+  unfolding anyOf
+  place-of [] k l t = absurd (omega (arith, l))
+  place-of (m ∷ ms) zero l t = or-left (test m) (anyOf test ms) t
+  place-of (m ∷ ms) (suc k) l t =
+      or-right (test m) (anyOf test ms) (place-of ms k (omega (arith, l)) t)
+
 pub claim-147 : Claim-147
 unfolding Claim-147 candidates
-claim-147 d =
-    let p : ℕ → Bool = λ i. candidate (sourceAt d i) in
-    let cs = thoseWith p (numbersFrom 1 63) in (
-      (λ k h. subst (λ (j : ℕ). getD cs k 0 < getD cs j 0) (omega arith)
-          (ascends p 63 1 .up k (omega (arith, h)))),
-      (λ i. (
-        (λ e. let r = any-on p 63 1 i e in
-            let q = parts (sourceAt d i) (r .2) in
-            (r .0, omega (arith, r .1), q .0, q .1, q .2)),
-        (λ q. any-of p 63 1 i (q .0) (omega (arith, q .1)) (whole (sourceAt d i) (q .2) (q .3) (q .4))),
+claim-147 = (
+  (λ d.
+      let p : ℕ → Bool = λ i. candidate (sourceAt d i) in
+      let cs = thoseWith p (numbersFrom 1 63) in (
+        (λ k h. subst (λ (j : ℕ). getD cs k 0 < getD cs j 0) (omega arith)
+            (ascends p 63 1 .up k (omega (arith, h)))),
+        (λ i. (
+          (λ e. let r = any-on p 63 1 i e in
+              let q = parts (sourceAt d i) (r .2) in
+              (r .0, omega (arith, r .1), q .0, q .1, q .2)),
+          (λ q. any-of p 63 1 i (q .0) (omega (arith, q .1)) (whole (sourceAt d i) (q .2) (q .3) (q .4))),
+        )),
       )),
-    )
+  (λ s. (parts s, (λ q. whole s (q .0) (q .1) (q .2)))),
+  (λ test ms. (place-on test ms, (λ q. place-of test ms (q .0) (q .1) (q .2)))),
+)

@@ -1,6 +1,7 @@
 -- Claims 50 to 54, from the laws of sending. Assumes nothing.
 use mathlib.Core.Path.{ap}
-use Rattle.file_message.specs.Message.{logWord}
+use native.Mathlib.Omega.{arith}
+use Rattle.file_message.specs.Message.{logWord, fileIn}
 use Rattle.domain_genmsi.specs.Genmsi.{genmsiMessage}
 use Rattle.domain_sending.specs.Sending.{Sent}
 use Rattle.domain_sending.proofs.SendingLaws.{sent-off}
@@ -13,7 +14,7 @@ use Rattle.claims_domain.specs.Sending.{Claim-50, Claim-51, Claim-52, Cl
 pub claim-50 : Claim-50
 unfolding Claim-50
 claim-50 c d = (
-  sent-messages c d,
+  (λ on. sent-messages c d on),
   (λ off.
       (ap (λ (r : Sent). r .messages) (sent-off c d off), ap (λ (r : Sent). r .domain) (sent-off c d off))),
 )
@@ -23,12 +24,16 @@ unfolding Claim-51
 claim-51 c d on i l h = sent-quiet c d on i l h
 
 pub claim-52 : Claim-52
-unfolding Claim-52
-claim-52 c d = (sent-count c d, sent-named c d)
+unfolding Claim-52 fileIn
+claim-52 c d = (
+  sent-count c d,
+  λ k l. let x = sent-named c d k l in (x .machine, λ t. (x .child t, omega (arith, x .exists))),
+)
 
 pub claim-53 : Claim-53
 unfolding Claim-53
-claim-53 c d = (sent-rest c d, λ on i l h. sent-pending c d on i l h)
+claim-53 c d = let x = sent-rest c d in
+    (x .source, x .target, x .enable, x .delivery, λ on i l h. sent-pending c d on i l (omega arith))
 
 pub claim-54 : Claim-54
 unfolding Claim-54 genmsiMessage logWord
