@@ -19,12 +19,13 @@ use Rattle.domain.specs.Structure.{structureAt}
 use Rattle.domain_laws.specs.Shape.{DomainShaped}
 use Rattle.domain_laws.proofs.SlotEffects.{domainOf-shaped}
 use Rattle.wired_state.specs.Wires.{Wired, wiredOf, isDelegated}
+use Rattle.wired_state.specs.Pass.{flushed}
 use Rattle.wired_state.proofs.WiresLaws.{machine-long, child-long}
 use Rattle.source_laws.proofs.ModeEffects.{active-delegated}
 use Rattle.wired_rules.specs.Rules.{domaincfgRange, genmsiRange, structureRange, sourceZeroRule}
 use Rattle.wired_rules.specs.Rules.{genmsiRule}
 use Rattle.wired_rules.specs.Rules.{delegatedRule, wiredSound}
-use Rattle.wired_rules_laws.specs.Steady.{Steady, Quiet, WiredSteady, passed}
+use Rattle.wired_rules_laws.specs.Steady.{Steady, Quiet, WiredSteady}
 use Rattle.wired_rules_laws.proofs.SoundParts.{wired-sound-steady, wired-sound-quiet, wired-sound-joined}
 use Rattle.wired_rules_laws.proofs.WiredEffects.{delegated-yes, delegated-zero, steady-wireSet}
 use Rattle.wired_rules_laws.proofs.WiredEffects.{steady-claimedIn}
@@ -32,7 +33,7 @@ use Rattle.wired_rules_laws.proofs.WiredEffects.{steady-passed, sound-passed}
 use Rattle.wired_rules_laws.proofs.DelegationEffects.{steady-writtenIn}
 use Rattle.wired_rules_laws.proofs.WiredSameEffects.{delegated-word}
 use Rattle.claims_registers.specs.Rules.{Long, Sound, DomainRules}
-use Rattle.claims_registers.specs.Rules.{WiredRules, Claim-72, Claim-73, Claim-74, Claim-75}
+use Rattle.claims_registers.specs.Rules.{WiredRules, allSent, Claim-72, Claim-73, Claim-74, Claim-75}
 use Rattle.claims_registers.proofs.SourceRules.{domaincfg-is, genmsi-is, source-on, source-of}
 use Rattle.claims_registers.proofs.SourceRules.{source-sent}
 
@@ -44,6 +45,10 @@ claim-72 = (
     simp length-take (omega arith),
     domainOf-shaped _ (machine-long l long),
     domainOf-shaped _ (child-long l long),
+  ),
+  λ d. (
+    (λ s. (s .sources, s .targets, s .pendings, s .enables, s .deliveries)),
+    (λ p. record { sources = p .0; targets = p .1; pendings = p .2; enables = p .3; deliveries = p .4 }),
   ),
 )
 
@@ -138,7 +143,8 @@ claim-73 w long = (rules-on w long, rules-of w long)
 sound-steady : (w : Wired) → Sound w → WiredSteady w
 sound-steady w p = wired-sound-steady w (p .1) (p .0 .0) (p .0 .1) (p .0 .2)
 
-sound-after : (w : Wired) → WiredSteady w → Sound (passed w)
+sound-after : (w : Wired) → WiredSteady w → Sound (allSent w)
+unfolding flushed
 sound-after w s =
     let after = steady-passed w s in
     ((after .long, after .machine .shaped, after .child .shaped), sound-passed w s)

@@ -34,6 +34,7 @@ use Rattle.domain_registers.specs.Write.{registerWritten}
 use Rattle.wired_state.specs.Wires.{domainIn}
 use Rattle.claims_registers.specs.Settings.{NumbersAre, Claim-135, Claim-136, Claim-142}
 use Rattle.claims_registers.proofs.SourceRules.{genmsi-is}
+use Rattle.claims_registers.proofs.Writes.{domain-became}
 use Rattle.claims_registers.proofs.Registers.{rules-in}
 
 -- ---- the settable numbers
@@ -145,7 +146,7 @@ claim-136 = (
     λ m.
         let word = genmsi-is v ∙ genmsi-plain v in
         rw (genmsi-messages d v m, word) (
-          became-withGenmsi d _ shaped,
+          domain-became (became-withGenmsi d _ shaped),
           rw (byMessages-withGenmsi, m) (genmsiOf-withGenmsi d _ shaped),
         ),
     λ f. (genmsi-direct d v f, rw f),

@@ -43,13 +43,28 @@ use Rattle.wired_registers.proofs.WiredLaws.{written-source}
 use Rattle.wired_rules_laws.proofs.SoundParts.{wired-sound-steady}
 use Rattle.wired_rules_laws.proofs.WiredSameEffects.{wireSet-same, delegated-again}
 use Rattle.claims_registers.specs.Rules.{TargetStored}
-use Rattle.claims_registers.specs.Writes.{Restarted, TargetKept, Claim-55, Claim-56, Claim-57, Claim-58}
+use Rattle.claims_registers.specs.Writes.{DomainBecame, Restarted, TargetKept}
+use Rattle.claims_registers.specs.Writes.{Claim-55, Claim-56, Claim-57, Claim-58}
 use Rattle.claims_registers.proofs.SourceRules.{domaincfg-is, target-iff}
+
+pub domain-became : {d d′ : Domain} {w g : ℕ} {f : ℕ → Source → Source} → Became d d′ w g f
+    → DomainBecame d d′ w g f
+domain-became x =
+    record {
+      lengths = x .shaped;
+      domaincfg = x .domaincfg;
+      genmsi = x .genmsi;
+      sources = λ j l h. x .source j l (omega arith);
+      structures = x .structure;
+      zero = (x .pending-zero, x .enable-zero);
+    }
 
 pub claim-55 : Claim-55
 unfolding Claim-55 named
-claim-55 d wires family v shaped =
-    (touched-wordChanged d wires family v shaped, touched-numberChanged d wires family v shaped)
+claim-55 d wires family v shaped = (
+  λ k h. domain-became (touched-wordChanged d wires family v shaped k h),
+  domain-became (touched-numberChanged d wires family v shaped),
+)
 
 -- ---- domaincfg
 
@@ -97,7 +112,7 @@ claim-56 = (
     isEnabled-domaincfgWritten d wires v shaped,
     byMessages-domaincfgWritten d wires v shaped,
     λ e. same-mode d wires v shaped e ∙ ap (withDomaincfg d) (domaincfg-is v),
-    λ n. rw (domaincfg-is v) at (other-mode d wires v shaped n),
+    λ n. domain-became (rw (domaincfg-is v) at (other-mode d wires v shaped n)),
   ),
   restarted,
 )
@@ -173,11 +188,11 @@ claim-58 = (
   λ c d i v shaped l h. (
     λ f. unfold targetWritten in
         rw (retargeted-inactive (sourceAt d i) (byMessages d) c v f) (withSource-back d i),
-    λ a. touched-as (touched-targetWritten c d i v shaped l (omega arith)) _
+    λ a. domain-became (touched-as (touched-targetWritten c d i v shaped l (omega arith)) _
         (λ j lj hj. tested (eqb i j)
         (λ t. rw t (retargeted-active (sourceAt d j) (byMessages d) c v
         (ap (λ (k : ℕ). isActive (sourceAt d k .mode)) (sym (eqb-true i j t)) ∙ a)))
-        (λ f. rw f)),
+        (λ f. rw f))),
   ),
   λ c m v. kept-target v c m,
 )

@@ -2,6 +2,7 @@
 -- paper, and that every operation keeps them. 01, "State rules".
 --   Long w                      the lists of w have their lengths, as those of 290 words have
 --   Sound w                     they have, and w passes the test
+--   allSent w                   w after each domain sent what it had to send (claims 50 to 53)
 --   ModeStored, TargetStored    a number that a write of a sourcecfg or a target stores
 --   SourceRules, DomainRules, WiredRules
 --                               the rules in plain statements
@@ -26,10 +27,10 @@ use Rattle.domain.specs.Domain.{Domain, domaincfgOf, isEnabled, byMessages, gen
 use Rattle.domain.specs.Slot.{sourceAt}
 use Rattle.domain.specs.Structure.{structureAt}
 use Rattle.domain_laws.specs.Shape.{DomainShaped}
+use Rattle.domain_sending.specs.Sending.{sent}
 use Rattle.wired_state.specs.Wires.{Wired, wiredOf, wireSet}
 use Rattle.wired_registers.specs.Wired.{writtenIn, claimedIn}
 use Rattle.wired_rules.specs.Rules.{wiredSound}
-use Rattle.wired_rules_laws.specs.Steady.{passed}
 use Rattle.wired_rules.proofs.sound.Reads as sound
 
 abbrev pub Long : Wired → Type 0
@@ -40,12 +41,17 @@ Sound w = Long w × (wiredSound w ≡ true)
 
 -- ---- the test
 
--- what the test of the state rules answers, of 290 words
+-- what the test of the state rules answers, of 290 words. The lists of these have their lengths, and those of
+-- a domain are 64 sourcecfg and 64 target words, two words each of pending and enable bits, and three numbers
+-- for each of four harts
 unfoldable pub Claim-72 : Type 0
 Claim-72 =
     ((l : Lfts 1) (b : RefT (List ℕ)) (r : Bool) → sound.Learnt l (b, tt) r (b, tt)
     → r ≡ wiredSound (wiredOf (now b)))
     × ((l : List ℕ) → length l ≡ 290 → Long (wiredOf l))
+    × ((d : Domain) → DomainShaped d
+    ↔ ((length (d .source) ≡ 64) × (length (d .target) ≡ 64) × (length (d .pending) ≡ 2)
+    × (length (d .enable) ≡ 2) × (length (d .delivery) ≡ 12)))
 
 -- ---- the rules in plain statements
 
@@ -98,13 +104,21 @@ Claim-73 = (w : Wired) → Long w → (wiredSound w ≡ true) ↔ WiredRules w
 
 -- ---- they are kept
 
+abbrev pub allSent : Wired → Wired
+allSent w =
+    record {
+      wires = w .wires;
+      machine = sent false (w .machine) .domain;
+      child = sent true (w .child) .domain;
+    }
+
 -- the state rules are kept by each operation with the messages sent after it
 unfoldable pub Claim-74 : Type 0
 Claim-74 =
     (w : Wired) → Sound w
-    → ((i : ℕ) → 1 ≤ i → i ≤ 63 → (level : Bool) → Sound (passed (wireSet w i level)))
-    × ((c : Bool) (r : Word) → Within r → (v : ℕ) → Sound (passed (writtenIn w c r v)))
-    × ((c : Bool) (r : Word) → Sound (passed (claimedIn w c r)))
+    → ((i : ℕ) → 1 ≤ i → i ≤ 63 → (level : Bool) → Sound (allSent (wireSet w i level)))
+    × ((c : Bool) (r : Word) → Within r → (v : ℕ) → Sound (allSent (writtenIn w c r v)))
+    × ((c : Bool) (r : Word) → Sound (allSent (claimedIn w c r)))
 
 -- a source is active in one domain at most
 -- [01 W21]

@@ -3,8 +3,8 @@
 -- controller".
 --   NumbersAre d d′ wires h a b t    d′ has idelivery a, iforce b and ithreshold t for hart h, stored and
 --                                    read, and everything else as d has it
---   Became d d′ w g f                d′ has domaincfg w and genmsi g, each source j of 1 to 63 as f j makes
---                                    it from that of d, and the rest as d has it
+--   DomainBecame d d′ w g f          d′ has domaincfg w and genmsi g, each source j of 1 to 63 as f j makes
+--                                    it from that of d, and the rest as d has it: Writes
 -- c says that a domain is the child.
 -- Premises: `DomainShaped d`, the lists of d have their lengths, as those of 144 words have; for the Busy bit
 -- of whatever is stored `Sound w`, the state rules. No axioms.
@@ -19,13 +19,13 @@ use Rattle.domain.specs.Domain.{Domain, domaincfgOf, byMessages, genmsiOf}
 use Rattle.domain.specs.Slot.{sourceAt}
 use Rattle.domain.specs.Structure.{structureAt}
 use Rattle.domain_laws.specs.Shape.{DomainShaped}
-use Rattle.domain_laws.specs.Became.{Became}
 use Rattle.domain_direct.specs.Direct.{topiOf, hartClaimed}
 use Rattle.domain_registers.specs.Read.{registerValue}
 use Rattle.domain_registers.specs.Write.{registerWritten}
 use Rattle.wired_state.specs.Wires.{Wired}
 use Rattle.wired_registers.specs.Wired.{readIn}
 use Rattle.claims_registers.specs.Rules.{Sound}
+use Rattle.claims_registers.specs.Writes.{DomainBecame}
 
 pub record NumbersAre (d d′ : Domain) (wires : List ℕ) (h a b t : ℕ) : Type 0 where
   pub idelivery : (structureAt d′ h .idelivery ≡ a) × (registerValue d′ wires (Idelivery h) ≡ a)
@@ -64,7 +64,7 @@ Claim-136 =
     ((c : Bool) (d : Domain) (wires : List ℕ) (v : ℕ) → DomainShaped d
     → let after = registerWritten c d wires Genmsi v in let word = v / 2 ^ 18 % 4 * 2 ^ 18 + v % 256 in
     (byMessages d ≡ true
-    → Became d after (domaincfgOf d) word (λ j s. s) × (registerValue after wires Genmsi ≡ word))
+    → DomainBecame d after (domaincfgOf d) word (λ j s. s) × (registerValue after wires Genmsi ≡ word))
     × (byMessages d ≡ false → (after ≡ d) × (registerValue d wires Genmsi ≡ 0)))
     × ((w : Wired) → Sound w → (c : Bool) → readIn w c Genmsi / 2 ^ 12 % 2 ≡ 0)
 

@@ -1,10 +1,10 @@
 -- Claims 55 to 58, on what a write leaves, before anything is sent: which sources it changes, and that the
 -- rest stays. 01, "The wired controller".
---   Became d d′ w g f    d′ has domaincfg w and genmsi g, each source j of 1 to 63 as f j makes it from that
---                        of d, and the rest as d has it
---   Touched d d′ f       the same where domaincfg and genmsi stay too
---   Restarted m x s s′   s′ is what a change of DM to m makes of source s; x is its wire
---   TargetKept c m v t   t is what a write of v to a target stores
+--   DomainBecame d d′ w g f   d′ has its lengths, domaincfg w and genmsi g, each source j of 1 to 63 as f j
+--                             makes it from that of d, and the rest as d has it
+--   SourcesBecame d d′ f      the same where domaincfg and genmsi stay too
+--   Restarted m x s s′        s′ is what a change of DM to m makes of source s; x is its wire
+--   TargetKept c m v t        t is what a write of v to a target stores
 -- c says that a domain is the child; m is its delivery mode, true by messages.
 -- Premises: 55, 56 and 58 have `DomainShaped d`, the lists of d have their lengths, as those of 144 words
 -- have; 57 has `Sound w`, the state rules; what 56 says of one source, and 58 of one target, has none.
@@ -23,15 +23,27 @@ use Rattle.domain_region.specs.declared.Word.the-variants.{Sourcecfg}
 use Rattle.source.specs.declared.Source.{Source}
 use Rattle.source.specs.declared.Change.{Change}
 use Rattle.source.specs.Pending.{withTarget, changed, redelivered}
-use Rattle.domain.specs.Domain.{Domain, isEnabled, byMessages, withDomaincfg}
+use Rattle.domain.specs.Domain.{Domain, domaincfgOf, isEnabled, byMessages, genmsiOf, withDomaincfg}
 use Rattle.domain.specs.Slot.{sourceAt}
+use Rattle.domain.specs.Structure.{structureAt}
 use Rattle.domain_laws.specs.Shape.{DomainShaped}
-use Rattle.domain_laws.specs.Became.{Became, Touched}
 use Rattle.domain_writes.specs.Writes.{wordChanged, numberChanged, targetWritten}
 use Rattle.domain_domaincfg.specs.Domaincfg.{domaincfgWritten}
 use Rattle.wired_state.specs.Wires.{Wired, wireSet, isDelegated}
 use Rattle.wired_registers.specs.Wired.{writtenIn}
 use Rattle.claims_registers.specs.Rules.{Sound, TargetStored}
+
+pub record DomainBecame (d d′ : Domain) (w g : ℕ) (f : ℕ → Source → Source) : Type 0 where
+  pub lengths : DomainShaped d′
+  pub domaincfg : domaincfgOf d′ ≡ w
+  pub genmsi : genmsiOf d′ ≡ g
+  pub sources : (j : ℕ) → 1 ≤ j → j ≤ 63 → sourceAt d′ j ≡ f j (sourceAt d j)
+  pub structures : (h : ℕ) → structureAt d′ h ≡ structureAt d h
+  -- number 0, which is no source
+  pub zero : (member (d′ .pending) 0 ≡ member (d .pending) 0) × (member (d′ .enable) 0 ≡ member (d .enable) 0)
+
+abbrev pub SourcesBecame : (d d′ : Domain) → (ℕ → Source → Source) → Type 0
+SourcesBecame d d′ f = DomainBecame d d′ (domaincfgOf d) (genmsiOf d) f
 
 -- a write of v to word k of a family changes the sources whose bits are set, and a number that source alone;
 -- `changed` leaves a source that is not active (Claim-144, and for enable bits Claim-134)
@@ -39,9 +51,9 @@ use Rattle.claims_registers.specs.Rules.{Sound, TargetStored}
 unfoldable pub Claim-55 : Type 0
 Claim-55 =
     (d : Domain) (wires : List ℕ) (family : Change) (v : ℕ) → DomainShaped d
-    → ((k : ℕ) → k < 2 → Touched d (wordChanged d wires family k v)
+    → ((k : ℕ) → k < 2 → SourcesBecame d (wordChanged d wires family k v)
     (λ j s. cond (eqb (j / 32) k && hasBit v (j % 32)) (changed s family (byMessages d) (member wires j)) s))
-    × (Touched d (numberChanged d wires family v)
+    × (SourcesBecame d (numberChanged d wires family v)
     (λ j s. cond (eqb v j) (changed s family (byMessages d) (member wires j)) s))
 
 -- a change of DM: an active source has its start target, a level source is pending by its rectified value
@@ -66,7 +78,8 @@ Claim-56 =
     × (byMessages (domaincfgWritten d wires v) ≡ hasBit v 2)
     × (byMessages d ≡ hasBit v 2 → domaincfgWritten d wires v ≡ withDomaincfg d word)
     × (byMessages d ≢ hasBit v 2
-    → Became d (domaincfgWritten d wires v) word 0 (λ j s. redelivered s (hasBit v 2) (member wires j))))
+    → DomainBecame d (domaincfgWritten d wires v) word 0
+    (λ j s. redelivered s (hasBit v 2) (member wires j))))
     × ((m x : Bool) (s : Source) → Restarted m x s (redelivered s m x))
 
 -- a wire set as it is, and a delegation of what is delegated, change nothing
@@ -91,6 +104,6 @@ unfoldable pub Claim-58 : Type 0
 Claim-58 =
     ((c : Bool) (d : Domain) (i v : ℕ) → DomainShaped d → 1 ≤ i → i ≤ 63
     → (isActive (sourceAt d i .mode) ≡ false → targetWritten c d i v ≡ d)
-    × (isActive (sourceAt d i .mode) ≡ true → Touched d (targetWritten c d i v)
+    × (isActive (sourceAt d i .mode) ≡ true → SourcesBecame d (targetWritten c d i v)
     (λ j s. cond (eqb i j) (withTarget s (keptTarget c (byMessages d) v)) s)))
     × ((c m : Bool) (v : ℕ) → TargetKept c m v (keptTarget c m v))
