@@ -1,6 +1,8 @@
 -- Claims 76 to 79, on the functions of the wired controller with what they send: what each leaves, which
 -- messages it sends, that the log has room for them, and that the state rules hold again. That the code meets
 -- the contracts that 76 speaks of is what the check of crate `wired` proves. 01, "The wired controller".
+--   LeftBy o w g g′ n   a function that does o leaves the controller w, makes of the log g the log g′, and
+--                       answers n
 -- Premises: 76 has none but what the contracts let a caller learn; 77 to 79 have `Sound w`, the state rules,
 -- with wires 1 to 63 and registers whose numbers are in their ranges (`Within`). No axioms.
 use Prim.Native.Nat.{ℕ, _≤_, _<_}
@@ -18,26 +20,30 @@ use Rattle.domain_region.specs.declared.Word.the-variants.{Genmsi}
 use Rattle.wired_state.specs.Wires.{Wired, wiredOf, domainIn, wireSet}
 use Rattle.wired_registers.specs.Wired.{readIn, claimedIn, writtenIn}
 use Rattle.wired_rules.specs.Rules.{wiredSound}
-use Rattle.domain_sending.specs.Sending.{sent}
+use Rattle.domain_sending.specs.Sending.{sent, logged}
 use Rattle.domain_genmsi.specs.Genmsi.{genmsiSent}
-use Rattle.wired.specs.Controller.{Out, wireCall, readCall, writeCall, Leaves}
+use Rattle.wired.specs.Controller.{Out, wireCall, readCall, writeCall}
 use Rattle.wired.proofs.set_wire.Reads as set-wire
 use Rattle.wired.proofs.read.Reads as read
 use Rattle.wired.proofs.write.Reads as write
 use Rattle.claims_registers.specs.Rules.{Sound}
+
+-- the messages stand first in the log, and their number is answered
+abbrev pub LeftBy : Out → Wired → List ℕ → List ℕ → ℕ → Type 0
+LeftBy o w g g′ n = (w ≡ o .wired) × (g′ ≡ logged g (o .messages)) × (n ≡ length (o .messages))
 
 -- what each function of the wired controller answers, and leaves of its words and of the log
 unfoldable pub Claim-76 : Type 0
 Claim-76 =
     ((l : Lfts 2) (b b′ g g′ : RefT (List ℕ)) (i n : ℕ) (level : Bool)
     → set-wire.Learnt l (b, (g, (i, (level, tt)))) n (b′, (g′, (i, (level, tt))))
-    → Leaves (wireCall (wiredOf (now b)) i level) (wiredOf (now b′)) (now g) (now g′) n)
+    → LeftBy (wireCall (wiredOf (now b)) i level) (wiredOf (now b′)) (now g) (now g′) n)
     × ((l : Lfts 1) (b b′ : RefT (List ℕ)) (c : Bool) (r : Word) (v : ℕ)
     → read.Learnt l (b, (c, (r, tt))) v (b′, (c, (r, tt)))
     → (v ≡ readIn (wiredOf (now b)) c r) × (wiredOf (now b′) ≡ readCall (wiredOf (now b)) c r .wired))
     × ((l : Lfts 2) (b b′ g g′ : RefT (List ℕ)) (c : Bool) (r : Word) (v n : ℕ)
     → write.Learnt l (b, (g, (c, (r, (v, tt))))) n (b′, (g′, (c, (r, (v, tt)))))
-    → Leaves (writeCall (wiredOf (now b)) c r v) (wiredOf (now b′)) (now g) (now g′) n)
+    → LeftBy (writeCall (wiredOf (now b)) c r v) (wiredOf (now b′)) (now g) (now g′) n)
 
 -- what a controller after a change sends: the machine domain's messages first
 abbrev pub Sends : Wired → Out → Type 0
