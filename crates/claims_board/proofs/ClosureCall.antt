@@ -17,6 +17,8 @@ use Rattle.domain.specs.Slot.{sourceAt}
 use Rattle.domain.specs.Structure.{structureAt}
 use Rattle.domain_laws.proofs.OwnEffects.{isEnabled-same, byMessages-same}
 use Rattle.domain_sending_laws.specs.Candidates.{DomainPendingOnly}
+use Rattle.wired_state.specs.Wires.{domainIn}
+use Rattle.board_call.specs.Change.{change}
 use Rattle.board_call.specs.Outcome.{step}
 use Rattle.claims_wired.specs.Kept.{Touch, Spares}
 use Rattle.claims_board.specs.Closure.{touches, andPendings, Claim-150, Claim-151, Claim-156}
@@ -112,10 +114,13 @@ pub claim-156 : Claim-156
 unfolding Claim-156 Claim-150 Claim-151
 claim-156 b shaped call e s c =
     let before = claim-150 b shaped call e s .0 c in
-    let pass = claim-151 call b s .1 c in (
-      kept-sent (pass .0) (touches call (b .wired) c) before,
+    let pass = claim-151 call b s .1 c in
+    let changed = domainIn (change call b s .board .wired) c in
+    let rest : DomainPendingOnly changed (domainIn (step call b s .board .wired) c) =
+    record { source = pass .0; target = pass .1; enable = pass .2; delivery = pass .3 } in (
+      kept-sent rest (touches call (b .wired) c) before,
       (λ i l h q n. let same = before .pending i l h q in
-          let r = fell (pass .0) c i (step call b s .messages) (pass .1 i l h .0) (λ k. n (k ∙ same))
-          (pass .1 i l h .1) in
+          let r = fell rest c i (step call b s .messages) (pass .4 i l h .0) (λ k. n (k ∙ same))
+          (pass .4 i l h .1) in
           (sym same ∙ r .0, r .1, r .2, r .3, r .4)),
     )

@@ -20,7 +20,7 @@ use Rattle.file_message.specs.Message.{hartIn, fileIn, identityIn}
 use Rattle.files.specs.Files.{fileNumber, isGuest, theFile, withFile, namedBy}
 use Rattle.files.proofs.FilesLaws.{theFile-withFile-other}
 use Rattle.files_laws.specs.Messages
-use Rattle.files_laws.specs.Messages.{brings, anyOf, PendingOnly}
+use Rattle.files_laws.specs.Messages.{brings, anyOf}
 use Rattle.files_laws.proofs.ReachedEffects.{pending-allReached, pending-allReached-zero, rest-allReached}
 use Rattle.files_laws.proofs.ReachedEffects.{withFile-theFile}
 use Rattle.domain_region.specs.Region.{wordAt}
@@ -110,7 +110,8 @@ module _ (b : Board) (fit : Fit b) (s : List ℕ) (h f : ℕ) (lh : h < 4) (lf :
   Reached c =
       let x = theFile (change c b s .board .files) k in
       let x′ = theFile (step c b s .board .files) k in
-      PendingOnly x x′ × (member (x′ .pending) 0 ≡ member (x .pending) 0)
+      (x′ .delivery ≡ x .delivery) × (x′ .threshold ≡ x .threshold) × (x′ .enable ≡ x .enable)
+      × (member (x′ .pending) 0 ≡ member (x .pending) 0)
       × ((i : ℕ) → 1 ≤ i → i ≤ 255
       → member (x′ .pending) i
       ≡ (member (x .pending) i || anyOf (eqb (2048 * h + 256 * f + i)) (step c b s .messages)))
@@ -124,8 +125,11 @@ module _ (b : Board) (fit : Fit b) (s : List ℕ) (h f : ℕ) (lh : h < 4) (lf :
       let ms = step c b s .messages in
       let many : length fs ≡ 20 = ap length same ∙ fit .shaped .many in
       let long : Long (theFile fs k) =
-      subst (λ (gs : List File). Long (theFile gs k)) (sym same) (fit .shaped .long k (omega arith)) in (
-        rest-allReached ms fs k,
+      subst (λ (gs : List File). Long (theFile gs k)) (sym same) (fit .shaped .long k (omega arith)) in
+      let rest = rest-allReached ms fs k in (
+        rest .delivery,
+        rest .threshold,
+        rest .enable,
         pending-allReached-zero ms fs k,
         (λ i l u. pending-allReached ms fs k i (omega arith) long l
             ∙ ap (λ (y : Bool). member (theFile fs k .pending) i || y)
@@ -136,7 +140,9 @@ module _ (b : Board) (fit : Fit b) (s : List ℕ) (h f : ℕ) (lh : h < 4) (lf :
   by-none : (c : Call) → Silent b fit s c → Reached c
   unfolding anyOf
   by-none c (none, same) = rw (none, same) (
-    record { delivery = refl; threshold = refl; enable = refl },
+    refl,
+    refl,
+    refl,
     refl,
     (λ i l u. sym (or-false _)),
   )

@@ -125,14 +125,20 @@ pub claim-151 : Claim-151
 unfolding Claim-151 step thenSent candidate messageOf logWord
 claim-151 call b s = let w = change call b s .board .wired in (
   unfold flushed in refl,
-  λ c. (
-    subst (DomainPendingOnly (domainIn w c)) (sym (flushed-domain w c)) (sent-rest c (domainIn w c)),
-    λ i l h. (
-      ap (λ (d : Domain). sourceAt d i .pending) (flushed-domain w c) ∙ pending-sent c (domainIn w c) i l h,
-      λ t. any-right _ (change call b s .own) (flushed w .messages)
-          (flushed-any w c _ (message-sent c (domainIn w c) i l h t)),
-    ),
-  ),
+  λ c.
+      let rest = subst (DomainPendingOnly (domainIn w c)) (sym (flushed-domain w c))
+      (sent-rest c (domainIn w c)) in (
+        rest .source,
+        rest .target,
+        rest .enable,
+        rest .delivery,
+        λ i l h. (
+          ap (λ (d : Domain). sourceAt d i .pending) (flushed-domain w c)
+              ∙ pending-sent c (domainIn w c) i l h,
+          λ t. any-right _ (change call b s .own) (flushed w .messages)
+              (flushed-any w c _ (message-sent c (domainIn w c) i l h t)),
+        ),
+      ),
 )
 
 -- ---- what sends nothing

@@ -11,7 +11,7 @@ use Rattle.words.specs.Sets.{member}
 use Rattle.domain.specs.Slot.{sourceAt}
 use Rattle.wired_state.specs.Wires.{Wired, domainIn, wireSet}
 use Rattle.domain_sending.specs.Sending.{candidate}
-use Rattle.domain_sending_laws.specs.Candidates.{messageAt}
+use Rattle.domain_sending_laws.specs.Candidates.{messageAt, spent}
 use Rattle.wired_rules_laws.proofs.PassEffects.{quiet-candidate}
 use Rattle.wired_rules_laws.proofs.WiredEffects.{steady-domainIn}
 use Rattle.wired_rules_laws.proofs.WiredQuietEffects.{quiet-domainIn}
@@ -50,7 +50,7 @@ claim-96 w s j l h level i k m same c =
     (e, (λ t. ap candidate e ∙ quiet-candidate c (domainIn w c) q t i k (omega arith)))
 
 pub claim-97 : Claim-97
-unfolding Claim-97
+unfolding Claim-97 spent
 claim-97 w s i l h level =
     let q = quiet w s in
     let own : (c : Bool) → _ = λ c.

@@ -32,11 +32,11 @@ use Rattle.board_call.specs.declared.Call.the-variants.{Reset, Wire, DomainRead
 use Rattle.board_call.specs.declared.Call.the-variants.{PageWrite}
 use Rattle.board_call.specs.declared.Call.the-variants.{Register, Top, Claim, Signals, Move}
 use Rattle.board_call.specs.Change.{signalsTo}
-use Rattle.board_call.specs.Outcome.{Stepped, step}
+use Rattle.board_call.specs.Outcome.{Stepped, step, outcome}
 use Rattle.board_call.specs.Refusal.{nameRefusal}
 use Rattle.board_call_laws.specs.Small.{Small}
-use Rattle.board_runs.specs.Runs.{Lent, outcomeOn}
-use Rattle.board_runs.specs.Ready.{boardIn, Ready}
+use Rattle.board_runs.specs.Runs.{Lent}
+use Rattle.board_runs.specs.Ready.{Ready}
 
 -- an accepted call answers 0, its value, and the number of the messages that it sent; the block is that of
 -- the board that `step` says; the messages stand first in the log, in order, and later log words stay; both
@@ -44,9 +44,10 @@ use Rattle.board_runs.specs.Ready.{boardIn, Ready}
 -- [01 C9 W49 W50 X7 X10]
 unfoldable pub Claim-171 : Type 0
 Claim-171 =
-    (c : Call) (x : Lent) → Ready x → Small c → nameRefusal c (boardIn x) ≡ 0
-    → let o = outcomeOn c x in
-    let y = step c (boardIn x) (x .saved) in
+    (c : Call) (x : Lent) → Ready x → Small c → let b = boardOf (x .block) in
+    nameRefusal c b ≡ 0
+    → let o = outcome c (x .block) (x .log) (x .saved) in
+    let y = step c b (x .saved) in
     (o .number ≡ 0) × (o .value ≡ y .value) × (o .count ≡ length (y .messages)) × (o .count ≤ 63)
     × (boardOf (o .block) ≡ y .board) × (length (o .block) ≡ 650) × (o .saved ≡ y .saved)
     × ((k : ℕ) → k < o .count → getD (o .log) k 0 ≡ getD (y .messages) k 0)

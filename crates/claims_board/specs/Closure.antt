@@ -21,12 +21,11 @@ use mathlib.Core.Logic.{_≢_}
 use lib.Dec.{eqb}
 use Rattle.words.specs.Sets.{member}
 use Rattle.files.specs.Files.{theFile}
-use Rattle.files_laws.specs.Messages.{anyOf, PendingOnly}
+use Rattle.files_laws.specs.Messages.{anyOf}
 use Rattle.source_mode.specs.Mode.{isActive}
 use Rattle.source_target.specs.Target.{hartOf, guestOf, numberOf}
 use Rattle.domain.specs.Domain.{isEnabled, byMessages}
 use Rattle.domain.specs.Slot.{sourceAt}
-use Rattle.domain_sending_laws.specs.Candidates.{DomainPendingOnly}
 use Rattle.wired_state.specs.Wires.{Wired, domainIn}
 use Rattle.board_block.specs.Block.{Board}
 use Rattle.board_block_laws.specs.Shape.{BoardShaped}
@@ -108,7 +107,8 @@ Claim-151 =
     (after .wires ≡ changed .wires)
     × ((c : Bool) → let d = domainIn changed c in
     let d′ = domainIn after c in
-    DomainPendingOnly d d′
+    (d′ .source ≡ d .source) × (d′ .target ≡ d .target) × (d′ .enable ≡ d .enable)
+    × (d′ .delivery ≡ d .delivery)
     × ((i : ℕ) → 1 ≤ i → i ≤ 63
     → let x = sourceAt d i in
     let t = x .target in
@@ -180,7 +180,8 @@ Claim-152 =
     (b : Board) → Fit b → (c : Call) → nameRefusal c b ≡ 0 → (s : List ℕ) (h f : ℕ) → h < 4 → f < 5
     → let x = theFile (change c b s .board .files) (5 * h + f) in
     let x′ = theFile (step c b s .board .files) (5 * h + f) in
-    PendingOnly x x′ × (member (x′ .pending) 0 ≡ member (x .pending) 0)
+    (x′ .delivery ≡ x .delivery) × (x′ .threshold ≡ x .threshold) × (x′ .enable ≡ x .enable)
+    × (member (x′ .pending) 0 ≡ member (x .pending) 0)
     × ((i : ℕ) → 1 ≤ i → i ≤ 255
     → member (x′ .pending) i
     ≡ (member (x .pending) i || anyOf (eqb (2048 * h + 256 * f + i)) (step c b s .messages)))

@@ -7,18 +7,18 @@
 -- refused; and sources 1 to 63. No axioms.
 use Prim.Native.Nat.{ℕ, _≤_}
 use mathlib.Core.Path.{_≡_}
-use mathlib.Core.Bool.{Bool, true, false, not, _&&_}
+use mathlib.Core.Bool.{Bool, true, false, cond, not, _&&_}
 use mathlib.Core.List.{List, [], _∷_}
 use mathlib.Core.Logic.{_≢_, _⊎_}
 use lib.Dec.{eqb}
 use Rattle.words.specs.Sets.{member}
-use Rattle.source.specs.Pending.{wireChanged, retargeted}
+use Rattle.source_target.specs.Target.{messageOf}
+use Rattle.source.specs.Pending.{withPending, wireChanged, retargeted}
 use Rattle.domain_region.specs.declared.Word.the-variants.{Target}
 use Rattle.domain.specs.Domain.{isEnabled, byMessages}
 use Rattle.domain.specs.Slot.{sourceAt}
 use Rattle.wired_state.specs.Wires.{Wired, domainIn, wireSet}
 use Rattle.domain_sending.specs.Sending.{candidate}
-use Rattle.domain_sending_laws.specs.Candidates.{messageAt, spent}
 use Rattle.wired.specs.Controller.{wireCall, writeCall}
 use Rattle.files.specs.Files.{reached}
 use Rattle.board_block.specs.Block.{Board}
@@ -49,11 +49,13 @@ Claim-97 =
     → sourceAt (domainIn (after .wired) c) j ≡ sourceAt (domainIn w c) j)
     × ((c : Bool) → let d = domainIn w c in
     let s = wireChanged (sourceAt d i) (byMessages d) (member (w .wires) i) level in
-    ((isEnabled d && byMessages d) ≡ true → sourceAt (domainIn (after .wired) c) i ≡ spent s)
+    ((isEnabled d && byMessages d) ≡ true
+    → sourceAt (domainIn (after .wired) c) i ≡ cond (candidate s) (withPending s false) s)
     × ((isEnabled d && byMessages d) ≡ false → sourceAt (domainIn (after .wired) c) i ≡ s))
     × ((c : Bool) → let d = domainIn w c in
     let s = wireChanged (sourceAt d i) (byMessages d) (member (w .wires) i) level in
-    (isEnabled d && byMessages d) ≡ true → candidate s ≡ true → after .messages ≡ messageAt c d i ∷ [])
+    (isEnabled d && byMessages d) ≡ true → candidate s ≡ true
+    → after .messages ≡ messageOf c (sourceAt d i .target) ∷ [])
     × (((c : Bool) → let d = domainIn w c in
     let s = wireChanged (sourceAt d i) (byMessages d) (member (w .wires) i) level in
     (isEnabled d && byMessages d && candidate s) ≡ false) → after .messages ≡ [])
@@ -77,8 +79,9 @@ pub record SentNone (b : Board) (x : Stepped) : Type 0 where
   pub files : x .board .files ≡ b .files
 
 pub record SentOne (c : Bool) (i : ℕ) (b : Board) (x : Stepped) : Type 0 where
-  pub messages : x .messages ≡ messageAt c (domainIn (b .wired) c) i ∷ []
-  pub files : x .board .files ≡ reached (b .files) (messageAt c (domainIn (b .wired) c) i)
+  pub messages : x .messages ≡ messageOf c (sourceAt (domainIn (b .wired) c) i .target) ∷ []
+  pub files : x .board .files
+      ≡ reached (b .files) (messageOf c (sourceAt (domainIn (b .wired) c) i .target))
 
 -- a wire reaches no file, or the one that its source's target names, with that target's identity, once; which
 -- of these it is, Claim-97 says
