@@ -15,14 +15,17 @@ use Rattle.board_block.specs.Block.{blockOf}
 use Rattle.board_block.specs.Start.{startBoard}
 use Rattle.board_call.specs.declared.Call.{Call}
 use Rattle.board_call.specs.declared.Call.the-variants.{DomainRead, DomainWrite, PageWrite, Register, Top}
-use Rattle.board_runs.specs.Runs.{Lent, outcomeOn, ran}
+use Rattle.board_call.specs.Outcome.{outcome}
+use Rattle.board_runs.specs.Runs.{Lent, ran}
 
 abbrev pub atStart : Lent
 atStart = record { block = blockOf startBoard; log = replicate 63 0; saved = replicate 10 0 }
 
 abbrev pub answered : List Call → Call → List ℕ
 answered cs c =
-    let o = outcomeOn c (ran cs atStart) in o .number ∷ o .value ∷ o .count ∷ getD (o .log) 0 0 ∷ []
+    let x = ran cs atStart in
+    let o = outcome c (x .block) (x .log) (x .saved) in
+    o .number ∷ o .value ∷ o .count ∷ getD (o .log) 0 0 ∷ []
 
 abbrev pub fiveAndNineAt : ℕ → List Call
 fiveAndNineAt t =
