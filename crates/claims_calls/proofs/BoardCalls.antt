@@ -114,7 +114,26 @@ claim-87 b s = (step-reset b s, start-sound)
 
 pub claim-88 : Claim-88
 unfolding Claim-88
-claim-88 = (block-back, (λ b s. (board-back b s, length-blockOf b s)))
+claim-88 = (
+  block-back,
+  (λ b s. (board-back b s, length-blockOf b s)),
+  (λ b. (
+    (λ s. (
+      s .many,
+      (λ k l. (s .long k l .pendingLong, s .long k l .enableLong)),
+      s .wires,
+      s .machine,
+      s .child,
+    )),
+    (λ p. record {
+      many = p .0;
+      long = λ k l. let q = p .1 k l in record { pendingLong = q .0; enableLong = q .1 };
+      wires = p .2;
+      machine = p .3;
+      child = p .4;
+    }),
+  )),
+)
 
 -- ---- the signals
 

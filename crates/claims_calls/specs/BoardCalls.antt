@@ -4,17 +4,17 @@
 -- That the code meets the contracts that 80 to 82 and 90 speak of is what the check of its crate proves, and
 -- for `apply` and the functions of C Claim-114.
 -- Premises: of claims 80 to 82 and 90 what the contract ensures, `X.Learnt`, for which nothing is asked
--- (Claim-113); of Claim-86 a block of words of 32 bits that keep the rules (`WordsFit`), a value and saved
--- numbers of 64 bits (`Small`, `SavedFit`), as every block, value and saved number of a program is, and that
--- the call is accepted; of Claim-88 650 words, or a board with its lengths (`BoardShaped`); of Claim-89 a
--- file 0 to 4. The others have none. No axioms.
-use Prim.Native.Nat.{ℕ, _≤_, _<_}
+-- (Claim-113); of Claim-86 a block of words of 32 bits that keep the rules (`WordsFit`), a value (`Small`)
+-- and saved numbers of 64 bits, as every block, value and saved number of a program is, and that the call is
+-- accepted; of Claim-88 650 words, or a board with its lengths (`BoardShaped`); of Claim-89 a file 0 to 4.
+-- The others have none. No axioms.
+use Prim.Native.Nat.{ℕ, _^_, _≤_, _<_}
 use mathlib.Core.Path.{_≡_}
 use mathlib.Core.Bool.{true, false}
 use mathlib.Core.List.{List, []}
 use mathlib.Core.Logic.{_≢_, _↔_, _⊎_}
 use lib.Dec.{eqb}
-use lib.ListN.{length}
+use lib.ListN.{length, getD}
 use contract.Lifetimes.{Lfts}
 use denote.Ref.{RefT, now}
 use Rattle.words.specs.Bits.{hasBit}
@@ -24,6 +24,7 @@ use Rattle.file.specs.Top.{topOf}
 use Rattle.files.specs.Files.{fileNumber, theFile}
 use Rattle.domain.specs.Domain.{isEnabled, byMessages}
 use Rattle.domain.specs.Structure.{structureAt}
+use Rattle.domain_laws.specs.Shape.{DomainShaped}
 use Rattle.domain_direct.specs.Direct.{topiOf}
 use Rattle.wired_state.specs.Wires.{domainIn}
 use Rattle.board_block.specs.Block.{Board, boardOf, blockOf, boardSound}
@@ -38,7 +39,6 @@ use Rattle.board_call.specs.Calls.{testsRules, present, addressed, selected}
 use Rattle.board_call.specs.Refusal.{refusalOf}
 use Rattle.board_call.specs.Change.{signalsTo}
 use Rattle.board_call.specs.Outcome.{Outcome, step, outcome, Gives, Does}
-use Rattle.board_call_laws.specs.Fit.{SavedFit}
 use Rattle.board_call_laws.specs.Small.{Small}
 use Rattle.board_wired_calls.proofs.wire.Reads as wire
 use Rattle.board_wired_calls.proofs.domain_read.Reads as domain-read
@@ -144,12 +144,12 @@ Claim-85 =
 -- saved numbers of 64 bits, and sends at most 63 messages
 unfoldable pub Claim-86 : Type 0
 Claim-86 =
-    (l g s : List ℕ) → WordsFit l → SavedFit s → (c : Call) → Small c → boardSound (boardOf l) ≡ true
-    → refusalOf c l g ≡ 0
+    (l g s : List ℕ) → WordsFit l → ((k : ℕ) → getD s k 0 < 2 ^ 64) → (c : Call) → Small c
+    → boardSound (boardOf l) ≡ true → refusalOf c l g ≡ 0
     → let x = step c (boardOf l) s in
     (boardSound (x .board) ≡ true) × BoardShaped (x .board)
     × ((k : ℕ) → k < 20 → Shaped (theFile (x .board .files) k)) × (length (x .messages) ≤ 63)
-    × SavedFit (x .saved)
+    × ((k : ℕ) → getD (x .saved) k 0 < 2 ^ 64)
 
 -- reset leaves the board that the paper describes, whatever the block held, and sends nothing
 -- [01 R9]
@@ -159,12 +159,18 @@ Claim-87 =
     → (step Reset b s ≡ record { board = startBoard; value = 0; messages = []; saved = s })
     × (boardSound startBoard ≡ true)
 
--- a board has one block, and a block one board
+-- a board has one block, and a block one board. The lengths of a board are 20 files with eight words in each
+-- of their sets, two words of wires, and those of its domains (Claim-72)
 -- [01 B9]
 unfoldable pub Claim-88 : Type 0
 Claim-88 =
     ((l : List ℕ) → length l ≡ 650 → blockOf (boardOf l) ≡ l)
     × ((b : Board) → BoardShaped b → (boardOf (blockOf b) ≡ b) × (length (blockOf b) ≡ 650))
+    × ((b : Board) → BoardShaped b
+    ↔ ((length (b .files) ≡ 20)
+    × ((k : ℕ) → k < 20 → let x = theFile (b .files) k in
+    (length (x .pending) ≡ 8) × (length (x .enable) ≡ 8))
+    × (length (b .wired .wires) ≡ 2) × DomainShaped (b .wired .machine) × DomainShaped (b .wired .child)))
 
 -- ---- the signals
 
