@@ -1,23 +1,53 @@
 -- Claim-182, row by row. Assumes nothing.
-use Prim.Native.Nat.{ℕ, _+_, _*_}
-use mathlib.Core.Path.{_≡_, refl}
-use mathlib.Core.Bool.{Bool, true, false, not, _&&_, _||_}
+use Prim.Native.Nat.{ℕ, _+_, _*_, _<_}
+use mathlib.Core.Path.{_≡_, refl, sym, ap, subst, _∙_}
+use mathlib.Core.Bool.{Bool, true, false, not, _&&_, _||_, true≢false, false≢true}
 use lib.Dec.{eqb, leb}
 use borrow.Author.Tests.{eqb-true}
 use Rattle.words.proofs.TestsLaws.{tested}
 use Rattle.files.specs.Files.{fileNumber}
+use Rattle.domain_region.specs.declared.Word.{Word}
+use Rattle.domain_region.specs.declared.Word.the-variants.{Claimi}
+use Rattle.domain_region.specs.declared.role.Role.{Role}
+use Rattle.domain_region.specs.declared.role.Role.the-variants.{Claims, Configures, Generates, Plain}
 use Rattle.domain_region.specs.Region.{wordAt}
 use Rattle.domain_region.specs.Role.{roleOf}
+use Rattle.domain_region.proofs.RoleLaws.{claims-only}
 use Rattle.board_call.specs.declared.Call.{Call}
 use Rattle.board_call.specs.declared.Call.the-variants.{DomainRead, Register, Move}
 use Rattle.board_call.specs.Calls.{newAccess, rowOf}
 use Rattle.board_runs.specs.Reading.{claimsBy, onlyReads}
+use Rattle.claims_domain.specs.Region.{addressOf, Numbered, Claim-130}
+use Rattle.claims_domain.proofs.Region.{claim-130}
 use Rattle.claims_board.specs.Closure.{partTouches, partWire, touchesFile}
 use Rattle.claims_board.specs.Rows.{Claim-182}
 
 reads-word : (d a : ℕ) → onlyReads (DomainRead d a) ≡ not (claimsBy (roleOf (wordAt a)))
 unfolding onlyReads rowOf
 reads-word d a = tested (claimsBy (roleOf (wordAt a))) (λ t. rw t) (λ f. rw f)
+
+-- where a read claims
+module _ (a : ℕ) where
+  abbrev AtClaimi : Type 0
+  AtClaimi = (h : ℕ) × (h < 4) × (a ≡ 0x4000 + 32 * h + 0x1C)
+
+  claims-on : claimsBy (roleOf (wordAt a)) ≡ true → AtClaimi
+  unfolding Claim-130 claimsBy
+  claims-on e = at (roleOf (wordAt a)) refl e
+    where
+      at : (x : Role) → roleOf (wordAt a) ≡ x → claimsBy x ≡ true → AtClaimi
+      at (Claims h) r t =
+          let word = claims-only (wordAt a) h r in
+          let there = claim-130 .1 a (λ u. true≢false (sym e ∙ ap (λ (w : Word). claimsBy (roleOf w)) u)) in
+          (h, subst Numbered word (there .0), there .1 ∙ ap addressOf word)
+      at (Configures i) r t = absurd (false≢true t)
+      at Generates r t = absurd (false≢true t)
+      at Plain r t = absurd (false≢true t)
+
+  claims-of : (h : ℕ) → h < 4 → a ≡ 0x4000 + 32 * h + 0x1C → claimsBy (roleOf (wordAt a)) ≡ true
+  unfolding Claim-130 claimsBy
+  claims-of h l e =
+      ap (λ (w : Word). claimsBy (roleOf w)) (ap wordAt e ∙ claim-130 .0 (Claimi h) l)
 
 reads-register : (h f kind x v : ℕ) → onlyReads (Register h f kind x v) ≡ eqb kind 0
 unfolding onlyReads rowOf
@@ -108,4 +138,5 @@ claim-182 = (
     files = file-move oh of nh nf n;
     domains = λ w e. refl;
   }),
+  (λ a. (claims-on a, (λ p. claims-of a (p .0) (p .1) (p .2)))),
 )

@@ -3,9 +3,10 @@
 --   RowSays c r s j k t   the row of c says: that it only reads, r; that it may send, s; which wires it may
 --                         change, j; which files, by number 5 h + f, k; and what of each domain, t
 -- Premises: none. No axioms.
-use Prim.Native.Nat.{ℕ, _+_, _*_}
+use Prim.Native.Nat.{ℕ, _+_, _*_, _<_}
 use mathlib.Core.Path.{_≡_}
 use mathlib.Core.Bool.{Bool, true, false, cond, not, _&&_, _||_}
+use mathlib.Core.Logic.{_↔_}
 use lib.Dec.{eqb, leb}
 use Rattle.domain_region.specs.Region.{wordAt}
 use Rattle.domain_region.specs.Role.{roleOf}
@@ -29,7 +30,7 @@ abbrev pub noDomain : Wired → Bool → Touch
 noDomain w e = nothing
 
 -- each call by name: whether it only reads, whether it may send, and which wires, files and parts of a domain
--- it may change, no more and no less
+-- it may change, no more and no less. A read of a word of a domain claims at the address of a claimi alone
 unfoldable pub Claim-182 : Type 0
 Claim-182 =
     RowSays Reset false false all all (λ w e. everything)
@@ -48,3 +49,5 @@ Claim-182 =
     × ((oh of nh nf n : ℕ) → RowSays (Move oh of nh nf n) false false none
     (λ k. (eqb n 3 && eqb k (5 * oh + of)) || (((leb 4 n && leb n 8) || leb 80 n) && eqb k (5 * nh + nf)))
     (λ w e. cond e (sources none none (retargets oh of n w) none) nothing))
+    × ((a : ℕ) → (claimsBy (roleOf (wordAt a)) ≡ true)
+    ↔ ((h : ℕ) × (h < 4) × (a ≡ 0x4000 + 32 * h + 0x1C)))
