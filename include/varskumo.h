@@ -498,16 +498,19 @@ vsk_answer vsk_signals(const uint32_t *VSK_RESTRICT state, size_t state_len,
  *   80 to 87   set the saved pending bits in new, write the saved enable bits;
  *   88 and 89  write the saved threshold and delivery to new.
  * A refused access leaves the record as it was. Made in this order, each once, with one old, one new and one
- * record, and with no call between the first and the last that stores but vsk_wire and vsk_page_write, they
- * leave new as the file that the station would have had with no move. That is the theorem, Claim-105;
- * docs/AUDIT.md opens with it. So the monitor holds back, on every hart and for every guest, what would
- * claim, write a register or write to a domain; calls that only read, as vsk_signals, may be made at any
- * time (Claim-181), but a read of claimi in direct mode is none.
+ * record, whatever log each call is lent, they leave new as the file that the station would have had with no
+ * move. That is the theorem, Claim-105; docs/AUDIT.md opens with it. Between any two of them wires and pages
+ * may be written, and the other stations go on: calls on every file but old and new may be made, and answer
+ * what they would have answered with no move (Claim-185). Calls that only read, as vsk_signals, may be made
+ * at any time, for old and new too (Claim-181). What the monitor has to hold back from the first access to
+ * the last is what the moved station would claim or write to a register of, on either file, writes to the
+ * domains, reads of a claimi, another move, and a reset (Claim-186).
  * What it asks for besides: at the start no active source's target names new, and new is nobody's, for what
  * it holds is lost; nobody writes to new's page until access 8 is made, nor to old's once access 72 is. A
  * device's write counts when vsk_page_write is called: one on its way to old has to have arrived by then
- * (6.1.2, step 3), or it is lost. Old is left silent (Claim-180) and keeps its threshold and its pending and
- * enable bits: clear them before it is used again, or those interrupts come twice.
+ * (6.1.2, step 3), or it is lost. Old is left silent and keeps its threshold and its pending and enable bits,
+ * and what is pending in it is pending in new (Claim-180): clear them before it is used again, or those
+ * interrupts come twice.
  * Before access 1 look whether the supervisor domain has DM. A move that is given up after access 1, before
  * access 9 and before a device has changed over is undone by a write of saved[0] to old's eidelivery; new is
  * left with what accesses 4 to 8 did not clear. Later than that finish it. Do not begin anew without that
@@ -516,7 +519,7 @@ vsk_answer vsk_signals(const uint32_t *VSK_RESTRICT state, size_t state_len,
  * aarch64.
  * Refuses 4: no such access; old and new are not two different guest files; the supervisor domain delivers
  * directly.
- * Claims 100 to 103, and of all 89 together 105 to 110, 180 and 181. */
+ * Claims 100 to 103, and of all 89 together 105 to 110, 180, 181, 185 and 186. */
 VSK_CALL(read_write, none) VSK_ASKED(10)
 vsk_answer vsk_move(uint32_t *VSK_RESTRICT state, size_t state_len,
                     const uint32_t *VSK_RESTRICT log, size_t log_len,

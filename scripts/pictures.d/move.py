@@ -20,16 +20,16 @@ STEPS = [
 DESCRIBED = (
     'The 89 accesses of a move in six steps on a time line. Wires change and devices write to pages '
     'anywhere between them; each device changes over from the page of the old file to that of the new '
-    'one once, after access 8 and before access 72; no other call that stores is made. Below it the same shift with '
-    'no move. At the end the new file is the one that the station would have had: no scan is dropped, '
+    'one once, after access 8 and before access 72; the other stations go on, and the moved one makes no call. '
+    'Below it the same shift with no move. At the end the new file is the one that the station would have had: no scan is dropped, '
     'doubled or handed to another station.')
 CONDITIONS = (
     '*At the start* the blocks have their lengths and the state keeps its rules (`Started`), old and new '
     'are two different guest files (`TwoGuests`), the supervisor’s domain is by messages (`ByMessages`), '
     'and no active source’s target names new (`NoneNamesNew`). *Then* the accesses are made once each, '
-    'in order, each with the saved numbers that the last one gave (`withMove`, `AllAccesses`), and pages are '
-    'written as shown (`PagesKept`). In plain numbers: Claim #175; they can be met: #111; each is '
-    'needed: #112.')
+    'in order (`withMove`, `AllAccesses`), each with the saved numbers that the last one gave (`HandedOn`), pages '
+    'are written and calls made as shown (`PagesKept`, `CallsKept`). In plain numbers: Claims #175, #184; they can '
+    'be met: #111; each is needed: #112.')
 ENDS = [
     '*the same file:* Claim #105\nnumber for number; and every other file, every wire, every pending and '
     'enable bit of both domains',
@@ -40,12 +40,14 @@ ENDS = [
     '*none to another station:* Claim #109\nevery file but old and new has the same pending bits',
     '*the shift goes on:* Claim #110\ncalls on new answer, and new signals, as old would have',
 ]
-NOT_SAID = ('*Not compared:* the targets of the supervisor’s domain, which step 3 rewrites, and its genmsi; what is pending in '
-            'old; the logs, whose words name the files; time. What new held before is lost.')
+NOT_SAID = ('*Not compared:* the targets of the supervisor’s domain, which step 3 rewrites, and its genmsi; the logs, '
+            'whose words name the files; time. What new held before is lost; what is still pending in old is '
+            'pending in new: Claim #180.')
 ANYWHERE = 'anywhere: before, after, and between any two accesses, also of one step'
-NO_CALL = 'none that stores, for any station on any hart: no claim, no write; what only reads may: Claim #181'
+GOES_ON = 'anywhere, and they answer as with no move: Claim #185; what only reads, of any file: Claim #181'
+HELD_BACK = 'the moved station’s claims and writes, writes to the domains, another move, a reset: Claim #186'
 CHANGED_OVER = 'each device changes over in here, once, from old’s page to new’s'
-COMPARED = 'the same wires and page writes, those to new going to old, and no access: `withoutMove`'
+COMPARED = 'the same wires, page writes and calls, page writes to new going to old, and no access: `withoutMove`'
 
 MAY, NOBODY = {'fill': AMBER, 'stroke': AMBER_INK}, {'dash': '3 3'}
 PLAIN, QUIET, WORKS = {}, {'fill': PALE}, {'fill': GREEN}
@@ -112,7 +114,8 @@ def lanes(picture, y):
     """What happens between the accesses, and what old and new are meanwhile."""
     y = pages(picture, y)
     y = lane(picture, y, '*wires*, and writes to *other pages*', [(START, END, ANYWHERE, MAY)])
-    y = lane(picture, y, '*any other call*', [(START, END, NO_CALL, NOBODY)]) + 4
+    y = lane(picture, y, 'calls on *other files*', [(START, END, GOES_ON, MAY)])
+    y = lane(picture, y, '*held back*', [(START, END, HELD_BACK, NOBODY)]) + 4
     y = lane(picture, y, 'so the file *old*', [
         (START, at(3), 'is at work', PLAIN), (at(3), at(71), 'is silent, and takes messages', QUIET),
         (at(71), END, 'is left silent, with what it held: Claim #180', PLAIN)])

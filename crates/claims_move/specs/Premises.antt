@@ -46,7 +46,7 @@ use Rattle.move_cases.specs.Needed.{PagesWithin, LogLong, AnyOld, AnyNew, Besid
 -- numbers in order; nobody writes to new before access 8, nor to old from access 72 on; a call besides only
 -- reads, or is one on a file that is neither; and the compared shift has the same wires, page writes and
 -- calls, the page writes to new going to old, and no access
--- [01 V12 V13 V22 V23 V25 V26 V27 V28 V29]
+-- [01 V3 V12 V13 V22 V23 V25 V26 V27 V28 V29]
 unfoldable pub Claim-175 : Type 0
 Claim-175 =
     (m : Stations) (l s : List ℕ) (es : List Event) (c : Call) (n j level h f a v : ℕ)

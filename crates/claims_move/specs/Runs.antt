@@ -47,7 +47,7 @@ Claim-183 =
 -- numbers that it brings; what the accesses among them leave of the saved numbers is handed from one to the
 -- next, past the other calls. `Makes` says that the calls are these, and that each log has 63 words. The run
 -- that hands on one log and the same saved numbers is such a run
--- [01 V3 V14]
+-- [01 V14]
 unfoldable pub Claim-184 : Type 0
 Claim-184 =
     ((m : Made) (ms : List Made) (cs : List Call) (l s : List ℕ) (p : Call → Bool)

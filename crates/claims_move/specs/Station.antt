@@ -142,6 +142,7 @@ Claim-110 =
 
 -- the other stations go on: a call on a file that is neither old nor new, anywhere between the accesses, and
 -- the signals of a hart that has neither, answer what they would have answered with no move
+-- [01 V24]
 unfoldable pub Claim-185 : Type 0
 Claim-185 = MovedWhere (λ m l s ms ns. saidWhere (elsewhere m) ms l ≡ saidWhere (elsewhere m) ns l)
 
@@ -210,5 +211,6 @@ Claim-112 =
 -- and so is that other calls are held back: with a claim of the moved station from old, or from new, a write
 -- to a register of old, one to a target of the child, or a reset between the accesses, there is a start and
 -- a shift whose end differs
+-- [01 V24]
 unfoldable pub Claim-186 : Type 0
 Claim-186 = NeedsNoClaimOld × NeedsNoClaimNew × NeedsNoWriteOld × NeedsNoTarget × NeedsNoReset

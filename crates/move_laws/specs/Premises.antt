@@ -76,6 +76,7 @@ PagesKept m n (Event.page h f a v ∷ es) =
 PagesKept m n (Event.access ∷ es) = PagesKept m (suc n) es
 PagesKept m n (Event.call c ∷ es) = PagesKept m n es
 
+-- [01 V24]
 unfoldable pub CallsKept : Stations → List Event → Type 0
 CallsKept m [] = Unit {0}
 CallsKept m (Event.wire i level ∷ es) = CallsKept m es
