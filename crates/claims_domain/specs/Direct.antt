@@ -46,7 +46,7 @@ Claim-44 =
 unfoldable pub Claim-45 : Type 0
 Claim-45 = (d : Domain) (h : ℕ) → byMessages d ≡ true → (topiOf d h ≡ 0) × (hartClaimed d h ≡ d)
 
--- a claimi of 0 in direct mode clears iforce, and that alone
+-- a claimi of 0 in direct mode clears iforce, and that alone. A corollary of Claim-142
 -- [01 S13]
 unfoldable pub Claim-46 : Type 0
 Claim-46 =

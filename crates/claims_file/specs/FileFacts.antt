@@ -49,7 +49,7 @@ Claim-21 =
     → (i : ℕ) × (topOf n f ≡ i * 65536 + i) × (1 ≤ i) × (i ≤ n) × Stands f i
     × ((j : ℕ) → 1 ≤ j → j < i → Stands f j → ⊥)
 
--- threshold P shuts P out, and all above it
+-- threshold P shuts P out, and all above it. A corollary of Claim-21
 -- [01 F17 M1]
 unfoldable pub Claim-22 : Type 0
 Claim-22 = (n : ℕ) (f : File) → f .threshold ≢ 0 → (i : ℕ) → f .threshold ≤ i → topOf n f ≢ i * 65536 + i
@@ -87,8 +87,8 @@ Claim-25 =
 unfoldable pub Claim-26 : Type 0
 Claim-26 = (n : ℕ) (f : File) (i d : ℕ) → arrived n (withDelivery f d) i ≡ withDelivery (arrived n f i) d
 
--- delivery: a legal number reads back, any other keeps the old one; the threshold keeps the low 8 bits.
--- Claims 120 and 121 have the select numbers, the legal numbers and what else stays
+-- delivery: a legal number reads back, any other keeps the old one; the threshold keeps the low 8 bits. A
+-- corollary of claims 120 and 121, which have the select numbers, the legal numbers and what else stays
 unfoldable pub Claim-27 : Type 0
 Claim-27 =
     (g : Bool) (f : File) (v : ℕ)
@@ -97,7 +97,7 @@ Claim-27 =
     × (held (written 255 g f Threshold v) Threshold ≡ v % 2 ^ 8)
 
 -- the j-th pending register: what is written reads back, but for identity 0; bit k is identity 64j + k; the
--- other identities stay. Claims 122 and 124 have its select number 0x80 + 2j
+-- other identities stay. A corollary of claims 122 and 124, which have its select number 0x80 + 2j
 unfoldable pub Claim-28 : Type 0
 Claim-28 =
     (g : Bool) (f : File) (j v : ℕ) → Shaped f → j < 4
@@ -106,7 +106,8 @@ Claim-28 =
     → member (written 255 g f (Pending j) v .pending) (64 * j + k) ≡ hasBit v k)
     × ((i : ℕ) → i / 64 ≢ j → member (written 255 g f (Pending j) v .pending) i ≡ member (f .pending) i)
 
--- the j-th enable register: the same for the enable bits. Claims 123 and 124 have its select number 0xC0 + 2j
+-- the j-th enable register: the same for the enable bits. A corollary of claims 123 and 124, which have its
+-- select number 0xC0 + 2j
 unfoldable pub Claim-29 : Type 0
 Claim-29 =
     (g : Bool) (f : File) (j v : ℕ) → Shaped f → j < 4

@@ -97,7 +97,8 @@ Claim-106 =
     MovedWhere (λ m l s ms ns.
     saidWhere isAccess ms l ≡ replicate 89 (record { number = 0; value = 0; count = 0 }))
 
--- no scan is dropped: what is pending for the station with no move is pending in its new file
+-- no scan is dropped: what is pending for the station with no move is pending in its new file. A corollary
+-- of Claim-105
 -- [01 M4]
 unfoldable pub Claim-107 : Type 0
 Claim-107 =
@@ -119,7 +120,8 @@ Claim-108 =
     × (i ≢ 0 → member (newIn m (boardOf (o .block)) .pending) i ≡ false)
     × (newIn m (boardOf (o .block)) ≡ oldIn m (boardOf (o′ .block)))))
 
--- none is handed to another station: every file but old and new has the same pending bits
+-- none is handed to another station: every file but old and new has the same pending bits. A corollary of
+-- Claim-105
 unfoldable pub Claim-109 : Type 0
 Claim-109 =
     MovedWhere (λ m l s ms ns. (k : ℕ) → k < 20 → k ≢ oldNumber m → k ≢ newNumber m

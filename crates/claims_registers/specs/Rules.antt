@@ -112,7 +112,7 @@ allSent w =
       child = sent true (w .child) .domain;
     }
 
--- the state rules are kept by each operation with the messages sent after it
+-- the state rules are kept by each operation with the messages sent after it; of whole calls Claim-86 says it
 unfoldable pub Claim-74 : Type 0
 Claim-74 =
     (w : Wired) → Sound w

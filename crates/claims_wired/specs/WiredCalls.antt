@@ -80,11 +80,12 @@ Claim-65 =
     → (filesOf (now f′) ≡ allReached (filesOf (now f)) (take n (now g)))
     × (length (now f′) ≡ 360 → now f′ ≡ wordsOf (allReached (filesOf (now f)) (take n (now g))))
 
--- a block determines its domain and the domain its block: so these claims determine every word
+-- a block determines its domain and the domain its block: so these claims determine every word. A corollary
+-- of Claim-176
 unfoldable pub Claim-66 : Type 0
 Claim-66 = (l m : List ℕ) → length l ≡ 144 → length m ≡ 144 → domainOf l ≡ domainOf m → l ≡ m
 
--- the words of the wired controller determine it, and it determines its words
+-- the words of the wired controller determine it, and it determines its words. A corollary of Claim-176
 unfoldable pub Claim-67 : Type 0
 Claim-67 = (l m : List ℕ) → length l ≡ 290 → length m ≡ 290 → wiredOf l ≡ wiredOf m → l ≡ m
 

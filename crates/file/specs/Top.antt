@@ -1,4 +1,4 @@
--- A file's top interrupt and what depends on it. 01, "One message file"; the standard 3.8, 3.10. Assumes
+-- A file's top interrupt and what depends on it. 01, "One message file"; the standard 3.9, 3.10. Assumes
 -- nothing.
 --   passes t i         threshold t lets identity i through: Rattle.words
 --   qualifies f i      i is pending and enabled, and the threshold lets it through

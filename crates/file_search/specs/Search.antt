@@ -1,5 +1,5 @@
 -- The lowest identity that is both pending and enabled, before any threshold. 01, "One message file"; the
--- standard 3.8. Assumes nothing.
+-- standard 3.9. Assumes nothing.
 --   lowest p i k          the least of the k numbers from i on at which p holds, or 0
 --   lowestShared ps es    the lowest identity, from 1 on, that is in both sets, or 0
 --   firstBit w k n        the lowest of the n bits of w from bit k on that is 1, or k + n

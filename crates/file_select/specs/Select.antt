@@ -1,4 +1,4 @@
--- Select numbers: which are legal, and which register each names. 01, "One message file"; the standard 3.8.
+-- Select numbers: which are legal, and which register each names. 01, "One message file"; the standard 3.7.
 -- Assumes nothing.
 --   eidelivery, eithreshold, eip0, eie0   the select numbers of these registers
 --   selectLegal s           0x70 to 0xFF, but no odd number from 0x80 on
