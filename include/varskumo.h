@@ -503,8 +503,9 @@ vsk_answer vsk_signals(const uint32_t *VSK_RESTRICT state, size_t state_len,
  * may be written, and the other stations go on: calls on every file but old and new may be made, and answer
  * what they would have answered with no move (Claim-185). Calls that only read, as vsk_signals, may be made
  * at any time, for old and new too (Claim-181). What the monitor has to hold back from the first access to
- * the last is what the moved station would claim or write to a register of, on either file, writes to the
- * domains, reads of a claimi, another move, and a reset (Claim-186).
+ * the last: what the moved station would claim, or write to a register, on either file; writes to the
+ * domains, reads of a claimi, another move, a reset. With some of these it goes wrong (Claim-186), and of the
+ * others nothing is known.
  * What it asks for besides: at the start no active source's target names new, and new is nobody's, for what
  * it holds is lost; nobody writes to new's page until access 8 is made, nor to old's once access 72 is. A
  * device's write counts when vsk_page_write is called: one on its way to old has to have arrived by then

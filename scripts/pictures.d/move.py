@@ -45,7 +45,7 @@ NOT_SAID = ('*Not compared:* the targets of the supervisor’s domain, which ste
             'pending in new: Claim #180.')
 ANYWHERE = 'anywhere: before, after, and between any two accesses, also of one step'
 GOES_ON = 'anywhere, and they answer as with no move: Claim #185; what only reads, of any file: Claim #181'
-HELD_BACK = 'the moved station’s claims and writes, writes to the domains, another move, a reset: Claim #186'
+HELD_BACK = 'the moved station’s claims and writes, writes to the domains, a reset (Claim #186), another move'
 CHANGED_OVER = 'each device changes over in here, once, from old’s page to new’s'
 COMPARED = 'the same wires, page writes and calls, page writes to new going to old, and no access: `withoutMove`'
 
