@@ -1,5 +1,6 @@
-/* A station is moved from one hart to another under load: between every two accesses a wire rises and a
- * device writes. Beside it stands a board with the same load and no move; at the end both have the same file.
+/* A station is moved from one hart to another under load: between every two accesses a wire rises, a device
+ * writes, and another station claims. Beside it stands a board with the same load and no move; at the end
+ * both have the same file, and the other station has claimed the same.
  * `make example` builds it, runs it, and compares what it prints with move.expected. */
 #include "varskumo.h"
 
@@ -17,6 +18,8 @@ typedef struct board {
 /* The station is in guest file 1 of hart 0, and goes to guest file 2 of hart 3. */
 #define OLD 0, VSK_GUEST_FILE(1)
 #define NEW 3, VSK_GUEST_FILE(2)
+/* Another station of hart 0, which goes on meanwhile. */
+#define OTHER 0, VSK_GUEST_FILE(2)
 /* Scanners are wires 1 to 12, with identities 101 to 112. A scale has changed over once access 40 is made. */
 #define SCANNERS 12
 #define IDENTITY(i) (100 + (i))
@@ -24,7 +27,7 @@ typedef struct board {
 
 static board moved, still;
 static uint64_t saved[VSK_SAVED_NUMBERS];
-static unsigned calls;
+static unsigned calls, meanwhile;
 static int wrong;
 
 /* A call that must be done; its value. */
@@ -58,6 +61,7 @@ static void set_up(board *b)
         done(vsk_register(BLOCKS(b), OLD, VSK_WRITE, VSK_EIE(j), ~UINT64_C(0)));
     done(vsk_register(BLOCKS(b), OLD, VSK_WRITE, VSK_EITHRESHOLD, 200));
     done(vsk_register(BLOCKS(b), OLD, VSK_WRITE, VSK_EIDELIVERY, VSK_DELIVERY_ON));
+    done(vsk_register(BLOCKS(b), OTHER, VSK_WRITE, VSK_EIE(0), ~UINT64_C(0)));
 }
 
 /* What happens after n accesses, on both boards: a scanner's wire rises and falls, and the scale writes to
@@ -74,6 +78,16 @@ static void load(unsigned n)
     else
         done(vsk_page_write(BLOCKS(&moved), NEW, VSK_SETEIPNUM_LE, 1 + n));
     done(vsk_page_write(BLOCKS(&still), OLD, VSK_SETEIPNUM_LE, 1 + n));
+}
+
+/* The other station, meanwhile: a device of its own writes, and it claims, on both boards. */
+static void go_on(unsigned n)
+{
+    done(vsk_page_write(BLOCKS(&moved), OTHER, VSK_SETEIPNUM_LE, 1 + n % 60));
+    done(vsk_page_write(BLOCKS(&still), OTHER, VSK_SETEIPNUM_LE, 1 + n % 60));
+    const uint64_t here = done(vsk_claim(BLOCKS(&moved), OTHER));
+    wrong |= here != done(vsk_claim(BLOCKS(&still), OTHER));
+    meanwhile += here != 0;
 }
 
 /* A register of the new file beside that of the old one on the board that did not move. */
@@ -107,6 +121,7 @@ int main(void)
     for (unsigned access = 1; access <= VSK_ACCESSES; access++) {
         load(access - 1);
         done(vsk_move(BLOCKS(&moved), OLD, NEW, access, saved));
+        go_on(access);
     }
     load(VSK_ACCESSES);
     printf("%u accesses, a load before and after each\n", VSK_ACCESSES);
@@ -118,6 +133,7 @@ int main(void)
     for (uint64_t j = 0; j < 4; j++)
         beside(enable[j], VSK_EIE(j));
     printf("claimed on both, in the same order: %u\n", claim_all());
+    printf("claimed by another station meanwhile, the same on both: %u\n", meanwhile);
     printf("%s\n", wrong ? "WRONG" : "the same");
     return wrong;
 }

@@ -44,7 +44,7 @@ use Rattle.move_cases.proofs.NeededShifts.{pages-are, needs-all, needs-pages-ne
 use Rattle.move_cases.proofs.NeededShifts.{needs-fresh, needs-messages, needs-guest-old, needs-guest-new}
 use Rattle.move_cases.proofs.NeededShifts.{needs-log-long}
 use Rattle.move_cases.proofs.BesidesShifts.{needs-no-claim-old, needs-no-claim-new, needs-no-write-old}
-use Rattle.move_cases.proofs.BesidesShifts.{needs-no-target, needs-no-reset}
+use Rattle.move_cases.proofs.BesidesShifts.{needs-no-write-new, needs-no-target, needs-no-reset}
 use Rattle.claims_move.specs.Station.{Claim-104, Claim-105, Claim-106, Claim-107, Claim-108, Claim-109}
 use Rattle.claims_move.specs.Station.{Claim-110, Claim-111, Claim-112, Claim-180, Claim-181, Claim-185}
 use Rattle.claims_move.specs.Station.{Claim-186}
@@ -317,4 +317,11 @@ claim-112 = (
 
 pub claim-186 : Claim-186
 unfolding Claim-186
-claim-186 = (needs-no-claim-old, needs-no-claim-new, needs-no-write-old, needs-no-target, needs-no-reset)
+claim-186 = (
+  needs-no-claim-old,
+  needs-no-claim-new,
+  needs-no-write-old,
+  needs-no-write-new,
+  needs-no-target,
+  needs-no-reset,
+)

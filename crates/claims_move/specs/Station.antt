@@ -47,7 +47,7 @@ use Rattle.move_cases.specs.Example.{Example}
 use Rattle.move_cases.specs.Needed.{PagesAre, NeedsAll, NeedsPagesNew, NeedsPagesOld, NeedsFresh}
 use Rattle.move_cases.specs.Needed.{NeedsMessages, NeedsGuestOld, NeedsGuestNew, NeedsLogLong}
 use Rattle.move_cases.specs.Needed.{NeedsNoClaimOld, NeedsNoClaimNew, NeedsNoWriteOld, NeedsNoTarget}
-use Rattle.move_cases.specs.Needed.{NeedsNoReset}
+use Rattle.move_cases.specs.Needed.{NeedsNoWriteNew, NeedsNoReset}
 
 -- calls one after the other: what a call leaves is ready for the next one, whether it is refused or not; a
 -- refused one leaves all as it was, and an accepted one the board and the saved numbers that `step` says. So
@@ -211,8 +211,9 @@ Claim-112 =
     × NeedsGuestNew × NeedsLogLong
 
 -- and so is that other calls are held back: with a claim of the moved station from old, or from new, a write
--- to a register of old, one to a target of the child, or a reset between the accesses, there is a start and
--- a shift whose end differs
+-- to a register of old, or of new, one to a target of the child, or a reset between the accesses, there is a
+-- start and a shift whose end differs
 -- [01 V24]
 unfoldable pub Claim-186 : Type 0
-Claim-186 = NeedsNoClaimOld × NeedsNoClaimNew × NeedsNoWriteOld × NeedsNoTarget × NeedsNoReset
+Claim-186 =
+    NeedsNoClaimOld × NeedsNoClaimNew × NeedsNoWriteOld × NeedsNoWriteNew × NeedsNoTarget × NeedsNoReset

@@ -15,7 +15,7 @@ use Rattle.move_laws.specs.Premises.{accessesIn, AllAccesses, PagesKept}
 use Rattle.move_laws.proofs.EndEffects.{EventsSmall}
 use Rattle.move_cases.specs.Board.{stations, lent}
 use Rattle.move_cases.specs.Needed.{LogLong, Besides, NeedsNoClaimOld, NeedsNoClaimNew, NeedsNoWriteOld}
-use Rattle.move_cases.specs.Needed.{NeedsNoTarget, NeedsNoReset}
+use Rattle.move_cases.specs.Needed.{NeedsNoWriteNew, NeedsNoTarget, NeedsNoReset}
 use Rattle.move_cases.proofs.BoardRun.{boardRun}
 use Rattle.move_cases.proofs.Starts.{blockTests, lent-started, lent-breaks, good-old}
 use Rattle.move_cases.proofs.ExampleShift.{board, other, two-guests}
@@ -99,6 +99,33 @@ needs-no-write-old =
       );
       breaks = lent-breaks board good-old stations writtenOld (omega arith, tt)
           (λ f. not (member (f .enable) 5)) refl refl;
+    }
+
+-- ---- the enable bits are cleared in new that access 84 wrote there
+
+abbrev writtenNew : List Event
+writtenNew = replicate 87 access ++ (call (Register 1 3 1 0xC0 0) ∷ replicate 2 access)
+
+pub needs-no-write-new : NeedsNoWriteNew
+unfolding NeedsNoWriteNew AllAccesses accessesIn PagesKept LogLong Besides EventsSmall rowOf lent withMove
+    withoutMove blockTests boardRun
+needs-no-write-new =
+    record {
+      m = stations;
+      x = start;
+      es = writtenNew;
+      meets = (
+        lent-started board good-old 63,
+        refl,
+        two-guests,
+        messages,
+        fresh,
+        refl,
+        tt,
+        (inr refl, omega arith, tt),
+      );
+      breaks = lent-breaks board good-old stations writtenNew (omega arith, tt) (λ f. member (f .enable) 5)
+          refl refl;
     }
 
 -- ---- the target names old again, and so does not follow the station

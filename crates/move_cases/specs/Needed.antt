@@ -12,8 +12,8 @@
 --   Needs..                  so it is without the premise that is named, or with a bound that is off by one
 --   Letting d, NeedsNo..     so it is if the call d may be made too
 -- Not claimed: that each field of Started is needed; nor that old and new have to be different, for otherwise
--- every access is refused, and both shifts are the same. Not known: whether a write to the machine domain, a
--- claimi of it, or an access of another move could be let in.
+-- every access is refused, and both shifts are the same. Not known: whether other writes to a domain, a
+-- claimi, or an access of another station's move could be let in.
 use Prim.Native.Nat.{ℕ, suc, _≤_, _<_}
 use mathlib.Core.Path.{_≡_}
 use mathlib.Core.Bool.{true, false, _||_}
@@ -145,6 +145,10 @@ NeedsNoClaimNew = Letting (λ m. Claim (m .newHart) (m .newFile))
 -- it writes a register of old, the enable bits of identities 0 to 63
 unfoldable pub NeedsNoWriteOld : Type 0
 NeedsNoWriteOld = Letting (λ m. Register (m .oldHart) (m .oldFile) 1 0xC0 0)
+
+-- or one of new
+unfoldable pub NeedsNoWriteNew : Type 0
+NeedsNoWriteNew = Letting (λ m. Register (m .newHart) (m .newFile) 1 0xC0 0)
 
 -- the target of source 1 of the child is written: identity 7 of file 2 of hart 0
 unfoldable pub NeedsNoTarget : Type 0
