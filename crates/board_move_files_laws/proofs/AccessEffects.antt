@@ -26,7 +26,8 @@ use Rattle.board_move_files_laws.proofs.ActedLaws.{acted-pending}
 use Rattle.board_move_files_laws.proofs.ActedLaws.{acted-enable, acted-set, acted-write, acted-shut}
 use Rattle.board_move_files_laws.proofs.ActedLaws.{acted-open}
 use Rattle.board_move_files_laws.proofs.WrittenEffects.{Sized, clear-in, word-only, held-word}
-use Rattle.board_move_files_laws.proofs.SharedEffects.{shared-later, shared-clear, shared-set}
+use Rattle.board_move_files_laws.proofs.SharedEffects.{shared-later, shared-clear, shared-still}
+use Rattle.board_move_files_laws.proofs.SharedEffects.{shared-set}
 use Rattle.board_move_files_laws.proofs.NotedEffects.{noted-later, noted-delivery, noted-threshold}
 use Rattle.board_move_files_laws.proofs.NotedEffects.{noted-pending, noted-enable}
 use Rattle.board_move_files_laws.proofs.RestoredEffects.{restored-early, restored-enable}
@@ -124,6 +125,20 @@ module _ (n m : ℕ) (x : Three) (c : File) (sized : Sized n) (r : Related n m x
       (shared-clear n m (x .old .pending) (c .pending) (x .new) sized sn (r .shared) k (omega arith)
       (omega arith))
       (restored-early n (suc m) f c (omega arith)))
+
+  -- what held before an access of these holds still
+  pub new-still : 4 ≤ m → m < 8 → Shaped (x .new) → Related n m (actedOn n (actOf (suc m)) x) c
+  new-still l h sn =
+      let k = suc m - 5 in
+      let f = guestAccess n (x .new) Write (eip0 + 2 * k) 0 .file in
+      rw (acted-clear n (suc m) x (omega arith) (omega arith))
+      (record {
+        untouched = r .untouched;
+        shared = shared-still n m (x .old .pending) (c .pending) (x .new) sized sn (r .shared) k (omega arith)
+            (omega arith);
+        noted = r .noted;
+        restored = restored-early n m f c (omega arith);
+      })
 
   pub target-rewritten : 8 ≤ m → m < 71 → After
   target-rewritten l h =

@@ -1,24 +1,25 @@
 -- The two files and the saved numbers of a move stay related to the old file of a board with no move, through
--- messages and accesses, and in the end the new file is that file, all for files of n identities. No
--- contract cites this file. Assumes nothing.
+-- messages and accesses, and in the end the new file is that file; given up before the first target, the old
+-- one with the saved delivery is. All for files of n identities. No contract cites this file. Assumes
+-- nothing.
 use Prim.Native.Nat.{ℕ, suc, _*_, _≤_, _<_}
 use mathlib.Core.Path.{_≡_, refl, sym, ap, _∙_}
 use mathlib.Core.Bool.{Bool, true, _&&_, _||_}
 use mathlib.Core.List.{List}
 use native.Mathlib.Omega.{arith}
 use lib.Dec.{eqb, leb}
-use lib.ListN.{length}
+use lib.ListN.{length, getD}
 use Rattle.words.specs.Sets.{member}
 use Rattle.words.proofs.SetsLaws.{member-ext}
 use Rattle.file.specs.declared.File.{File}
 use Rattle.file.specs.Shape.{Shaped}
-use Rattle.file.specs.Parts.{withPendingSet}
+use Rattle.file.specs.Parts.{withDelivery, withPendingSet}
 use Rattle.file.specs.Page.{arrived}
 use Rattle.file_laws.proofs.Keeps.{Rules}
 use Rattle.file_laws.proofs.PageEffects.{arrived-pending, arrived-rest}
 use Rattle.file_laws.proofs.Stored.{file-path}
 use Rattle.sizes.specs.Sizes.{savedSize, fileSetSize}
-use Rattle.board_move_steps.specs.Steps.{accesses, actOf}
+use Rattle.board_move_steps.specs.Steps.{accesses, actOf, deliveryAt}
 use Rattle.board_move_files_laws.specs.Related.{Three, actedOn, Shared, Related}
 use Rattle.board_move_files_laws.proofs.SelectEffects.{below}
 use Rattle.board_move_files_laws.proofs.WrittenEffects.{Sized, Within, stays-cases, Clear}
@@ -182,3 +183,21 @@ related-end n x c z a b r =
     enable i h =
         stays-cases n i (λ w. r .restored .enable i w (omega (arith, z .small)))
         (λ e. clear (x .new) a i h e .1 ∙ sym (clear c b i h e .1))
+
+-- ---- given up before the first target
+
+-- the old file has all that is pending and its enables and threshold, and its delivery is saved
+pub related-undone : (n m : ℕ) (x : Three) (c : File) → Sized n → Whole n (x .old) → Whole n c → 1 ≤ m
+    → m < 8 → Related n m x c → withDelivery (x .old) (getD (x .numbers) deliveryAt 0) ≡ c
+related-undone n m x c z a b l h r =
+    file-path (r .noted .delivery l) (r .untouched .threshold)
+    (member-ext (x .old .pending) (c .pending) (a .shaped .pendingLong ∙ sym (b .shaped .pendingLong))
+    (a .shaped .pendingFit) (b .shaped .pendingFit)
+    (λ i q. pending i (omega (arith, a .shaped .pendingLong))))
+    (r .untouched .enable)
+  where
+    pending : (i : ℕ) → i < 32 * fileSetSize → member (x .old .pending) i ≡ member (c .pending) i
+    pending i q =
+        stays-cases n i (λ w. sym (r .shared .alone h i w))
+        (λ e. clear-rules n true (x .old) (a .rules) (a .within) i q e .0
+        ∙ sym (clear-rules n true c (b .rules) (b .within) i q e .0))

@@ -84,6 +84,16 @@ module _ (n m : ℕ) (o c : List ℕ) (f : File) (sized : Sized n) (s : Shaped f
           settled = λ i w h. absurd (omega arith);
         }
 
+    -- and what held before it holds still: to clear takes nothing from the old file
+    pub shared-still : Shared n m o (cleared .pending) c
+    shared-still =
+        record {
+          alone = r .alone;
+          empty = λ h i w l. clear-empty i w (omega arith);
+          joined = λ h. absurd (omega arith);
+          settled = λ i w h. absurd (omega arith);
+        }
+
   -- accesses 80 to 83: v, what was pending in word k of the old file, is set in the new one, and then that
   -- word has all that is pending
   module _ (late : suc m ≡ k + 80) (v : ℕ)

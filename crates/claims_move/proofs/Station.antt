@@ -60,7 +60,7 @@ claim-104 c x ready small = (
 
 -- ---- a call afterwards, with a log and saved numbers of its own
 
-alike : (c : Call) → isAccess c ≡ false → (x : Lent) → Ready x → (g t : List ℕ) → length g ≡ 63
+pub alike : (c : Call) → isAccess c ≡ false → (x : Lent) → Ready x → (g t : List ℕ) → length g ≡ 63
     → Alike (outcome c (x .block) g t) (outcomeOn c x)
 alike c none x ready g t long =
     made-alike (record { call = c; log = g; saved = t }) x (long ∙ sym (ready .full))
@@ -96,14 +96,14 @@ module _ (m : Stations) (l s : List ℕ) (es : List Event) (ms ns : List Made) (
     beside = move-beside m l s es premises
 
     follows-with : Follows (withMove m 0 es) ms (lentFrom l s)
-    follows-with = follows-here m l s es ms ns premises with without handed
+    follows-with = follows-here m l s es started calls ms with handed
 
     -- what both leave
     left-here : leftBy ms l ≡ here .block
     left-here = follows-with .left
 
     left-there : leftBy ns l ≡ there .block
-    left-there = follows-there m l s es ms ns premises with without handed .left
+    left-there = follows-there m l s es started calls ns without .left
 
     moved : Moved m (boardIn here) (boardIn there)
     moved = move-keeps m l s es premises

@@ -8,12 +8,12 @@ use lib.ListN.{replicate}
 use Rattle.board_move_steps.specs.Steps.{accesses}
 use Rattle.board_call.specs.Calls.{rowOf}
 use Rattle.board_call_laws.specs.Small.{Small}
-use Rattle.board_runs.specs.Runs.{Made, saidWhere, Lent, ran}
+use Rattle.board_runs.specs.Runs.{Made, saidWhere, Lent}
 use Rattle.board_runs.specs.Handed.{isAccess, HandedOn, Makes}
 use Rattle.board_runs.specs.Ready.{Ready, AllSmall}
 use Rattle.board_runs.proofs.MadeEffects.{Follows, follows, NoAccess, handed-none}
 use Rattle.move_laws.specs.Shift.{Stations, Event, elsewhere, withMove, withoutMove}
-use Rattle.move_laws.specs.Premises.{CallsKept, Premises}
+use Rattle.move_laws.specs.Premises.{Started, CallsKept, Premises}
 use Rattle.move_laws.specs.After.{FileCall, callOn, SmallCalls}
 use Rattle.move_laws.proofs.OnFileEffects.{small-on, no-access}
 use Rattle.move_laws.proofs.OthersEffects.{kept-no-access}
@@ -64,36 +64,37 @@ module _ (m : Stations) where
 
 -- ---- the shift, with the move and without it
 
-module _ (m : Stations) (l s : List ℕ) (es : List Event) (ms ns : List Made) (p : Premises m l s es)
-    (with : Makes (withMove m 0 es) ms) (without : Makes (withoutMove m es) ns) (handed : HandedOn s ms l)
+module _ (m : Stations) (l s : List ℕ) (es : List Event) (started : Started l s) (calls : CallsKept m es)
   where
     abbrev start : Lent
     start = lentFrom l s
 
-    abbrev here : Lent
-    here = ran (withMove m 0 es) start
-
-    abbrev there : Lent
-    there = ran (withoutMove m es) start
-
     ready : Ready start
-    ready = started-ready l s (p .started)
+    ready = started-ready l s started
 
-    pub follows-here : Follows (withMove m 0 es) ms start
-    follows-here =
-        follows (withMove m 0 es) ms start ready (small-with m es 0 (kept-small m es (p .calls))) with handed
+    pub follows-here : (ms : List Made) → Makes (withMove m 0 es) ms → HandedOn s ms l
+        → Follows (withMove m 0 es) ms start
+    follows-here ms with handed =
+        follows (withMove m 0 es) ms start ready (small-with m es 0 (kept-small m es calls)) with handed
 
-    pub follows-there : Follows (withoutMove m es) ns start
-    follows-there =
-        follows (withoutMove m es) ns start ready (small-without m es (kept-small m es (p .calls))) without
-        (handed-none (withoutMove m es) ns s l without (none-without m es (p .calls)))
+    pub follows-there : (ns : List Made) → Makes (withoutMove m es) ns → Follows (withoutMove m es) ns start
+    follows-there ns without =
+        follows (withoutMove m es) ns start ready (small-without m es (kept-small m es calls)) without
+        (handed-none (withoutMove m es) ns s l without (none-without m es calls))
+
+module _ (m : Stations) (l s : List ℕ) (es : List Event) (ms ns : List Made) (p : Premises m l s es)
+    (with : Makes (withMove m 0 es) ms) (without : Makes (withoutMove m es) ns) (handed : HandedOn s ms l)
+  where
+    here : Follows (withMove m 0 es) ms (lentFrom l s)
+    here = follows-here m l s es (p .started) (p .calls) ms with handed
 
     pub accesses-said : saidWhere isAccess ms l ≡ replicate accesses nothing
-    accesses-said = follows-here .said isAccess ∙ move-done m l s es p
+    accesses-said = here .said isAccess ∙ move-done m l s es p
 
     pub others-said : saidWhere (elsewhere m) ms l ≡ saidWhere (elsewhere m) ns l
     others-said =
-        follows-here .said (elsewhere m) ∙ move-others m l s es p ∙ sym (follows-there .said (elsewhere m))
+        here .said (elsewhere m) ∙ move-others m l s es p
+        ∙ sym (follows-there m l s es (p .started) (p .calls) ns without .said (elsewhere m))
 
 -- ---- calls on one file
 

@@ -10,3 +10,4 @@ pub mod ShiftEffects
 pub mod AfterEffects
 pub mod LeftEffects
 pub mod EndEffects
+pub mod GivenUpEffects

@@ -7,6 +7,7 @@ use mathlib.Core.Path.{_≡_, refl, sym, ap, _∙_}
 use mathlib.Core.Bool.{Bool, true, false}
 use mathlib.Core.List.{List}
 use mathlib.Core.Logic.{_≢_}
+use native.Mathlib.Decide.{ℕ-discrete}
 use native.Mathlib.Omega.{arith}
 use lib.Dec.{ltb}
 use Rattle.words.proofs.TestsLaws.{and-first}
@@ -17,7 +18,7 @@ use Rattle.file.specs.Page.{pageWritten, pageRead}
 use Rattle.file.specs.Register.{accessed}
 use Rattle.file.specs.Top.{topOf, claimed}
 use Rattle.files.specs.Files.{fileNumber, isGuest, theFile}
-use Rattle.files.proofs.FilesLaws.{theFile-withFile-same}
+use Rattle.files.proofs.FilesLaws.{theFile-withFile-same, theFile-withFile-other}
 use Rattle.files_laws.proofs.ReachedEffects.{withFile-theFile}
 use Rattle.board_block.specs.Block.{Board, withFiles}
 use Rattle.board_call.specs.Change.{kindOf}
@@ -154,3 +155,23 @@ module _ (h f : ℕ) where
       file-refused =
           ap (λ (y : Lent). theFile (boardIn y .files) k)
           (after-refused (callOn h f c) x (λ q. d (sym (ready-refusal (callOn h f c) x ready) ∙ q)))
+
+    -- the rest of the board: the wired controller, and every other file
+    abbrev Rest : Board → Type 0
+    Rest b =
+        (b .wired ≡ boardIn x .wired)
+        × ((i : ℕ) → i ≢ k → theFile (b .files) i ≡ theFile (boardIn x .files) i)
+
+    pub rest-kept : Small (callOn h f c) → Rest (boardIn (after (callOn h f c) x))
+    rest-kept small = at (ℕ-discrete (nameRefusal (callOn h f c) (boardIn x)) 0)
+      where
+        at : Dec (nameRefusal (callOn h f c) (boardIn x) ≡ 0) → Rest (boardIn (after (callOn h f c) x))
+        at (yes e) =
+            rw (
+              after-board (callOn h f c) x ready e small,
+              step-on (boardIn x) (ready .fit) c (x .saved),
+            )
+            (refl, (λ i d. theFile-withFile-other (boardIn x .files) k _ i d))
+        at (no d) =
+            rw (after-refused (callOn h f c) x (λ q. d (sym (ready-refusal (callOn h f c) x ready) ∙ q)))
+            (refl, (λ i q. refl))

@@ -66,7 +66,7 @@ elsewhere-is m (Signals h) e = inr record { h = h; is = refl; neither = e }
 elsewhere-is m (Move oh of nh nf n) e = absurd (false≢true e)
 
 -- one that stores is a call on a file
-elsewhere-on : (m : Stations) (c : Call) → onlyReads c ≡ false → elsewhere m c ≡ true → On m c
+pub elsewhere-on : (m : Stations) (c : Call) → onlyReads c ≡ false → elsewhere m c ≡ true → On m c
 elsewhere-on m c stores e = ⊎-elim (λ on. on) (λ w. absurd (not-same (onlyReads c) (watch w) stores))
     (elsewhere-is m c e)
   where

@@ -177,11 +177,12 @@ started-ready l s p =
       saved = p .saved-fit;
     }
 
-module _ (m : Stations) (l s : List ℕ) (es : List Event) (p : Premises m l s es) where
-  beside-start : Beside m (p .guests) 0 (lentFrom l s) (lentFrom l s)
+module _ (m : Stations) (l s : List ℕ) (started : Started l s) (g : TwoGuests m) (messages : ByMessages l)
+    (fresh : NoneNamesNew m l) where
+  pub beside-start : Beside m g 0 (lentFrom l s) (lentFrom l s)
   unfolding ByMessages NoneNamesNew
   beside-start =
-      let ready = started-ready l s (p .started) in
+      let ready = started-ready l s started in
       let w = boardIn (lentFrom l s) .wired in
       record {
         ready = ready;
@@ -190,18 +191,22 @@ module _ (m : Stations) (l s : List ℕ) (es : List Event) (p : Premises m l s e
             record {
               files =
                   record {
-                    related = related-start identities _ _ s (p .started .saved-long);
+                    related = related-start identities _ _ s (started .saved-long);
                     others = λ k h o n. refl;
                   };
               only = only-start w;
               targets = moved-start (m .oldHart) (m .oldFile) (m .newHart) (m .newFile) w
-                  (λ i a h. tested _ (λ t. absurd (not-same _ t (p .fresh i a (omega arith)
+                  (λ i a h. tested _ (λ t. absurd (not-same _ t (fresh i a (omega arith)
                   (named-active (m .newHart) (m .newFile) 0 0 w i
                   (fit-steady (boardIn (lentFrom l s)) (ready .fit)) a h
-                  (guest-low _ _ (p .guests .new)) t)))) (λ f. f));
-              messages = p .messages;
+                  (guest-low _ _ (g .new)) t)))) (λ f. f));
+              messages = messages;
             };
       }
+
+module _ (m : Stations) (l s : List ℕ) (es : List Event) (p : Premises m l s es) where
+  begun : Beside m (p .guests) 0 (lentFrom l s) (lentFrom l s)
+  begun = beside-start m l s (p .started) (p .guests) (p .messages) (p .fresh)
 
   all-made : 0 + accessesIn es ≡ accesses
   unfolding AllAccesses
@@ -210,7 +215,7 @@ module _ (m : Stations) (l s : List ℕ) (es : List Event) (p : Premises m l s e
   -- both runs at the end of the shift
   pub move-beside : Beside m (p .guests) accesses (ran (withMove m 0 es) (lentFrom l s))
       (ran (withoutMove m es) (lentFrom l s))
-  move-beside = beside-run m (p .guests) es 0 _ _ beside-start all-made (p .pages) (p .calls)
+  move-beside = beside-run m (p .guests) es 0 _ _ begun all-made (p .pages) (p .calls)
 
   pub move-keeps : Moved m (boardIn (ran (withMove m 0 es) (lentFrom l s)))
       (boardIn (ran (withoutMove m es) (lentFrom l s)))
@@ -219,9 +224,9 @@ module _ (m : Stations) (l s : List ℕ) (es : List Event) (p : Premises m l s e
   pub move-done : saidWhere isAccess (handing (withMove m 0 es) (lentFrom l s)) l ≡ replicate accesses nothing
   unfolding AllAccesses
   move-done =
-      done-run m (p .guests) es 0 _ _ beside-start all-made (p .pages) (p .calls)
+      done-run m (p .guests) es 0 _ _ begun all-made (p .pages) (p .calls)
       ∙ ap (λ (n : ℕ). replicate n nothing) (p .all)
 
   pub move-others : saidWhere (elsewhere m) (handing (withMove m 0 es) (lentFrom l s)) l
       ≡ saidWhere (elsewhere m) (handing (withoutMove m es) (lentFrom l s)) l
-  move-others = said-run m (p .guests) es 0 _ _ beside-start all-made (p .pages) (p .calls)
+  move-others = said-run m (p .guests) es 0 _ _ begun all-made (p .pages) (p .calls)
