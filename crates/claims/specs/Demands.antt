@@ -51,6 +51,7 @@ use Rattle.claims_move.specs.Runs.{Claim-183, Claim-184}
 use Rattle.claims_move.specs.Premises.{Claim-175, Claim-178, Claim-187, Claim-188}
 use Rattle.claims_move.specs.Station.{Claim-110, Claim-111, Claim-112, Claim-180, Claim-181, Claim-185}
 use Rattle.claims_move.specs.Station.{Claim-186}
+use Rattle.claims_move.specs.GivenUp.{Claim-189}
 use Rattle.claims_cases.specs.Runs.{Claim-163}
 use Rattle.claims_cases.specs.Table.{Claim-170}
 
@@ -132,6 +133,8 @@ Demand-3 =
     × Claim-107 × Claim-108 × Claim-109 × Claim-110
     -- what is left of the old file
     × Claim-180
+    -- a move that is given up before access 9 is undone by one write
+    × Claim-189
     -- the other stations go on, and what only reads may be called at any moment
     × Claim-185 × Claim-181
     -- each call brings a log of its own, and an access the saved numbers that the last one gave

@@ -4,3 +4,4 @@ pub mod MoveCall
 pub mod Runs
 pub mod Premises
 pub mod Station
+pub mod GivenUp
