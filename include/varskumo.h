@@ -413,7 +413,7 @@ vsk_answer vsk_domain_read(uint32_t *VSK_RESTRICT state, size_t state_len,
 
 /* Writes a word of a domain's region, and sends what is then to be sent.
  * Refuses 4: no such domain. 5: the address, which counts from the start of the region.
- * Claims 134 to 138 and 143; what it leaves: 156; what it sends: 54, 77 and 151. */
+ * Claims 55 to 58, 94, 95, 134 to 138 and 143; what it leaves: 156; what it sends: 54, 77 and 151. */
 VSK_CALL(read_write, write_only)
 vsk_answer vsk_domain_write(uint32_t *VSK_RESTRICT state, size_t state_len,
                             uint32_t *VSK_RESTRICT log, size_t log_len,
@@ -498,8 +498,8 @@ vsk_answer vsk_signals(const uint32_t *VSK_RESTRICT state, size_t state_len,
  *   80 to 87   set the saved pending bits in new, write the saved enable bits;
  *   88 and 89  write the saved threshold and delivery to new.
  * A refused access leaves the record as it was. Made in this order, each once, with one old, one new and one
- * record, whatever log each call is lent, they leave new as the file that the station would have had with no
- * move. That is the theorem, Claim-105; docs/AUDIT.md opens with it. Between any two of them wires and pages
+ * record, whatever words each call's log holds, they leave new as the file that the station would have had
+ * with no move. That is the theorem, Claim-105; docs/AUDIT.md opens with it. Between any two of them wires and pages
  * may be written, and the other stations go on: calls on every file but old and new may be made, and answer
  * what they would have answered with no move (Claim-185). Calls that only read, as vsk_signals, may be made
  * at any time, for old and new too (Claim-181). What the monitor has to hold back from the first access to
@@ -513,14 +513,14 @@ vsk_answer vsk_signals(const uint32_t *VSK_RESTRICT state, size_t state_len,
  * and what is pending in it is pending in new (Claim-180): clear them before it is used again, or those
  * interrupts come twice.
  * Before access 1 look whether the supervisor domain has DM. A move that is given up after access 1, before
- * access 9 and before a device has changed over is undone by a write of saved[0] to old's eidelivery; new is
- * left with what accesses 4 to 8 did not clear. Later than that finish it. Do not begin anew without that
+ * access 9 and before a device has changed over is undone by a write of saved[0] to old's eidelivery
+ * (Claim-189); new is left with what accesses 4 to 8 did not clear. Later than that finish it. Do not begin anew without that
  * write: access 1 would save a delivery of 0.
  * It takes ten arguments, of which the last are passed on the stack: four on x86-64, two on RISC-V and on
  * aarch64.
  * Refuses 4: no such access; old and new are not two different guest files; the supervisor domain delivers
  * directly.
- * Claims 100 to 103, and of all 89 together 105 to 110, 180, 181, 185 and 186. */
+ * Claims 100 to 103, and of all 89 together 105 to 110, 180, 181, 185, 186 and 189. */
 VSK_CALL(read_write, none) VSK_ASKED(10)
 vsk_answer vsk_move(uint32_t *VSK_RESTRICT state, size_t state_len,
                     const uint32_t *VSK_RESTRICT log, size_t log_len,

@@ -31,8 +31,8 @@ CONDITIONS = (
     'are written and calls made as shown (`PagesKept`, `CallsKept`). In plain numbers: Claims #175, #184; they can '
     'be met: #111; each is needed: #112.')
 ENDS = [
-    '*the same file:* Claim #105\nnumber for number; and every other file, every wire, every pending and '
-    'enable bit of both domains',
+    '*the same file:* Claim #105\nnumber for number; and every other file, every wire, and both domains '
+    'but for the targets of old',
     '*none refused:* Claim #106\neach of the 89 accesses is done',
     '*none dropped:* Claim #107\nwhat would be pending with no move is pending in new',
     '*none doubled:* Claim #108\nwhat is pending in new would be pending with no move; claimed once, it '
@@ -40,8 +40,8 @@ ENDS = [
     '*none to another station:* Claim #109\nevery file but old and new has the same pending bits',
     '*the shift goes on:* Claim #110\ncalls on new answer, and new signals, as old would have',
 ]
-NOT_SAID = ('*Not compared:* the targets of the supervisor’s domain, which step 3 rewrites, and its genmsi; the logs, '
-            'whose words name the files; time. What new held before is lost; what is still pending in old is '
+NOT_SAID = ('*Not compared:* the logs, whose words name the files; time. A target of the supervisor’s domain that '
+            'names old with no move names new: Claim #105. What new held before is lost; what is still pending in old is '
             'pending in new: Claim #180.')
 ANYWHERE = 'anywhere: before, after, and between any two accesses, also of one step'
 GOES_ON = 'anywhere, and they answer as with no move: Claim #185; what only reads, of any file: Claim #181'

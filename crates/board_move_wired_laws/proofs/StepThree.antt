@@ -78,7 +78,7 @@ written-only w i v =
 
 -- ---- one access
 
-abbrev targetIn : Wired → ℕ → ℕ
+abbrev pub targetIn : Wired → ℕ → ℕ
 targetIn w i = sourceAt (w .child) i .target
 
 module _ (oh of nh nf : ℕ) (w : Wired) (i : ℕ) where
@@ -102,7 +102,7 @@ module _ (oh of nh nf : ℕ) (w : Wired) (i : ℕ) where
       (λ t. rw (next-hit t) (only-joined (written-only w i (renamed here nh nf)) r))
       (λ f. rw (next-miss f) r)
 
-  next-other : (j : ℕ) → j ≢ i → targetIn next j ≡ targetIn w j
+  pub next-other : (j : ℕ) → j ≢ i → targetIn next j ≡ targetIn w j
   unfolding domainIn
   next-other j n =
       tested (namesFile here oh of)

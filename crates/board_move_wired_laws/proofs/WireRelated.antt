@@ -121,7 +121,7 @@ module _ (w : Wired) (i : ℕ) (level : Bool) where
   unfolding wireCall flushed wireSet
   wire-wires = refl
 
-  wire-target : (j : ℕ)
+  pub wire-target : (j : ℕ)
       → sourceAt (wireCall w i level .wired .child) j .target ≡ sourceAt (w .child) j .target
   unfolding sourceAt domainIn
   wire-target j = ap (λ (ts : List ℕ). getD ts j 0) (wire-frame true .target)

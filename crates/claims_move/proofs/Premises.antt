@@ -1,7 +1,7 @@
 -- Claims 175, 178, 187 and 188, from the definitions of the premises, line by line, and from the law that
 -- the board of a block that keeps the rules is fit. Assumes nothing.
-use Prim.Native.Nat.{ℕ, suc, _+_, _^_, _≤_, _<_}
-use mathlib.Core.Path.{_≡_, refl, sym, ap, subst}
+use Prim.Native.Nat.{ℕ, suc, _+_, _-_, _*_, _^_, _≤_, _<_}
+use mathlib.Core.Path.{_≡_, refl, sym, ap, subst, _∙_}
 use mathlib.Core.Bool.{Bool, true, false, not, _&&_, _||_, false≢true}
 use mathlib.Core.List.{_∷_}
 use mathlib.Core.Logic.{_≢_, _⊎_, inl, inr, ⊎-elim, _↔_}
@@ -11,7 +11,9 @@ use borrow.Author.Tests.{eqb-true, eq-eqb, ne-eqb, lt-ltb}
 use Rattle.words.specs.Sets.{WordsFit}
 use Rattle.words.proofs.TestsLaws.{tested, and-first, and-second, and-both, not-same}
 use Rattle.domain.specs.Slot.{sourceAt}
-use Rattle.board_move_steps.specs.Names.{namesFile}
+use Rattle.words.specs.Parts.{packed}
+use Rattle.source_target.specs.Target.{hartOf, guestOf, numberOf}
+use Rattle.board_move_steps.specs.Names.{namesFile, renamed}
 use Rattle.board_move_wired_laws.proofs.TargetNames.{names-number, number-names}
 use Rattle.board_block.specs.Block.{boardOf}
 use Rattle.board_call.specs.declared.Call.{Call}
@@ -27,7 +29,9 @@ use Rattle.board_runs.specs.Reading.{onlyReads}
 use Rattle.move_laws.specs.Shift.{Stations, isNeither, hasNeither, elsewhere, withMove, withoutMove}
 use Rattle.move_laws.specs.Premises.{TwoGuests, ByMessages, NoneNamesNew, accessesIn}
 use Rattle.move_laws.specs.Premises.{AllAccesses, PagesKept, CallsKept}
-use Rattle.move_cases.specs.Needed.{PagesWithin, LogLong, AnyOld, AnyNew, Besides}
+use Rattle.move_laws.specs.After.{FileCall, callOn}
+use Rattle.move_cases.specs.Needed.{PagesWithin, LogLong, AnyOld, AnyNew, Besides, onOld}
+use Rattle.move_cases.specs.Needed.{stationThere}
 use Rattle.claims_registers.proofs.Registers.{active-iff}
 use Rattle.claims_move.specs.Premises.{Claim-175, Claim-178, Claim-187, Claim-188}
 use Rattle.claims_move.proofs.MoveCall.{guest-joined}
@@ -216,6 +220,38 @@ module _ (m : Stations) (h f : ℕ) where
     (λ p. rw (ne-eqb h (m .oldHart) (p .0), ne-eqb h (m .newHart) (p .1)) refl),
   )
 
+-- ---- a target that named old names new, and every other is as it was
+
+module _ (m : Stations) (t t′ : ℕ) where
+  abbrev ByNames : Type 0
+  ByNames =
+      (namesFile t′ (m .oldHart) (m .oldFile) ≡ true → t ≡ renamed t′ (m .newHart) (m .newFile))
+      × (namesFile t′ (m .oldHart) (m .oldFile) ≡ false → t ≡ t′)
+
+  abbrev ByNumbers : Type 0
+  ByNumbers =
+      (hartOf t′ ≡ m .oldHart → guestOf t′ + 1 ≡ m .oldFile
+      → t ≡ m .newHart * 2 ^ 18 + (m .newFile - 1) * 2 ^ 12 + numberOf t′)
+      × ((hartOf t′ ≡ m .oldHart → guestOf t′ + 1 ≡ m .oldFile → ⊥) → t ≡ t′)
+
+  whole : renamed t′ (m .newHart) (m .newFile)
+      ≡ m .newHart * 2 ^ 18 + (m .newFile - 1) * 2 ^ 12 + numberOf t′
+  unfolding renamed packed
+  whole = omega arith
+
+  pub targets-to : ByNames → ByNumbers
+  targets-to p = (
+    (λ a b. p .0 (number-names t′ (m .oldHart) (m .oldFile) a b) ∙ whole),
+    (λ d. tested (namesFile t′ (m .oldHart) (m .oldFile))
+        (λ y. let e = names-number t′ (m .oldHart) (m .oldFile) y in absurd (d (e .0) (e .1))) (p .1)),
+  )
+
+  targets-back : ByNumbers → ByNames
+  targets-back p = (
+    (λ y. let e = names-number t′ (m .oldHart) (m .oldFile) y in p .0 (e .0) (e .1) ∙ sym whole),
+    (λ n. p .1 (λ a b. not-same _ (number-names t′ (m .oldHart) (m .oldFile) a b) n)),
+  )
+
 -- a file that is there, in plain numbers
 file-iff : (h f : ℕ) → (isFile h f ≡ true) ↔ ((h < 4) × (f < 5))
 unfolding isFile
@@ -228,6 +264,31 @@ three-ways p q A =
       ⊎-elim (λ e. ⊎-elim (λ u. inl u) (λ u. inr (inl u)) (either .0 e)) (λ a. inr (inr a)),
       ⊎-elim (λ u. inl (either .1 (inl u))) (⊎-elim (λ u. inl (either .1 (inr u))) (λ a. inr a)),
     )
+
+-- ---- the station's calls where it is not moved
+
+module _ (m : Stations) where
+  on-old-new : (e : FileCall) → onOld m (callOn (m .newHart) (m .newFile) e)
+      ≡ callOn (m .oldHart) (m .oldFile) e
+  unfolding onOld
+  on-old-new (FileCall.pageRead a) = rw (file-same (m .newHart) (m .newFile) (m .newHart) (m .newFile) refl
+      refl) refl
+  on-old-new (FileCall.pageWrite a v) = rw (file-same (m .newHart) (m .newFile) (m .newHart) (m .newFile) refl
+      refl) refl
+  on-old-new (FileCall.register k s v) = rw (file-same (m .newHart) (m .newFile) (m .newHart) (m .newFile)
+      refl refl) refl
+  on-old-new FileCall.top = rw (file-same (m .newHart) (m .newFile) (m .newHart) (m .newFile) refl refl) refl
+  on-old-new FileCall.claim = rw (file-same (m .newHart) (m .newFile) (m .newHart) (m .newFile) refl refl)
+      refl
+
+  on-old-other : (h f : ℕ) (e : FileCall) → (h ≡ m .newHart → f ≡ m .newFile → ⊥)
+      → onOld m (callOn h f e) ≡ callOn h f e
+  unfolding onOld
+  on-old-other h f (FileCall.pageRead a) d = rw (file-other h f (m .newHart) (m .newFile) d) refl
+  on-old-other h f (FileCall.pageWrite a v) d = rw (file-other h f (m .newHart) (m .newFile) d) refl
+  on-old-other h f (FileCall.register k s v) d = rw (file-other h f (m .newHart) (m .newFile) d) refl
+  on-old-other h f FileCall.top d = rw (file-other h f (m .newHart) (m .newFile) d) refl
+  on-old-other h f FileCall.claim d = rw (file-other h f (m .newHart) (m .newFile) d) refl
 
 any-old : (m : Stations)
     → AnyOld m
@@ -280,7 +341,7 @@ any-new m =
     )
 
 pub claim-187 : Claim-187
-unfolding Claim-187 elsewhere PagesWithin Besides LogLong
+unfolding Claim-187 elsewhere PagesWithin Besides onOld stationThere LogLong WordsFit
 claim-187 = (
   (λ m a d f h k level n nf nh of oh s v w. (
     neither-iff m h f,
@@ -310,6 +371,8 @@ claim-187 = (
       r .machine,
       r .sources,
       r .structures,
+      r .genmsi,
+      (λ i l h. targets-to m _ _ (r .targets i l h)),
     )),
     (λ p. record {
       station = p .0;
@@ -320,6 +383,8 @@ claim-187 = (
       machine = p .5;
       sources = p .6;
       structures = p .7;
+      targets = λ i l h. targets-back m _ _ (p .9 i l h);
+      genmsi = p .8;
     }),
   )),
   (λ m l s es. (
@@ -339,7 +404,7 @@ claim-187 = (
       let oh = m .oldHart in
       let of = m .oldFile in
       let next : suc n ≡ n + 1 = omega arith in
-      let ways = three-ways (onlyReads c) (elsewhere m c) (c ≡ d) in (
+      let ways = three-ways (onlyReads c) (elsewhere m c) ((c ≡ d) × (1 ≤ n) × (n < 89)) in (
         tt,
         ((λ p. p), (λ p. p)),
         (
@@ -362,16 +427,82 @@ claim-187 = (
         tt,
         ((λ p. p), (λ p. p)),
         ((λ p. p), (λ p. p)),
-        ((λ p. p), (λ p. p)),
+        (subst (λ (k : ℕ). Besides d m k es) next, subst (λ (k : ℕ). Besides d m k es) (sym next)),
         ((λ p. (ways .0 (p .0), p .1, p .2)), (λ p. (ways .1 (p .0), p .1, p .2))),
+        refl,
+        refl,
+        refl,
+        refl,
+        refl,
       )),
+  (λ m e d a v h f level n nf nh of oh w. (
+    on-old-new m e,
+    on-old-other m h f e,
+    refl,
+    refl,
+    refl,
+    refl,
+    refl,
+    refl,
+  )),
+  (λ l s. (
+    (λ p. (p .block, p .words, p .saved-long, p .saved-fit)),
+    (λ p. record { block = p .0; words = p .1; saved-long = p .2; saved-fit = p .3 }),
+  )),
   (λ m. (any-old m, any-new m)),
   (λ x. ((λ p. p), (λ p. p))),
 )
 
 pub claim-188 : Claim-188
 unfolding Claim-188
-claim-188 P = (
-  (λ w. (w .m, w .x, w .es, w .meets, w .breaks)),
-  (λ w. record { m = w .0; x = w .1; es = w .2; meets = w .3; breaks = w .4 }),
+claim-188 = (
+  (λ P. (
+    (λ w. (w .m, w .x, w .es, w .meets, w .breaks)),
+    (λ w. record { m = w .0; x = w .1; es = w .2; meets = w .3; breaks = w .4 }),
+  )),
+  (λ d. (
+    (λ w. (
+      w .m,
+      w .x,
+      w .es,
+      w .started,
+      w .log,
+      w .guests,
+      w .messages,
+      w .fresh,
+      w .all,
+      w .pages,
+      w .besides,
+      w .breaks,
+    )),
+    (λ w. record {
+      m = w .0;
+      x = w .1;
+      es = w .2;
+      started = w .3;
+      log = w .4;
+      guests = w .5;
+      messages = w .6;
+      fresh = w .7;
+      all = w .8;
+      pages = w .9;
+      besides = w .10;
+      breaks = w .11;
+    }),
+  )),
+  (
+    (λ w. (w .m, w .l, w .s, w .es, w .ms, w .ns, w .premises, w .with, w .without, w .breaks)),
+    (λ w. record {
+      m = w .0;
+      l = w .1;
+      s = w .2;
+      es = w .3;
+      ms = w .4;
+      ns = w .5;
+      premises = w .6;
+      with = w .7;
+      without = w .8;
+      breaks = w .9;
+    }),
+  ),
 )

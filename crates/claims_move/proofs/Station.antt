@@ -43,8 +43,10 @@ use Rattle.move_cases.proofs.ExampleShift.{example}
 use Rattle.move_cases.proofs.NeededShifts.{pages-are, needs-all, needs-pages-new, needs-pages-old}
 use Rattle.move_cases.proofs.NeededShifts.{needs-fresh, needs-messages, needs-guest-old, needs-guest-new}
 use Rattle.move_cases.proofs.NeededShifts.{needs-log-long}
+use Rattle.move_cases.proofs.HandedShifts.{needs-rules, needs-handed-on}
 use Rattle.move_cases.proofs.BesidesShifts.{needs-no-claim-old, needs-no-claim-new, needs-no-write-old}
 use Rattle.move_cases.proofs.BesidesShifts.{needs-no-write-new, needs-no-target, needs-no-reset}
+use Rattle.claims_move.proofs.Premises.{targets-to}
 use Rattle.claims_move.specs.Station.{Claim-104, Claim-105, Claim-106, Claim-107, Claim-108, Claim-109}
 use Rattle.claims_move.specs.Station.{Claim-110, Claim-111, Claim-112, Claim-180, Claim-181, Claim-185}
 use Rattle.claims_move.specs.Station.{Claim-186}
@@ -201,6 +203,8 @@ claim-105 m l s es ms ns a b c d e f g h i j =
       r .machine,
       r .sources,
       r .structures,
+      r .genmsi,
+      (λ k u v. targets-to m _ _ (r .targets k u v)),
     )
 
 pub claim-106 : Claim-106
@@ -312,7 +316,9 @@ claim-112 = (
   needs-messages,
   needs-guest-old,
   needs-guest-new,
+  needs-rules,
   needs-log-long,
+  needs-handed-on,
 )
 
 pub claim-186 : Claim-186

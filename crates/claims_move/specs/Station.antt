@@ -11,7 +11,7 @@
 -- may be called, where 01 has no call at all; and `Makes` and `HandedOn`, what each call brings: a log of 63
 -- words, and an access the saved numbers that the last one gave; of Claim-110 besides `SmallCalls cs`,
 -- register values of 64 bits in the calls afterwards. Claims 111, 112, 181 and 186 have none. No axioms.
-use Prim.Native.Nat.{ℕ, _+_, _*_, _/_, _%_, _≤_, _<_}
+use Prim.Native.Nat.{ℕ, _+_, _-_, _*_, _/_, _%_, _^_, _≤_, _<_}
 use mathlib.Core.Path.{_≡_}
 use mathlib.Core.Bool.{Bool, true, false}
 use mathlib.Core.List.{List, [], _∷_, map}
@@ -23,6 +23,8 @@ use Rattle.file.specs.Top.{topIdentity}
 use Rattle.files.specs.Files.{fileNumber, theFile}
 use Rattle.domain_region.specs.declared.Word.the-variants.{Claimi}
 use Rattle.domain_region.specs.Region.{wordAt}
+use Rattle.source_target.specs.Target.{hartOf, guestOf, numberOf}
+use Rattle.domain.specs.Domain.{genmsiOf}
 use Rattle.domain.specs.Slot.{sourceAt}
 use Rattle.wired_state.specs.Wires.{domainIn}
 use Rattle.board_move_steps.specs.Names.{namesFile}
@@ -47,7 +49,7 @@ use Rattle.move_cases.specs.Example.{Example}
 use Rattle.move_cases.specs.Needed.{PagesAre, NeedsAll, NeedsPagesNew, NeedsPagesOld, NeedsFresh}
 use Rattle.move_cases.specs.Needed.{NeedsMessages, NeedsGuestOld, NeedsGuestNew, NeedsLogLong}
 use Rattle.move_cases.specs.Needed.{NeedsNoClaimOld, NeedsNoClaimNew, NeedsNoWriteOld, NeedsNoTarget}
-use Rattle.move_cases.specs.Needed.{NeedsNoWriteNew, NeedsNoReset}
+use Rattle.move_cases.specs.Needed.{NeedsRules, NeedsHandedOn, NeedsNoWriteNew, NeedsNoReset}
 
 -- calls one after the other: what a call leaves is ready for the next one, whether it is refused or not; a
 -- refused one leaves all as it was, and an accepted one the board and the saved numbers that `step` says. So
@@ -72,9 +74,9 @@ MovedWhere P =
 
 -- demand 3: the new file is the one that the station would have had with no move; every file but old and
 -- new, every wire, and every pending and enable bit of both domains is the same as with no move; and so is
--- all else of the machine domain, and domaincfg, the sourcecfg words and the delivery structures of the
--- child. Every call brings a log of its own, and between the accesses the other stations go on: 01's theorem
--- is the case of shifts with no call besides
+-- all else of the machine domain, and of the child all but that a target that names old with no move names
+-- new, with the same identity. Every call brings a log of its own, and between the accesses the other
+-- stations go on: 01's theorem is the case of shifts with no call besides
 -- [01 V22 V23 V30 M4 X8 X9]
 unfoldable pub Claim-105 : Type 0
 Claim-105 =
@@ -88,7 +90,14 @@ Claim-105 =
     × ((c : Bool) → domainIn (b .wired) c .pending ≡ domainIn (b′ .wired) c .pending)
     × ((c : Bool) → domainIn (b .wired) c .enable ≡ domainIn (b′ .wired) c .enable)
     × (b .wired .machine ≡ b′ .wired .machine) × (b .wired .child .source ≡ b′ .wired .child .source)
-    × (b .wired .child .delivery ≡ b′ .wired .child .delivery))
+    × (b .wired .child .delivery ≡ b′ .wired .child .delivery)
+    × (genmsiOf (b .wired .child) ≡ genmsiOf (b′ .wired .child))
+    × ((i : ℕ) → 1 ≤ i → i ≤ 63
+    → let t = sourceAt (b′ .wired .child) i .target in
+    let t′ = sourceAt (b .wired .child) i .target in
+    (hartOf t ≡ m .oldHart → guestOf t + 1 ≡ m .oldFile
+    → t′ ≡ m .newHart * 2 ^ 18 + (m .newFile - 1) * 2 ^ 12 + numberOf t)
+    × ((hartOf t ≡ m .oldHart → guestOf t + 1 ≡ m .oldFile → ⊥) → t′ ≡ t)))
 
 -- with the premises of a move every one of the 89 accesses is done, and none is refused: each answers 0 and 0
 -- [01 V13]
@@ -202,17 +211,18 @@ unfoldable pub Claim-111 : Type 0
 Claim-111 = Example
 
 -- each premise of a move is needed: without it, or with a bound that is off by one, and with all the others,
--- there is a start and a shift whose end differs. Of `Makes` it drops the length of the log, and of
--- `TwoGuests` that old, or new, is a guest file
+-- there is a start and a shift whose end differs. Of `Started` it drops the state rules, of `TwoGuests` that
+-- old, or new, is a guest file, and of `Makes` the length of the log
 -- [01 V12 V25 V26 V27]
 unfoldable pub Claim-112 : Type 0
 Claim-112 =
     NeedsAll × PagesAre × NeedsPagesNew × NeedsPagesOld × NeedsFresh × NeedsMessages × NeedsGuestOld
-    × NeedsGuestNew × NeedsLogLong
+    × NeedsGuestNew × NeedsRules × NeedsLogLong × NeedsHandedOn
 
 -- and so is that other calls are held back: with a claim of the moved station from old, or from new, a write
--- to a register of old, or of new, one to a target of the child, or a reset between the accesses, there is a
--- start and a shift whose end differs
+-- to a register of old, or of new, one to a target of the child, or a reset between the first access and the
+-- last, there is a start and a shift whose end differs from that of the shift in which the station is not
+-- moved and makes the same calls on its own file
 -- [01 V24]
 unfoldable pub Claim-186 : Type 0
 Claim-186 =

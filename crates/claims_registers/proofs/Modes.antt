@@ -2,9 +2,10 @@
 use Prim.Native.Nat.{ℕ, _<_}
 use mathlib.Core.Path.{_≡_, refl, sym, ap, _∙_}
 use mathlib.Core.Bool.{false, Bool·beq, _||_}
+use mathlib.Core.Logic.{_≢_}
 use native.Mathlib.Omega.{arith}
 use lib.Dec.{eqb, leb}
-use borrow.Author.Tests.{lt-leb}
+use borrow.Author.Tests.{lt-leb, le-leb, leb-true}
 use Rattle.words.specs.Bits.{hasBit}
 use Rattle.words.specs.Parts.{fieldOf}
 use Rattle.words.proofs.PartsLaws.{fieldOf-lt}
@@ -15,6 +16,8 @@ use Rattle.source_target.specs.Target.{startTarget}
 use Rattle.source.specs.Pending.{inactive, settled, moded}
 use Rattle.domain.specs.Domain.{Domain}
 use Rattle.domain.specs.Slot.{sourceAt}
+use Rattle.domain_region.specs.declared.Word.the-variants.{Sourcecfg}
+use Rattle.domain_laws.specs.Shape.{DomainShaped}
 use Rattle.domain_laws.proofs.SlotEffects.{sourceAt-withSource-same, sourceAt-withSource-other}
 use Rattle.wired_state.specs.Wires.{Wired, isDelegated}
 use Rattle.wired_sourcecfg.proofs.DelegationLaws.{machine-stays, machine-moves}
@@ -54,9 +57,16 @@ delegates v =
     (λ f. lt-leb 1024 (sourceWord false false v)
     (omega (arith, word-machine v false false refl f, kept-small v)) ∙ sym f)
 
-pub claim-95 : Claim-95
-unfolding Claim-95 writtenIn writtenAs sourceWritten
-claim-95 w i v shaped h =
+child-after : (w : Wired) (i v : ℕ) → DomainShaped (w .child) → i < 64
+    → let now = hasBit v 10 in
+    let after = writtenIn w false (Sourcecfg i) v .child in
+    (isDelegated w i ≡ now → after ≡ w .child)
+    × (isDelegated w i ≢ now
+    → sourceAt after i
+    ≡ record { mode = 0; target = 0; pending = false; enabled = false })
+    × ((j : ℕ) → j ≢ i → sourceAt after j ≡ sourceAt (w .child) j)
+unfolding writtenIn writtenAs sourceWritten
+child-after w i v shaped h =
     let word = leb 1024 (sourceWord false false v) in
     let child : Wired → Domain = λ x. x .child in (
       (λ e. ap child (machine-stays w i v (beq-same (isDelegated w i) word (e ∙ sym (delegates v))))),
@@ -68,3 +78,13 @@ claim-95 w i v shaped h =
           (λ f. ap (λ (x : Wired). sourceAt (x .child) j) (machine-moves w i v f)
           ∙ sourceAt-withSource-other (w .child) i (inactive 0) j d)),
     )
+
+pub claim-95 : Claim-95
+unfolding Claim-95 isDelegated
+claim-95 = (
+  child-after,
+  (λ w i. (
+    (λ e. leb-true 1024 (sourceAt (w .machine) i .mode) e),
+    (λ h. le-leb 1024 (sourceAt (w .machine) i .mode) h),
+  )),
+)

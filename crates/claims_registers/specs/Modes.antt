@@ -4,10 +4,10 @@
 --   Remoded m wire s v s′   s′ is s after its sourcecfg word became v; m: the delivery mode, true by messages
 -- Premises: 94 has none; 95 has that the lists of the child have their lengths (`DomainShaped`), and i < 64.
 -- No axioms.
-use Prim.Native.Nat.{ℕ, _<_}
+use Prim.Native.Nat.{ℕ, _<_, _≤_}
 use mathlib.Core.Path.{_≡_}
 use mathlib.Core.Bool.{Bool, true, false, cond, not, _&&_, _||_}
-use mathlib.Core.Logic.{_≢_}
+use mathlib.Core.Logic.{_≢_, _↔_}
 use Rattle.words.specs.Bits.{hasBit}
 use Rattle.source_mode.specs.Mode.{isActive, isLevel, isRectified}
 use Rattle.source.specs.declared.Source.{Source}
@@ -47,15 +47,17 @@ unfoldable pub Claim-94 : Type 0
 Claim-94 = (m wire : Bool) (s : Source) (v : ℕ) → Remoded m wire s v (moded s m v wire)
 
 -- a write to sourcecfg[i] of the machine domain: where the source is newly delegated or taken back, the
--- child's is all zeros; where not, the child is as it was; and every other source of the child is
+-- child's is all zeros; where not, the child is as it was; and every other source of the child is. A source
+-- is delegated exactly if its sourcecfg in the machine domain is 1024 or more
 -- [01 W17]
 unfoldable pub Claim-95 : Type 0
 Claim-95 =
-    (w : Wired) (i v : ℕ) → DomainShaped (w .child) → i < 64
+    ((w : Wired) (i v : ℕ) → DomainShaped (w .child) → i < 64
     → let now = hasBit v 10 in
     let after = writtenIn w false (Sourcecfg i) v .child in
     (isDelegated w i ≡ now → after ≡ w .child)
     × (isDelegated w i ≢ now
     → sourceAt after i
     ≡ record { mode = 0; target = 0; pending = false; enabled = false })
-    × ((j : ℕ) → j ≢ i → sourceAt after j ≡ sourceAt (w .child) j)
+    × ((j : ℕ) → j ≢ i → sourceAt after j ≡ sourceAt (w .child) j))
+    × ((w : Wired) (i : ℕ) → (isDelegated w i ≡ true) ↔ (1024 ≤ sourceAt (w .machine) i .mode))

@@ -74,7 +74,7 @@ boardRun (c ∷ cs) y = boardRun cs (stepOn c y)
 
 -- ---- it is the run
 
-step-on : (c : Call) (x : Lent) → Ready x → Small c → heldBy (after c x) ≡ stepOn c (heldBy x)
+pub step-on : (c : Call) (x : Lent) → Ready x → Small c → heldBy (after c x) ≡ stepOn c (heldBy x)
 unfolding stepOn
 step-on c x ready small = at (ℕ-discrete (nameRefusal c (boardIn x)) 0)
   where

@@ -4,3 +4,4 @@ pub mod Starts
 pub mod ExampleShift
 pub mod NeededShifts
 pub mod BesidesShifts
+pub mod HandedShifts

@@ -60,11 +60,11 @@ use Rattle.move_cases.proofs.BoardRun.{heldBy, boardRun, board-run}
 
 -- ---- the tests
 
-allBelow : ℕ → List ℕ → Bool
+unfoldable pub allBelow : ℕ → List ℕ → Bool
 allBelow n [] = true
 allBelow n (w ∷ ws) = ltb w n && allBelow n ws
 
-below-each : (n : ℕ) (ws : List ℕ) → 0 < n → allBelow n ws ≡ true → (k : ℕ) → getD ws k 0 < n
+pub below-each : (n : ℕ) (ws : List ℕ) → 0 < n → allBelow n ws ≡ true → (k : ℕ) → getD ws k 0 < n
 unfolding allBelow
 below-each n [] h e k = h
 below-each n (w ∷ ws) h e zero = ltb-true w n (and-first (ltb w n) (allBelow n ws) e)
@@ -110,19 +110,25 @@ pub record Good (b : Board) : Type 0 where
   pub back : boardOf (blockOf b) ≡ b
   pub tests : blockTests b ≡ true
 
+module _ (b : Board) (back : boardOf (blockOf b) ≡ b) (n : ℕ) where
+  pub back-messages : byMessages (b .wired .child) ≡ true → ByMessages (lent b n .block)
+  unfolding ByMessages lent
+  back-messages e = rw back e
+
+  pub back-fresh : (m : Stations) → every (freshTest m b) 1 63 ≡ true → NoneNamesNew m (lent b n .block)
+  unfolding NoneNamesNew freshTest lent
+  back-fresh m e i l h = rw back (barred _ _ (every-each (freshTest m b) 1 63 e i l (omega arith)))
+
 module _ (b : Board) (good : Good b) (n : ℕ) where
   pub lent-board : boardIn (lent b n) ≡ b
   unfolding lent
   lent-board = good .back
 
   pub lent-messages : byMessages (b .wired .child) ≡ true → ByMessages (lent b n .block)
-  unfolding ByMessages lent
-  lent-messages e = rw (good .back) e
+  lent-messages = back-messages b (good .back) n
 
   pub lent-fresh : (m : Stations) → every (freshTest m b) 1 63 ≡ true → NoneNamesNew m (lent b n .block)
-  unfolding NoneNamesNew freshTest lent
-  lent-fresh m e i l h =
-      rw (good .back) (barred _ _ (every-each (freshTest m b) 1 63 e i l (omega arith)))
+  lent-fresh = back-fresh b (good .back) n
 
   pub lent-started : Started (lent b n .block) (lent b n .saved)
   unfolding lent blockTests WordsFit
@@ -150,18 +156,26 @@ module _ (b : Board) (good : Good b) where
       board-run cs (lent b 63) lent-ready small
       ∙ ap (λ (c : Board). boardRun cs (startOf c)) (good .back)
 
-  -- a shift that ends with another file, by a test of both files
+  -- a shift that ends with another file, by a test of both files; es′ is the compared shift
+  pub lent-differs : (m : Stations) (es es′ : List Event) → EventsSmall es → EventsSmall es′ →
+      (t : File → Bool)
+      → t (newIn m (boardRun (withMove m 0 es) (startOf b) .board)) ≡ false
+      → t (oldIn m (boardRun (withoutMove m es′) (startOf b) .board)) ≡ true
+      → Moved m (boardIn (ran (withMove m 0 es) (lent b 63))) (boardIn (ran (withoutMove m es′) (lent b 63)))
+      → ⊥
+  lent-differs m es es′ small small′ t new old e =
+      let w = lent-ran (withMove m 0 es) (small-with m es 0 small) in
+      let u = lent-ran (withoutMove m es′) (small-without m es′ small′) in
+      not-same _ old
+      (sym (ap (λ (y : call.Acted). t (oldIn m (y .board))) u) ∙ sym (ap t (e .station))
+      ∙ ap (λ (y : call.Acted). t (newIn m (y .board))) w ∙ new)
+
   pub lent-breaks : (m : Stations) (es : List Event) → EventsSmall es → (t : File → Bool)
       → t (newIn m (boardRun (withMove m 0 es) (startOf b) .board)) ≡ false
       → t (oldIn m (boardRun (withoutMove m es) (startOf b) .board)) ≡ true
       → Moved m (boardIn (ran (withMove m 0 es) (lent b 63))) (boardIn (ran (withoutMove m es) (lent b 63)))
       → ⊥
-  lent-breaks m es small t new old e =
-      let w = lent-ran (withMove m 0 es) (small-with m es 0 small) in
-      let u = lent-ran (withoutMove m es) (small-without m es small) in
-      not-same _ old
-      (sym (ap (λ (y : call.Acted). t (oldIn m (y .board))) u) ∙ sym (ap t (e .station))
-      ∙ ap (λ (y : call.Acted). t (newIn m (y .board))) w ∙ new)
+  lent-breaks m es small = lent-differs m es es small small
 
 -- ---- the three starts
 

@@ -6,7 +6,11 @@
 --   PagesAre                 PagesKept m n es is this with 8 and 72
 --   LogLong x                the log has 63 words
 --   AnyOld m, AnyNew m       TwoGuests, but that old, or new, may be any file that is there
---   Besides d m es           every call besides is as CallsKept says, or is the call d
+--   AnyState l s             Started, but that the state may break the rules
+--   Besides d m n es         n accesses having been made, every call besides is as CallsKept says, or is the
+--                            call d, between the first access and the last
+--   onOld m c, stationThere m es   a call, and a shift, with the calls on new made on old: so the station
+--                            makes them where it is not moved
 --   TooWeak P                there are stations, a start and a shift that meet P, and the shift with the
 --                            move, with one log handed on, does not end as Moved says
 --   Needs..                  so it is without the premise that is named, or with a bound that is off by one
@@ -16,21 +20,27 @@
 -- claimi, or an access of another station's move could be let in.
 use Prim.Native.Nat.{ℕ, suc, _≤_, _<_}
 use mathlib.Core.Path.{_≡_}
-use mathlib.Core.Bool.{true, false, _||_}
+use mathlib.Core.Bool.{true, false, cond, _||_}
 use mathlib.Core.List.{List, [], _∷_}
 use mathlib.Core.Logic.{_⊎_}
 use lib.ListN.{length}
-use Rattle.sizes.specs.Sizes.{logSize}
+use Rattle.sizes.specs.Sizes.{blockSize, logSize, savedSize}
+use Rattle.words.specs.Sets.{WordsFit}
+use Rattle.board_move_steps.specs.Steps.{accesses}
+use Rattle.board_block.specs.Block.{boardOf}
 use Rattle.board_call.specs.declared.Call.{Call}
-use Rattle.board_call.specs.declared.Call.the-variants.{Reset, DomainWrite, Register, Claim}
+use Rattle.board_call.specs.declared.Call.the-variants.{Reset, Wire, DomainRead, DomainWrite, PageRead}
+use Rattle.board_call.specs.declared.Call.the-variants.{PageWrite, Register, Top, Claim, Signals, Move}
 use Rattle.board_call.specs.Numbers.{isFile, isGuestFile}
+use Rattle.board_call_laws.specs.Fit.{SavedFit}
 use Rattle.board_call_laws.specs.Small.{Small}
-use Rattle.board_runs.specs.Runs.{Lent, ran}
+use Rattle.board_runs.specs.Runs.{Made, leftBy, Lent, ran}
+use Rattle.board_runs.specs.Handed.{Makes}
 use Rattle.board_runs.specs.Ready.{boardIn}
 use Rattle.board_runs.specs.Reading.{onlyReads}
 use Rattle.move_laws.specs.Shift.{Stations, Event, isOld, isNew, elsewhere, withMove, withoutMove}
 use Rattle.move_laws.specs.Premises.{Started, TwoGuests, ByMessages, NoneNamesNew, accessesIn}
-use Rattle.move_laws.specs.Premises.{AllAccesses, PagesKept, CallsKept}
+use Rattle.move_laws.specs.Premises.{AllAccesses, PagesKept, CallsKept, Premises}
 use Rattle.move_laws.specs.Moved.{Moved}
 
 -- ---- weaker premises
@@ -61,13 +71,47 @@ pub record AnyNew (m : Stations) : Type 0 where
   pub new : isFile (m .newHart) (m .newFile) ≡ true
   pub different : isNew m (m .oldHart) (m .oldFile) ≡ false
 
-unfoldable pub Besides : Call → Stations → List Event → Type 0
-Besides d m [] = Unit {0}
-Besides d m (Event.wire i level ∷ es) = Besides d m es
-Besides d m (Event.page h f a v ∷ es) = Besides d m es
-Besides d m (Event.access ∷ es) = Besides d m es
-Besides d m (Event.call c ∷ es) =
-    (((onlyReads c || elsewhere m c) ≡ true) ⊎ (c ≡ d)) × Small c × Besides d m es
+unfoldable pub Besides : Call → Stations → ℕ → List Event → Type 0
+Besides d m n [] = Unit {0}
+Besides d m n (Event.wire i level ∷ es) = Besides d m n es
+Besides d m n (Event.page h f a v ∷ es) = Besides d m n es
+Besides d m n (Event.access ∷ es) = Besides d m (suc n) es
+Besides d m n (Event.call c ∷ es) =
+    (((onlyReads c || elsewhere m c) ≡ true) ⊎ ((c ≡ d) × (1 ≤ n) × (n < accesses))) × Small c
+    × Besides d m n es
+
+-- the station's file in the compared shift is old
+abbrev pub fileThere : Stations → ℕ → ℕ → ℕ
+fileThere m h f = cond (isNew m h f) (m .oldFile) f
+
+abbrev pub hartThere : Stations → ℕ → ℕ → ℕ
+hartThere m h f = cond (isNew m h f) (m .oldHart) h
+
+unfoldable pub onOld : Stations → Call → Call
+onOld m Reset = Reset
+onOld m (Wire w level) = Wire w level
+onOld m (DomainRead d a) = DomainRead d a
+onOld m (DomainWrite d a v) = DomainWrite d a v
+onOld m (PageRead h f a) = PageRead (hartThere m h f) (fileThere m h f) a
+onOld m (PageWrite h f a v) = PageWrite (hartThere m h f) (fileThere m h f) a v
+onOld m (Register h f k s v) = Register (hartThere m h f) (fileThere m h f) k s v
+onOld m (Top h f) = Top (hartThere m h f) (fileThere m h f)
+onOld m (Claim h f) = Claim (hartThere m h f) (fileThere m h f)
+onOld m (Signals h) = Signals h
+onOld m (Move oh of nh nf n) = Move oh of nh nf n
+
+unfoldable pub stationThere : Stations → List Event → List Event
+stationThere m [] = []
+stationThere m (Event.wire i level ∷ es) = Event.wire i level ∷ stationThere m es
+stationThere m (Event.page h f a v ∷ es) = Event.page h f a v ∷ stationThere m es
+stationThere m (Event.access ∷ es) = Event.access ∷ stationThere m es
+stationThere m (Event.call c ∷ es) = Event.call (onOld m c) ∷ stationThere m es
+
+pub record AnyState (l s : List ℕ) : Type 0 where
+  pub block : length l ≡ blockSize
+  pub words : WordsFit l
+  pub saved-long : length s ≡ savedSize
+  pub saved-fit : SavedFit s
 
 -- ---- premises that do not suffice
 
@@ -126,19 +170,49 @@ NeedsLogLong =
     TooWeak (λ m x es. Started (x .block) (x .saved) × TwoGuests m × ByMessages (x .block)
     × NoneNamesNew m (x .block) × AllAccesses es × PagesKept m 0 es × CallsKept m es)
 
+-- the state breaks a rule
+unfoldable pub NeedsRules : Type 0
+NeedsRules =
+    TooWeak (λ m x es. AnyState (x .block) (x .saved) × LogLong x × TwoGuests m × ByMessages (x .block)
+    × NoneNamesNew m (x .block) × AllAccesses es × PagesKept m 0 es × CallsKept m es)
+
+-- an access is not given the saved numbers that the last one gave
+pub record NeedsHandedOn : Type 0 where
+  pub m : Stations
+  pub l : List ℕ
+  pub s : List ℕ
+  pub es : List Event
+  pub ms : List Made
+  pub ns : List Made
+  pub premises : Premises m l s es
+  pub with : Makes (withMove m 0 es) ms
+  pub without : Makes (withoutMove m es) ns
+  pub breaks : Moved m (boardOf (leftBy ms l)) (boardOf (leftBy ns l)) → ⊥
+
 -- ---- calls that cannot be let in
 
--- one call more may be made
-abbrev pub Letting : (Stations → Call) → Type 0
-Letting d =
-    TooWeak (λ m x es. Started (x .block) (x .saved) × LogLong x × TwoGuests m × ByMessages (x .block)
-    × NoneNamesNew m (x .block) × AllAccesses es × PagesKept m 0 es × Besides (d m) m es)
+-- one call more may be made between the first access and the last; of the moved station it is made on its own
+-- file in the compared shift
+pub record Letting (d : Stations → Call) : Type 0 where
+  pub m : Stations
+  pub x : Lent
+  pub es : List Event
+  pub started : Started (x .block) (x .saved)
+  pub log : LogLong x
+  pub guests : TwoGuests m
+  pub messages : ByMessages (x .block)
+  pub fresh : NoneNamesNew m (x .block)
+  pub all : AllAccesses es
+  pub pages : PagesKept m 0 es
+  pub besides : Besides (d m) m 0 es
+  pub breaks : Moved m (boardIn (ran (withMove m 0 es) x))
+      (boardIn (ran (withoutMove m (stationThere m es)) x)) → ⊥
 
 -- the moved station claims from old
 unfoldable pub NeedsNoClaimOld : Type 0
 NeedsNoClaimOld = Letting (λ m. Claim (m .oldHart) (m .oldFile))
 
--- it claims from new before the last access
+-- it claims from new
 unfoldable pub NeedsNoClaimNew : Type 0
 NeedsNoClaimNew = Letting (λ m. Claim (m .newHart) (m .newFile))
 

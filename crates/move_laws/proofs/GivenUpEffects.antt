@@ -33,6 +33,7 @@ use Rattle.board_move_files_laws.proofs.SelectEffects.{delivery-access}
 use Rattle.board_move_files_laws.proofs.WrittenEffects.{large-sized}
 use Rattle.board_move_files_laws.proofs.AccessEffects.{new-still}
 use Rattle.board_move_files_laws.proofs.RelatedEffects.{related-undone}
+use Rattle.board_move_wired_laws.proofs.StepThree.{targetIn}
 use Rattle.board_move_wired_laws.specs.Retargeted.{TargetsOnly, TargetsMoved}
 use Rattle.board_block.specs.Block.{Board}
 use Rattle.board_call.specs.declared.Call.{Call}
@@ -114,6 +115,7 @@ module _ (m : Stations) (g : TwoGuests m) where
               subst (λ (w : Wired). TargetsMoved (m .oldHart) (m .oldFile) (m .newHart) (m .newFile) n w
               (b′ .wired)) (sym acted-still) (r .targets);
           messages = r .messages;
+          genmsi = ap (λ (w : Wired). targetIn w 0) acted-still ∙ r .genmsi;
         }
 
   module _ (n : ℕ) (x y : Lent) (r : Beside m g n x y) (early : n < 8) where

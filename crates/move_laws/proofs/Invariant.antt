@@ -37,8 +37,9 @@ use Rattle.board_move_wired_laws.proofs.TargetNames.{names-number, names-other,
 use Rattle.board_move_wired_laws.proofs.TargetNames.{hartOf-renamed}
 use Rattle.board_move_wired_laws.proofs.TargetNames.{guestOf-renamed, message-reaches}
 use Rattle.board_move_wired_laws.proofs.WireRelated.{only-messages, wire-frame, wire-related, targets-wire}
-use Rattle.board_move_wired_laws.proofs.WireRelated.{wire-moved}
-use Rattle.board_move_wired_laws.proofs.StepThree.{retargeted-only, retargeted-moved, moved-else}
+use Rattle.board_move_wired_laws.proofs.WireRelated.{wire-moved, wire-target}
+use Rattle.board_move_wired_laws.proofs.StepThree.{targetIn, retargeted-only, retargeted-moved}
+use Rattle.board_move_wired_laws.proofs.StepThree.{moved-else, next-other}
 use Rattle.board_block.specs.Block.{Board}
 use Rattle.board_call.specs.Move.{Acted, acted}
 use Rattle.board_call.specs.Numbers.{isFile, isGuestFile, isMove}
@@ -120,6 +121,8 @@ module _ (m : Stations) (g : TwoGuests m) where
     pub only : TargetsOnly (b .wired) (b′ .wired)
     pub targets : TargetsMoved (m .oldHart) (m .oldFile) (m .newHart) (m .newFile) n (b .wired) (b′ .wired)
     pub messages : byMessages (b′ .wired .child) ≡ true
+    -- genmsi, which stands in the place of the target of source 0
+    pub genmsi : targetIn (b .wired) 0 ≡ targetIn (b′ .wired) 0
 
   module _ (n : ℕ) (b b′ : Board) (s : List ℕ) (fit : Fit b) (fit′ : Fit b′) (r : Middle n b b′ s) where
     -- ---- a message that arrives
@@ -167,6 +170,7 @@ module _ (m : Stations) (g : TwoGuests m) where
           only = r .only;
           targets = r .targets;
           messages = r .messages;
+          genmsi = r .genmsi;
         }
 
     -- ---- a call on a file that is neither old nor new
@@ -182,6 +186,7 @@ module _ (m : Stations) (g : TwoGuests m) where
           only = r .only;
           targets = r .targets;
           messages = r .messages;
+          genmsi = r .genmsi;
         }
 
     -- ---- a wire
@@ -254,6 +259,8 @@ module _ (m : Stations) (g : TwoGuests m) where
                 (r .targets) i level;
             messages = ap (λ (ws : List ℕ). hasBit (getD ws 0 0) 2)
                 (wire-frame (b′ .wired) i level true .source) ∙ r .messages;
+            genmsi =
+                wire-target (b .wired) i level 0 ∙ r .genmsi ∙ sym (wire-target (b′ .wired) i level 0);
           }
 
     -- ---- the next access
@@ -285,6 +292,7 @@ module _ (m : Stations) (g : TwoGuests m) where
       Wireds w =
           TargetsOnly w (b′ .wired)
           × TargetsMoved (m .oldHart) (m .oldFile) (m .newHart) (m .newFile) (suc n) w (b′ .wired)
+          × (targetIn w 0 ≡ targetIn (b′ .wired) 0)
 
       next-else : (n < 8) ⊎ (71 ≤ n) → Wireds (moved .board .wired)
       next-else away =
@@ -296,6 +304,7 @@ module _ (m : Stations) (g : TwoGuests m) where
             moved-else (m .oldHart) (m .oldFile) (m .newHart) (m .newFile) n (b .wired) (b′ .wired)
                 (r .targets)
                 away,
+            r .genmsi,
           )
 
       -- the access that rewrites the target of source n + 1 - 8
@@ -309,6 +318,8 @@ module _ (m : Stations) (g : TwoGuests m) where
                 (r .targets) i (fit-steady b fit) (only-messages (r .only) ∙ r .messages)
                 (guest-low _ _ (g .old)) (guest-hart _ _ (g .new)) (omega (arith, guest-low _ _ (g .new)))
                 (guest-high _ _ (g .new)) (omega arith) (omega arith) (omega arith),
+            next-other (m .oldHart) (m .oldFile) (m .newHart) (m .newFile) (b .wired) i 0 (λ q. omega arith)
+                ∙ r .genmsi,
           )
 
       next-wired : Wireds (moved .board .wired)
@@ -326,4 +337,5 @@ module _ (m : Stations) (g : TwoGuests m) where
             only = next-wired .0;
             targets = next-wired .1;
             messages = r .messages;
+            genmsi = next-wired .2;
           }

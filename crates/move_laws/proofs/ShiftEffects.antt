@@ -2,20 +2,24 @@
 -- on other files answer. After the last access the new file is the old one of the run without the move. No
 -- contract cites this file. Assumes nothing.
 --   lentFrom l s    the block l, a log of zeros, and the saved numbers s: where both runs begin
-use Prim.Native.Nat.{ℕ, suc, _+_}
+use Prim.Native.Nat.{ℕ, suc, _+_, _≤_}
 use mathlib.Core.Path.{_≡_, refl, sym, ap, ap₂, subst, _∙_}
 use mathlib.Core.Bool.{Bool, true, false, cond, not}
 use mathlib.Core.List.{List, [], _∷_}
+use mathlib.Core.Logic.{_⊎_, inl, inr}
 use native.Mathlib.Omega.{arith}
 use borrow.Author.Tests.{eq-eqb}
 use lib.ListN.{replicate, length-replicate}
 use Rattle.words.proofs.TestsLaws.{tested, not-same}
-use Rattle.sizes.specs.Sizes.{identities, logSize}
-use Rattle.domain.specs.Domain.{Domain}
+use Rattle.sizes.specs.Sizes.{identities, logSize, sourceCount}
+use Rattle.domain.specs.Domain.{Domain, genmsiOf}
+use Rattle.domain.specs.Slot.{sourceAt}
 use Rattle.wired_state.specs.Wires.{Wired, domainIn}
+use Rattle.board_move_steps.specs.Names.{namesFile, renamed}
 use Rattle.board_move_steps.specs.Steps.{accesses}
 use Rattle.board_move_files_laws.proofs.WrittenEffects.{large-sized}
 use Rattle.board_move_files_laws.proofs.RelatedEffects.{related-start, related-end}
+use Rattle.board_move_wired_laws.specs.Retargeted.{Same, Rewritten}
 use Rattle.board_move_wired_laws.proofs.StepThree.{named-active, only-start, moved-start}
 use Rattle.board_call.specs.declared.Call.{Call}
 use Rattle.board_call.specs.declared.Call.the-variants.{PageWrite}
@@ -142,6 +146,15 @@ module _ (m : Stations) (g : TwoGuests m) where
   each p w u machine child true = child
   each p w u machine child false = machine
 
+  -- every turn has passed: a target that named old names new, and every other is as it was
+  target-end : (i t t′ : ℕ) → i ≤ sourceCount
+      → Same (m .oldHart) (m .oldFile) (m .newHart) (m .newFile) accesses i t t′
+      ⊎ Rewritten (m .oldHart) (m .oldFile) (m .newHart) (m .newFile) accesses i t t′
+      → (namesFile t′ (m .oldHart) (m .oldFile) ≡ true → t ≡ renamed t′ (m .newHart) (m .newFile))
+      × (namesFile t′ (m .oldHart) (m .oldFile) ≡ false → t ≡ t′)
+  target-end i t t′ h (inl q) = ((λ e. absurd (not-same _ e (q .not-old (omega arith)))), (λ e. q .same))
+  target-end i t t′ h (inr q) = ((λ e. q .now-new), (λ e. absurd (not-same _ (q .was-old) e)))
+
   beside-end : (x y : Lent) → Beside m g accesses x y → Moved m (boardIn x) (boardIn y)
   beside-end x y r =
       let files = r .middle .files in
@@ -161,6 +174,8 @@ module _ (m : Stations) (g : TwoGuests m) where
         machine = only .machine;
         sources = only .source;
         structures = only .delivery;
+        targets = λ i l h. target-end i _ _ h (r .middle .targets i l (omega arith));
+        genmsi = unfold genmsiOf sourceAt in r .middle .genmsi;
       }
 
 -- ---- the start
@@ -201,6 +216,7 @@ module _ (m : Stations) (l s : List ℕ) (started : Started l s) (g : TwoGuests 
                   (fit-steady (boardIn (lentFrom l s)) (ready .fit)) a h
                   (guest-low _ _ (g .new)) t)))) (λ f. f));
               messages = messages;
+              genmsi = refl;
             };
       }
 

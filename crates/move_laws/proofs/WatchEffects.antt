@@ -2,8 +2,7 @@
 -- both. No contract cites this file. Assumes nothing.
 use Prim.Native.Nat.{ℕ, zero, suc, _≤_, _<_}
 use mathlib.Core.Path.{_≡_, refl, sym, ap, ap₂, _∙_}
-use mathlib.Core.Bool.{Bool, true, false, not, _&&_, _||_}
-use mathlib.Core.List.{List}
+use mathlib.Core.Bool.{Bool, true, false, _&&_, _||_}
 use mathlib.Core.Logic.{_≢_}
 use native.Mathlib.Decide.{ℕ-discrete}
 use native.Mathlib.Omega.{arith}
@@ -15,7 +14,7 @@ use Rattle.sizes.specs.Sizes.{identities, hartFiles, firstGuest}
 use Rattle.file_select.specs.Deliveries.{fromWired}
 use Rattle.file.specs.declared.File.{File}
 use Rattle.file.specs.Top.{signals}
-use Rattle.files.specs.Files.{fileNumber, theFile}
+use Rattle.files.specs.Files.{fileNumber}
 use Rattle.domain.specs.Domain.{Domain}
 use Rattle.domain_direct.specs.Direct.{signalOf}
 use Rattle.domain_direct.proofs.DirectLaws.{signal-messages}
