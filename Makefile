@@ -1,8 +1,8 @@
 # make proves and builds what there is and runs the tests and examples in C; make test is the whole gate; see
 # make help.
 .DEFAULT_GOAL := all
-.PHONY: all test near check compare ctest archives boards audit cases mutants bench example tools fmt style numbers
-.PHONY: layers pages change clean help toolchain
+.PHONY: all test near check compare ctest archives boards audit cases mutants together bench example tools fmt style
+.PHONY: numbers layers pages change clean help toolchain
 
 # rt check runs each program once it is proved, and compares what it wrote
 all: check
@@ -52,6 +52,10 @@ cases: toolchain
 mutants: toolchain
 	@scripts/native target/compare >&2
 	@second/try-mutants target/compare/libmonitor.a --list
+
+# definitions that are wrong together with their code: a claim has to refuse each; docs/together.txt keeps the rows
+together: check
+	@scripts/together --keep
 
 bench: toolchain
 	@scripts/bench
@@ -104,6 +108,7 @@ help:
 	@echo "              LOG=FILE, the output of a gate, adds what each crate cost"
 	@echo "make cases    have the second program write anew what the program cases is run on"
 	@echo "make mutants  try wrong models: the comparison has to see each"
+	@echo "make together try definitions that are wrong together with their code: a claim has to refuse each (an hour)"
 	@echo "make bench    time every call, and count its instructions, beside plain C with the same promises"
 	@echo "make ctest    hold the C header to the compiled library: prototypes, tests, programs to be refused"
 	@echo "make example  build the examples in C for this machine, run them, print and compare what they print"
