@@ -108,7 +108,7 @@ help:
 	@echo "              LOG=FILE, the output of a gate, adds what each crate cost"
 	@echo "make cases    have the second program write anew what the program cases is run on"
 	@echo "make mutants  try wrong models: the comparison has to see each"
-	@echo "make together try definitions that are wrong together with their code: a claim has to refuse each (an hour)"
+	@echo "make together try definitions that are wrong together with their code: a claim has to refuse each; half an hour"
 	@echo "make bench    time every call, and count its instructions, beside plain C with the same promises"
 	@echo "make ctest    hold the C header to the compiled library: prototypes, tests, programs to be refused"
 	@echo "make example  build the examples in C for this machine, run them, print and compare what they print"
