@@ -48,7 +48,8 @@ use Rattle.claims_calls.proofs.Answers.{claim-177}
 use Rattle.claims_move.proofs.MoveCall.{claim-100, claim-101, claim-102, claim-103}
 use Rattle.claims_move.proofs.Station.{claim-104, claim-105, claim-106, claim-107, claim-108, claim-109}
 use Rattle.claims_move.proofs.Runs.{claim-183, claim-184}
-use Rattle.claims_move.proofs.Premises.{claim-175, claim-178, claim-187, claim-188}
+use Rattle.claims_move.proofs.Premises.{claim-175, claim-178}
+use Rattle.claims_move.proofs.Words.{claim-187, claim-188}
 use Rattle.claims_move.proofs.Station.{claim-110, claim-111, claim-112, claim-180, claim-181, claim-185}
 use Rattle.claims_move.proofs.Station.{claim-186}
 use Rattle.claims_move.proofs.GivenUp.{claim-189}

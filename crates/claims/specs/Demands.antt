@@ -48,7 +48,8 @@ use Rattle.claims_calls.specs.Answers.{Claim-177}
 use Rattle.claims_move.specs.MoveCall.{Claim-100, Claim-101, Claim-102, Claim-103}
 use Rattle.claims_move.specs.Station.{Claim-104, Claim-105, Claim-106, Claim-107, Claim-108, Claim-109}
 use Rattle.claims_move.specs.Runs.{Claim-183, Claim-184}
-use Rattle.claims_move.specs.Premises.{Claim-175, Claim-178, Claim-187, Claim-188}
+use Rattle.claims_move.specs.Premises.{Claim-175, Claim-178}
+use Rattle.claims_move.specs.Words.{Claim-187, Claim-188}
 use Rattle.claims_move.specs.Station.{Claim-110, Claim-111, Claim-112, Claim-180, Claim-181, Claim-185}
 use Rattle.claims_move.specs.Station.{Claim-186}
 use Rattle.claims_move.specs.GivenUp.{Claim-189}

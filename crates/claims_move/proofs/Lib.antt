@@ -3,5 +3,6 @@ pub mod MoveParts
 pub mod MoveCall
 pub mod Runs
 pub mod Premises
+pub mod Words
 pub mod Station
 pub mod GivenUp

@@ -46,7 +46,7 @@ use Rattle.move_cases.proofs.NeededShifts.{needs-log-long}
 use Rattle.move_cases.proofs.HandedShifts.{needs-rules, needs-handed-on}
 use Rattle.move_cases.proofs.BesidesShifts.{needs-no-claim-old, needs-no-claim-new, needs-no-write-old}
 use Rattle.move_cases.proofs.BesidesShifts.{needs-no-write-new, needs-no-target, needs-no-reset}
-use Rattle.claims_move.proofs.Premises.{targets-to}
+use Rattle.claims_move.proofs.Words.{targets-to}
 use Rattle.claims_move.specs.Station.{Claim-104, Claim-105, Claim-106, Claim-107, Claim-108, Claim-109}
 use Rattle.claims_move.specs.Station.{Claim-110, Claim-111, Claim-112, Claim-180, Claim-181, Claim-185}
 use Rattle.claims_move.specs.Station.{Claim-186}
