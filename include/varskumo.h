@@ -499,13 +499,13 @@ vsk_answer vsk_signals(const uint32_t *VSK_RESTRICT state, size_t state_len,
  *   88 and 89  write the saved threshold and delivery to new.
  * A refused access leaves the record as it was. Made in this order, each once, with one old, one new and one
  * record, whatever words each call's log holds, they leave new as the file that the station would have had
- * with no move. That is the theorem, Claim-105; docs/AUDIT.md opens with it. Between any two of them wires and pages
- * may be written, and the other stations go on: calls on every file but old and new may be made, and answer
- * what they would have answered with no move (Claim-185). Calls that only read, as vsk_signals, may be made
- * at any time, for old and new too (Claim-181). What the monitor has to hold back from the first access to
- * the last: what the moved station would claim, or write to a register, on either file; writes to the
- * domains, reads of a claimi, another move, a reset. With some of these it goes wrong (Claim-186), and of the
- * others nothing is known.
+ * with no move. That is the theorem, Claim-105; docs/AUDIT.md opens with it. Between any two of them wires
+ * and pages may be written, and the other stations go on: calls on every file but old and new may be made,
+ * and answer what they would have answered with no move (Claim-185); and these files signal as with no move
+ * (Claim-190). Calls that only read, as vsk_signals, may be made at any time, for old and new too
+ * (Claim-181). What the monitor has to hold back from the first access to the last: what the moved station
+ * would claim, or write to a register, on either file; writes to the domains, reads of a claimi, another
+ * move, a reset. With some of these it goes wrong (Claim-186), and of the others nothing is known.
  * What it asks for besides: at the start no active source's target names new, and new is nobody's, for what
  * it holds is lost; nobody writes to new's page until access 8 is made, nor to old's once access 72 is. A
  * device's write counts when vsk_page_write is called: one on its way to old has to have arrived by then
@@ -514,13 +514,13 @@ vsk_answer vsk_signals(const uint32_t *VSK_RESTRICT state, size_t state_len,
  * interrupts come twice.
  * Before access 1 look whether the supervisor domain has DM. A move that is given up after access 1, before
  * access 9 and before a device has changed over is undone by a write of saved[0] to old's eidelivery
- * (Claim-189); new is left with what accesses 4 to 8 did not clear. Later than that finish it. Do not begin anew without that
- * write: access 1 would save a delivery of 0.
+ * (Claim-189); new is left with what accesses 4 to 8 did not clear. Later than that finish it. Do not begin
+ * anew without that write: access 1 would save a delivery of 0.
  * It takes ten arguments, of which the last are passed on the stack: four on x86-64, two on RISC-V and on
  * aarch64.
  * Refuses 4: no such access; old and new are not two different guest files; the supervisor domain delivers
  * directly.
- * Claims 100 to 103, and of all 89 together 105 to 110, 180, 181, 185, 186 and 189. */
+ * Claims 100 to 103, and of all 89 together 105 to 110, 180, 181, 185, 186, 189 and 190. */
 VSK_CALL(read_write, none) VSK_ASKED(10)
 vsk_answer vsk_move(uint32_t *VSK_RESTRICT state, size_t state_len,
                     const uint32_t *VSK_RESTRICT log, size_t log_len,

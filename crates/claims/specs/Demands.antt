@@ -51,7 +51,7 @@ use Rattle.claims_move.specs.Runs.{Claim-183, Claim-184}
 use Rattle.claims_move.specs.Premises.{Claim-175, Claim-178}
 use Rattle.claims_move.specs.Words.{Claim-187, Claim-188}
 use Rattle.claims_move.specs.Station.{Claim-110, Claim-111, Claim-112, Claim-180, Claim-181, Claim-185}
-use Rattle.claims_move.specs.Station.{Claim-186}
+use Rattle.claims_move.specs.Station.{Claim-186, Claim-190}
 use Rattle.claims_move.specs.GivenUp.{Claim-189}
 use Rattle.claims_cases.specs.Runs.{Claim-163}
 use Rattle.claims_cases.specs.Table.{Claim-170}
@@ -137,7 +137,7 @@ Demand-3 =
     -- a move that is given up before access 9 is undone by one write
     × Claim-189
     -- the other stations go on, and what only reads may be called at any moment
-    × Claim-185 × Claim-181
+    × Claim-185 × Claim-190 × Claim-181
     -- each call brings a log of its own, and an access the saved numbers that the last one gave
     × Claim-183 × Claim-184
     -- the premises are the paper's, can be met, and each is needed; so is what is held back

@@ -1,4 +1,4 @@
--- Claims 104 to 112, 180, 181, 185 and 186, by the laws of runs and of the move. Assumes nothing.
+-- Claims 104 to 112, 180, 181, 185, 186 and 190, by the laws of runs and of the move. Assumes nothing.
 use Prim.Native.Nat.{ℕ, _+_, _*_}
 use mathlib.Core.Path.{_≡_, refl, sym, ap, _∙_}
 use mathlib.Core.Bool.{Bool, true, false, not, _&&_, false≢true}
@@ -31,9 +31,11 @@ use Rattle.move_laws.specs.Premises.{Started, TwoGuests, ByMessages, NoneNamesN
 use Rattle.move_laws.specs.Premises.{CallsKept, Premises}
 use Rattle.move_laws.specs.Moved.{newNumber, oldIn, newIn, Moved}
 use Rattle.move_laws.specs.After.{FileCall, callOn, SmallCalls}
-use Rattle.move_laws.proofs.Invariant.{new-lt}
+use Rattle.board_call_laws.proofs.HartCallEffects.{signal-bit}
+use Rattle.move_laws.proofs.Invariant.{new-lt, is-new, is-old}
+use Rattle.move_laws.proofs.WatchEffects.{file-signals}
 use Rattle.move_laws.proofs.BesideEffects.{Beside}
-use Rattle.move_laws.proofs.ShiftEffects.{lentFrom, move-beside, move-keeps}
+use Rattle.move_laws.proofs.ShiftEffects.{lentFrom, moment, move-beside, move-keeps}
 use Rattle.move_laws.proofs.AfterEffects.{said-same, file-same, claim-said, claim-left, goes-on}
 use Rattle.move_laws.proofs.AfterEffects.{same-signal}
 use Rattle.move_laws.proofs.LeftEffects.{wire-leaves, move-leaves, move-held}
@@ -46,10 +48,11 @@ use Rattle.move_cases.proofs.NeededShifts.{needs-log-long}
 use Rattle.move_cases.proofs.HandedShifts.{needs-rules, needs-handed-on}
 use Rattle.move_cases.proofs.BesidesShifts.{needs-no-claim-old, needs-no-claim-new, needs-no-write-old}
 use Rattle.move_cases.proofs.BesidesShifts.{needs-no-write-new, needs-no-target, needs-no-reset}
+use Rattle.claims_move.proofs.Premises.{file-other}
 use Rattle.claims_move.proofs.Words.{targets-to}
 use Rattle.claims_move.specs.Station.{Claim-104, Claim-105, Claim-106, Claim-107, Claim-108, Claim-109}
 use Rattle.claims_move.specs.Station.{Claim-110, Claim-111, Claim-112, Claim-180, Claim-181, Claim-185}
-use Rattle.claims_move.specs.Station.{Claim-186}
+use Rattle.claims_move.specs.Station.{Claim-186, Claim-190}
 
 pub claim-104 : Claim-104
 unfolding Claim-104
@@ -245,6 +248,31 @@ pub claim-185 : Claim-185
 unfolding Claim-185
 claim-185 m l s es ms ns a b c d e f g h i j =
     others-said m l s es ms ns (premises m l s es ms ns a b c d e f g h i j) h j i
+
+-- ---- at any moment of the move
+
+pub claim-190 : Claim-190
+unfolding Claim-190
+claim-190 m l s es ms ns started guests messages fresh few pages calls with handed without =
+    let x = ran (withMove m 0 es) (lentFrom l s) in
+    let y = ran (withoutMove m es) (lentFrom l s) in
+    let r = moment m l s es started guests messages fresh few pages calls in
+    let only = r .middle .only in
+    rw (
+      follows-here m l s es started calls ms with handed .left,
+      follows-there m l s es started calls ns without .left,
+    ) (
+      r .middle .files .others,
+      only .wires,
+      only .machine,
+      only .pending,
+      only .enable,
+      (λ h f there low o n. signal-bit (boardIn x) h 5 f low
+          ∙ file-signals m guests _ x y r h f there low
+          (λ q. not-same _ (is-old m guests h f low q) (file-other h f (m .oldHart) (m .oldFile) o))
+          (λ q. not-same _ (is-new m guests h f low q) (file-other h f (m .newHart) (m .newFile) n))
+          ∙ sym (signal-bit (boardIn y) h 5 f low)),
+    )
 
 pub claim-180 : Claim-180
 unfolding Claim-180

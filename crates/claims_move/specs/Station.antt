@@ -1,6 +1,6 @@
--- Claims 104 to 112, 180, 181, 185 and 186, the auditor's question: when the monitor moves a station in the
--- middle of a shift, can a scan be dropped, doubled or handed to the wrong station? 01, "The move, with its
--- premises".
+-- Claims 104 to 112, 180, 181, 185, 186 and 190, the auditor's question: when the monitor moves a station in
+-- the middle of a shift, can a scan be dropped, doubled or handed to the wrong station? 01, "The move, with
+-- its premises".
 --   MovedWhere P     P holds of every shift with a move, ms, beside the same shift without it, ns, both from
 --                    the block l on, where the premises are met: s is the saved numbers that the first access
 --                    brings. Each is a definition of Rattle.move_laws, Premises, or of Rattle.board_runs
@@ -42,7 +42,7 @@ use Rattle.board_runs.specs.Ready.{boardIn, Ready}
 use Rattle.board_runs.specs.Reading.{onlyReads, storing}
 use Rattle.move_laws.specs.Shift.{Stations, Event, elsewhere, withMove, withoutMove}
 use Rattle.move_laws.specs.Premises.{Started, TwoGuests, ByMessages, NoneNamesNew, AllAccesses, PagesKept}
-use Rattle.move_laws.specs.Premises.{CallsKept}
+use Rattle.move_laws.specs.Premises.{CallsKept, accessesIn}
 use Rattle.move_laws.specs.Moved.{oldNumber, newNumber, oldIn, newIn}
 use Rattle.move_laws.specs.After.{FileCall, callOn, SmallCalls}
 use Rattle.move_cases.specs.Example.{Example}
@@ -156,6 +156,24 @@ Claim-110 =
 -- [01 V24]
 unfoldable pub Claim-185 : Type 0
 Claim-185 = MovedWhere (λ m l s ms ns. saidWhere (elsewhere m) ms l ≡ saidWhere (elsewhere m) ns l)
+
+-- and so it is at every moment of the move, however many of its accesses are made: every file but old and
+-- new, every wire, the machine domain, and the pending and enable bits of the child are as with no move; and
+-- a file that is neither old nor new signals its hart exactly if it does so with no move
+unfoldable pub Claim-190 : Type 0
+Claim-190 =
+    (m : Stations) (l s : List ℕ) (es : List Event) (ms ns : List Made)
+    → Started l s → TwoGuests m → ByMessages l → NoneNamesNew m l → accessesIn es ≤ 89 → PagesKept m 0 es
+    → CallsKept m es → Makes (withMove m 0 es) ms → HandedOn s ms l → Makes (withoutMove m es) ns
+    → let b = boardOf (leftBy ms l) in
+    let b′ = boardOf (leftBy ns l) in
+    ((k : ℕ) → k < 20 → k ≢ fileNumber (m .oldHart) (m .oldFile) → k ≢ fileNumber (m .newHart) (m .newFile)
+    → theFile (b .files) k ≡ theFile (b′ .files) k)
+    × (b .wired .wires ≡ b′ .wired .wires) × (b .wired .machine ≡ b′ .wired .machine)
+    × (b .wired .child .pending ≡ b′ .wired .child .pending)
+    × (b .wired .child .enable ≡ b′ .wired .child .enable)
+    × ((h f : ℕ) → h < 4 → f < 5 → (h ≡ m .oldHart → f ≡ m .oldFile → ⊥)
+    → (h ≡ m .newHart → f ≡ m .newFile → ⊥) → hasBit (signalsTo b h 5) f ≡ hasBit (signalsTo b′ h 5) f)
 
 -- what is left of the old file is silent: its delivery is 0, it signals its hart no more, no target of the
 -- child names it, of an active source or not, and no wire set afterwards changes it. What it holds was

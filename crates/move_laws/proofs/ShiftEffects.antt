@@ -45,19 +45,20 @@ abbrev pub nothing : Said
 nothing = record { number = 0; value = 0; count = 0 }
 
 module _ (m : Stations) (g : TwoGuests m) where
-  beside-run : (es : List Event) (n : ℕ) (x y : Lent) → Beside m g n x y → n + accessesIn es ≡ accesses
-      → PagesKept m n es → CallsKept m es
-      → Beside m g accesses (ran (withMove m n es) x) (ran (withoutMove m es) y)
+  -- k accesses are made in all
+  beside-run : (es : List Event) (k n : ℕ) (x y : Lent) → Beside m g n x y → n + accessesIn es ≡ k
+      → k ≤ accesses → PagesKept m n es → CallsKept m es
+      → Beside m g k (ran (withMove m n es) x) (ran (withoutMove m es) y)
   unfolding ran withMove withoutMove accessesIn PagesKept CallsKept
-  beside-run [] n x y r e p q = subst (λ (k : ℕ). Beside m g k x y) (omega arith) r
-  beside-run (Event.wire i level ∷ es) n x y r e p q =
-      beside-run es n _ _ (beside-wire m g n x y r i level) e p q
-  beside-run (Event.page h f a v ∷ es) n x y r e p q =
-      beside-run es n _ _ (beside-page m g n x y r h f a v (p .0) (p .1)) e (p .2) q
-  beside-run (Event.access ∷ es) n x y r e p q =
-      beside-run es (suc n) _ _ (beside-access m g n x y r (omega arith)) (omega arith) p q
-  beside-run (Event.call c ∷ es) n x y r e p q =
-      beside-run es n _ _ (beside-call m g n x y r c (q .0) (q .1)) e p (q .2)
+  beside-run [] k n x y r e u p q = subst (λ (i : ℕ). Beside m g i x y) (omega arith) r
+  beside-run (Event.wire i level ∷ es) k n x y r e u p q =
+      beside-run es k n _ _ (beside-wire m g n x y r i level) e u p q
+  beside-run (Event.page h f a v ∷ es) k n x y r e u p q =
+      beside-run es k n _ _ (beside-page m g n x y r h f a v (p .0) (p .1)) e u (p .2) q
+  beside-run (Event.access ∷ es) k n x y r e u p q =
+      beside-run es k (suc n) _ _ (beside-access m g n x y r (omega arith)) (omega arith) u p q
+  beside-run (Event.call c ∷ es) k n x y r e u p q =
+      beside-run es k n _ _ (beside-call m g n x y r c (q .0) (q .1)) e u p (q .2)
 
   -- every access is done, and answers 0 and 0
   done-run : (es : List Event) (n : ℕ) (x y : Lent) → Beside m g n x y → n + accessesIn es ≡ accesses
@@ -139,7 +140,7 @@ module _ (m : Stations) (g : TwoGuests m) where
   -- ---- after the last access
 
   -- what is the same in the machine domain, and in the child, is the same in both
-  each : {A : Type 0} (p : Domain → A) (w u : Wired) → p (w .machine) ≡ p (u .machine)
+  pub each : {A : Type 0} (p : Domain → A) (w u : Wired) → p (w .machine) ≡ p (u .machine)
       → p (w .child) ≡ p (u .child)
       → (c : Bool) → p (domainIn w c) ≡ p (domainIn u c)
   unfolding domainIn
@@ -220,6 +221,15 @@ module _ (m : Stations) (l s : List ℕ) (started : Started l s) (g : TwoGuests 
             };
       }
 
+-- both runs in the middle of a move
+pub moment : (m : Stations) (l s : List ℕ) (es : List Event) → Started l s → (g : TwoGuests m) → ByMessages l
+    → NoneNamesNew m l → accessesIn es ≤ accesses → PagesKept m 0 es → CallsKept m es
+    → Beside m g (accessesIn es) (ran (withMove m 0 es) (lentFrom l s))
+    (ran (withoutMove m es) (lentFrom l s))
+moment m l s es started g messages fresh few pages calls =
+    beside-run m g es (accessesIn es) 0 _ _ (beside-start m l s started g messages fresh) (omega arith) few
+    pages calls
+
 module _ (m : Stations) (l s : List ℕ) (es : List Event) (p : Premises m l s es) where
   begun : Beside m (p .guests) 0 (lentFrom l s) (lentFrom l s)
   begun = beside-start m l s (p .started) (p .guests) (p .messages) (p .fresh)
@@ -231,7 +241,7 @@ module _ (m : Stations) (l s : List ℕ) (es : List Event) (p : Premises m l s e
   -- both runs at the end of the shift
   pub move-beside : Beside m (p .guests) accesses (ran (withMove m 0 es) (lentFrom l s))
       (ran (withoutMove m es) (lentFrom l s))
-  move-beside = beside-run m (p .guests) es 0 _ _ begun all-made (p .pages) (p .calls)
+  move-beside = beside-run m (p .guests) es accesses 0 _ _ begun all-made (omega arith) (p .pages) (p .calls)
 
   pub move-keeps : Moved m (boardIn (ran (withMove m 0 es) (lentFrom l s)))
       (boardIn (ran (withoutMove m es) (lentFrom l s)))

@@ -56,15 +56,34 @@ module _ (x : Lent) (ready : Ready x) (h : ℕ) where
       ap saidOf (outcome-refused (Signals h) (x .block) (x .log) (x .saved) _
       (ready-refusal (Signals h) x ready) d)
 
-module _ (m : Stations) (g : TwoGuests m) (n : ℕ) (x y : Lent) (r : Beside m g n x y) (h : ℕ)
-    (apart : hasNeither m h ≡ true) where
+module _ (m : Stations) (g : TwoGuests m) (n : ℕ) (x y : Lent) (r : Beside m g n x y) (h : ℕ) where
   abbrev b : Board
   b = boardIn x
 
   abbrev b′ : Board
   b′ = boardIn y
 
-  same : nameRefusal (Signals h) b ≡ nameRefusal (Signals h) b′
+  -- the domains: the machine domain is the same, and the child sends messages
+  domain-same : (c : Bool) → signalOf (domainIn (b .wired) c) h ≡ signalOf (domainIn (b′ .wired) c) h
+  unfolding domainIn
+  domain-same true =
+      signal-messages (b .wired .child) h (only-messages (r .middle .only) ∙ r .middle .messages)
+      ∙ sym (signal-messages (b′ .wired .child) h (r .middle .messages))
+  domain-same false = ap (λ (d : Domain). signalOf d h) (r .middle .only .machine)
+
+  -- a file that is neither old nor new signals the same
+  pub file-signals : (f : ℕ) → h < 4 → f < 5 → fileNumber h f ≢ oldNumber m → fileNumber h f ≢ newNumber m
+      → signalAt b h f ≡ signalAt b′ h f
+  unfolding signalAt
+  file-signals f there low notOld notNew =
+      ap₂ (λ (z : File) (p : Bool). signals identities z
+      || (ltb f firstGuest && eqb (z .delivery) fromWired && p))
+      (r .middle .files .others (fileNumber h f) (number-below h f there low) notOld notNew)
+      (domain-same (eqb f 1))
+
+module _ (m : Stations) (g : TwoGuests m) (n : ℕ) (x y : Lent) (r : Beside m g n x y) (h : ℕ)
+    (apart : hasNeither m h ≡ true) where
+  same : nameRefusal (Signals h) (boardIn x) ≡ nameRefusal (Signals h) (boardIn y)
   same = unfold nameRefusalBy nameTests rowOf in refl
 
   not-old : (f : ℕ) → f < 5 → fileNumber h f ≢ oldNumber m
@@ -77,38 +96,21 @@ module _ (m : Stations) (g : TwoGuests m) (n : ℕ) (x y : Lent) (r : Beside m g
       (rw (and-first (eqb h (m .newHart)) (eqb f (m .newFile)) (is-new m g h f low q))
       (tested (eqb h (m .oldHart)) (λ t. rw t refl) (λ e. rw e refl)))
 
-  -- the domains: the machine domain is the same, and the child sends messages
-  domain-same : (c : Bool) → signalOf (domainIn (b .wired) c) h ≡ signalOf (domainIn (b′ .wired) c) h
-  unfolding domainIn
-  domain-same true =
-      signal-messages (b .wired .child) h (only-messages (r .middle .only) ∙ r .middle .messages)
-      ∙ sym (signal-messages (b′ .wired .child) h (r .middle .messages))
-  domain-same false = ap (λ (d : Domain). signalOf d h) (r .middle .only .machine)
-
   module _ (there : h < 4) where
-    signal-same : (f : ℕ) → f < 5 → signalAt b h f ≡ signalAt b′ h f
-    unfolding signalAt
-    signal-same f low =
-        ap₂ (λ (z : File) (p : Bool). signals identities z
-        || (ltb f firstGuest && eqb (z .delivery) fromWired && p))
-        (r .middle .files .others (fileNumber h f) (number-below h f there low) (not-old f low)
-        (not-new f low))
-        (domain-same (eqb f 1))
-
-    signals-same : (k : ℕ) → k ≤ 5 → signalsTo b h k ≡ signalsTo b′ h k
+    signals-same : (k : ℕ) → k ≤ 5 → signalsTo (boardIn x) h k ≡ signalsTo (boardIn y) h k
     unfolding signalsTo
     signals-same zero l = refl
     signals-same (suc k) l =
         ap₂ (λ (w : ℕ) (p : Bool). putBit w k p) (signals-same k (omega arith))
-        (signal-same k (omega arith))
+        (file-signals m g n x y r h k there (omega arith) (not-old k (omega arith)) (not-new k (omega arith)))
 
   pub watch-said : saidOf (outcomeOn (Signals h) x) ≡ saidOf (outcomeOn (Signals h) y)
-  watch-said = at (ℕ-discrete (nameRefusal (Signals h) b) 0)
+  watch-said = at (ℕ-discrete (nameRefusal (Signals h) (boardIn x)) 0)
     where
-      there : nameRefusal (Signals h) b ≡ 0 → h < 4
-      there e = ltb-true h 4 (unfold rowOf in accepted-present (rowOf (Signals h) .tests) b e)
+      there : nameRefusal (Signals h) (boardIn x) ≡ 0 → h < 4
+      there e = ltb-true h 4 (unfold rowOf in accepted-present (rowOf (Signals h) .tests) (boardIn x) e)
 
-      at : Dec (nameRefusal (Signals h) b ≡ 0)
+      at : Dec (nameRefusal (Signals h) (boardIn x) ≡ 0)
           → saidOf (outcomeOn (Signals h) x) ≡ saidOf (outcomeOn (Signals h) y)
       at (yes e) =
           signals-done x (r .ready) h e
