@@ -50,8 +50,8 @@ use Rattle.claims_move.specs.Station.{Claim-104, Claim-105, Claim-106, Claim-10
 use Rattle.claims_move.specs.Runs.{Claim-183, Claim-184}
 use Rattle.claims_move.specs.Premises.{Claim-175, Claim-178}
 use Rattle.claims_move.specs.Words.{Claim-187, Claim-188}
-use Rattle.claims_move.specs.Station.{Claim-110, Claim-111, Claim-112, Claim-180, Claim-181, Claim-185}
-use Rattle.claims_move.specs.Station.{Claim-186, Claim-190}
+use Rattle.claims_move.specs.Station.{Claim-110, Claim-180, Claim-181, Claim-185, Claim-190}
+use Rattle.claims_move.specs.Conditions.{Claim-111, Claim-112, Claim-186, Claim-191}
 use Rattle.claims_move.specs.GivenUp.{Claim-189}
 use Rattle.claims_cases.specs.Runs.{Claim-163}
 use Rattle.claims_cases.specs.Table.{Claim-170}
@@ -143,4 +143,4 @@ Demand-3 =
     -- the premises are the paper's, can be met, and each is needed; so is what is held back
     × Claim-175 × Claim-111 × Claim-112 × Claim-186
     -- the words that these are told with
-    × Claim-187 × Claim-188
+    × Claim-187 × Claim-188 × Claim-191

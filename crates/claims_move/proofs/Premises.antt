@@ -170,6 +170,8 @@ claim-178 = (
       (record { long = long; full = log; fit = fit; saved = saved }, fit, fit .shaped)),
   small-call,
   tt,
+  (λ c cs. ((λ p. p), (λ p. p))),
+  tt,
   (λ cs a k s v. (
     ((λ p. p), (λ p. p)),
     ((λ p. p .1), (λ p. (tt, p))),

@@ -18,6 +18,7 @@ use Rattle.board_runs.specs.Runs.{Made, leftBy, Said, saidWhere, after, ran}
 use Rattle.board_runs.specs.Handed.{isAccess, savedBy, HandedOn, LogsLong}
 use Rattle.board_runs.proofs.MadeEffects.{refusal-log, outcome-log, outcome-saved, left-handing}
 use Rattle.board_runs.proofs.MadeEffects.{calls-handing, logs-handing, handed-handing, saved-handing}
+use Rattle.board_runs.specs.Runs.{handing}
 use Rattle.claims_move.specs.Runs.{Claim-183, Claim-184}
 
 -- ---- the log
@@ -121,7 +122,7 @@ handed-past m ms l s f =
     )
 
 pub claim-184 : Claim-184
-unfolding Claim-184 leftBy saidWhere savedBy HandedOn LogsLong after ran
+unfolding Claim-184 leftBy saidWhere savedBy HandedOn LogsLong after ran handing
 claim-184 = (
   (λ m ms cs l s p. (
     refl,
@@ -140,6 +141,8 @@ claim-184 = (
     ((λ h. (h .calls, h .logs)), (λ h. record { calls = h .0; logs = h .1 })),
   )),
   (λ c cs x. (
+    refl,
+    refl,
     refl,
     refl,
     refl,

@@ -1,4 +1,4 @@
--- Claims 104 to 112, 180, 181, 185, 186 and 190, by the laws of runs and of the move. Assumes nothing.
+-- Claims 104 to 110, 180, 181, 185 and 190, by the laws of runs and of the move. Assumes nothing.
 use Prim.Native.Nat.{ℕ, _+_, _*_}
 use mathlib.Core.Path.{_≡_, refl, sym, ap, _∙_}
 use mathlib.Core.Bool.{Bool, true, false, not, _&&_, false≢true}
@@ -41,18 +41,11 @@ use Rattle.move_laws.proofs.AfterEffects.{same-signal}
 use Rattle.move_laws.proofs.LeftEffects.{wire-leaves, move-leaves, move-held}
 use Rattle.move_laws.proofs.EndEffects.{follows-here, follows-there, accesses-said, others-said}
 use Rattle.move_laws.proofs.EndEffects.{follows-calls}
-use Rattle.move_cases.proofs.ExampleShift.{example}
-use Rattle.move_cases.proofs.NeededShifts.{pages-are, needs-all, needs-pages-new, needs-pages-old}
-use Rattle.move_cases.proofs.NeededShifts.{needs-fresh, needs-messages, needs-guest-old, needs-guest-new}
-use Rattle.move_cases.proofs.NeededShifts.{needs-log-long}
-use Rattle.move_cases.proofs.HandedShifts.{needs-rules, needs-handed-on}
-use Rattle.move_cases.proofs.BesidesShifts.{needs-no-claim-old, needs-no-claim-new, needs-no-write-old}
-use Rattle.move_cases.proofs.BesidesShifts.{needs-no-write-new, needs-no-target, needs-no-reset}
 use Rattle.claims_move.proofs.Premises.{file-other}
 use Rattle.claims_move.proofs.Words.{targets-to}
 use Rattle.claims_move.specs.Station.{Claim-104, Claim-105, Claim-106, Claim-107, Claim-108, Claim-109}
-use Rattle.claims_move.specs.Station.{Claim-110, Claim-111, Claim-112, Claim-180, Claim-181, Claim-185}
-use Rattle.claims_move.specs.Station.{Claim-186, Claim-190}
+use Rattle.claims_move.specs.Station.{Claim-110, Claim-180, Claim-181, Claim-185}
+use Rattle.claims_move.specs.Station.{Claim-190}
 
 pub claim-104 : Claim-104
 unfolding Claim-104
@@ -327,35 +320,4 @@ claim-181 = (
   (λ m ms. ((λ t. rw t refl), (λ f. rw f refl))),
   left-storing,
   (λ ms us l e. left-storing ms l ∙ ap (λ (vs : List Made). leftBy vs l) e ∙ sym (left-storing us l)),
-)
-
-pub claim-111 : Claim-111
-unfolding Claim-111
-claim-111 = example
-
-pub claim-112 : Claim-112
-unfolding Claim-112
-claim-112 = (
-  needs-all,
-  pages-are,
-  needs-pages-new,
-  needs-pages-old,
-  needs-fresh,
-  needs-messages,
-  needs-guest-old,
-  needs-guest-new,
-  needs-rules,
-  needs-log-long,
-  needs-handed-on,
-)
-
-pub claim-186 : Claim-186
-unfolding Claim-186
-claim-186 = (
-  needs-no-claim-old,
-  needs-no-claim-new,
-  needs-no-write-old,
-  needs-no-write-new,
-  needs-no-target,
-  needs-no-reset,
 )

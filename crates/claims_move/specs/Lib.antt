@@ -6,3 +6,4 @@ pub mod Premises
 pub mod Words
 pub mod Station
 pub mod GivenUp
+pub mod Conditions

@@ -26,7 +26,7 @@ use Rattle.board_call.specs.declared.Call.the-variants.{PageWrite, Register, Mo
 use Rattle.board_call_laws.specs.Fit.{Fit}
 use Rattle.board_call_laws.specs.Small.{Small}
 use Rattle.board_runs.specs.Runs.{Lent}
-use Rattle.board_runs.specs.Ready.{boardIn, Ready}
+use Rattle.board_runs.specs.Ready.{boardIn, Ready, AllSmall}
 use Rattle.board_runs.specs.Reading.{onlyReads}
 use Rattle.move_laws.specs.Shift.{Stations, Event, elsewhere, withMove, withoutMove}
 use Rattle.move_laws.specs.Shift.Event.{wire, page, access, call}
@@ -109,6 +109,7 @@ Claim-178 =
     → boardSound (boardIn x) ≡ true → length (x .log) ≡ 63 → ((k : ℕ) → getD (x .saved) k 0 < 2 ^ 64)
     → Ready x × Fit (boardIn x) × BoardShaped (boardIn x))
     × ((c : Call) → ((h f k s v : ℕ) → c ≡ Register h f k s v → v < 2 ^ 64) → Small c)
+    × AllSmall [] × ((c : Call) (cs : List Call) → AllSmall (c ∷ cs) ↔ (Small c × AllSmall cs))
     × SmallCalls []
     × ((cs : List FileCall) (a k s v : ℕ)
     → (SmallCalls (register k s v ∷ cs) ↔ ((v < 2 ^ 64) × SmallCalls cs))

@@ -72,6 +72,9 @@ Claim-184 =
     × (after c x .log ≡ outcome c (x .block) (x .log) (x .saved) .log)
     × (after c x .saved ≡ outcome c (x .block) (x .log) (x .saved) .saved)
     × (ran [] x ≡ x) × (ran (c ∷ cs) x ≡ ran cs (after c x))
+    × (handing [] x ≡ [])
+    × (handing (c ∷ cs) x
+    ≡ record { call = c; log = x .log; saved = x .saved } ∷ handing cs (after c x))
     × (leftBy (handing cs x) (x .block) ≡ ran cs x .block)
     × (savedBy (x .saved) (handing cs x) (x .block) ≡ ran cs x .saved)
     × HandedOn (x .saved) (handing cs x) (x .block)

@@ -1,4 +1,4 @@
--- Claims 104 to 112, 180, 181, 185, 186 and 190, the auditor's question: when the monitor moves a station in
+-- Claims 104 to 110, 180, 181, 185 and 190, the auditor's question: when the monitor moves a station in
 -- the middle of a shift, can a scan be dropped, doubled or handed to the wrong station? 01, "The move, with
 -- its premises".
 --   MovedWhere P     P holds of every shift with a move, ms, beside the same shift without it, ns, both from
@@ -10,7 +10,7 @@
 -- `PagesKept`, which Claim-111 shows can be met, and Claim-112 that each is needed; `CallsKept`, what else
 -- may be called, where 01 has no call at all; and `Makes` and `HandedOn`, what each call brings: a log of 63
 -- words, and an access the saved numbers that the last one gave; of Claim-110 besides `SmallCalls cs`,
--- register values of 64 bits in the calls afterwards. Claims 111, 112, 181 and 186 have none. No axioms.
+-- register values of 64 bits in the calls afterwards. Claim-181 has none. No axioms.
 use Prim.Native.Nat.{ℕ, _+_, _-_, _*_, _/_, _%_, _^_, _≤_, _<_}
 use mathlib.Core.Path.{_≡_}
 use mathlib.Core.Bool.{Bool, true, false}
@@ -45,11 +45,6 @@ use Rattle.move_laws.specs.Premises.{Started, TwoGuests, ByMessages, NoneNamesN
 use Rattle.move_laws.specs.Premises.{CallsKept, accessesIn}
 use Rattle.move_laws.specs.Moved.{oldNumber, newNumber, oldIn, newIn}
 use Rattle.move_laws.specs.After.{FileCall, callOn, SmallCalls}
-use Rattle.move_cases.specs.Example.{Example}
-use Rattle.move_cases.specs.Needed.{PagesAre, NeedsAll, NeedsPagesNew, NeedsPagesOld, NeedsFresh}
-use Rattle.move_cases.specs.Needed.{NeedsMessages, NeedsGuestOld, NeedsGuestNew, NeedsLogLong}
-use Rattle.move_cases.specs.Needed.{NeedsNoClaimOld, NeedsNoClaimNew, NeedsNoWriteOld, NeedsNoTarget}
-use Rattle.move_cases.specs.Needed.{NeedsRules, NeedsHandedOn, NeedsNoWriteNew, NeedsNoReset}
 
 -- calls one after the other: what a call leaves is ready for the next one, whether it is refused or not; a
 -- refused one leaves all as it was, and an accepted one the board and the saved numbers that `step` says. So
@@ -218,30 +213,3 @@ Claim-181 =
     × (onlyReads (m .call) ≡ false → storing (m ∷ ms) ≡ m ∷ storing ms))
     × ((ms : List Made) (l : List ℕ) → leftBy ms l ≡ leftBy (storing ms) l)
     × ((ms us : List Made) (l : List ℕ) → storing ms ≡ storing us → leftBy ms l ≡ leftBy us l)
-
--- ---- the premises
-
--- the premises of a move can be met: a start and a shift in full. Two devices, an edge source and a level
--- source bring messages to old before they change over and to new after it, in the middle of steps too, and
--- another station claims; at the end new is the file that the station would have had, with its bits in four
--- words of 64 and its threshold of 200, and has nothing of what it held before
-unfoldable pub Claim-111 : Type 0
-Claim-111 = Example
-
--- each premise of a move is needed: without it, or with a bound that is off by one, and with all the others,
--- there is a start and a shift whose end differs. Of `Started` it drops the state rules, of `TwoGuests` that
--- old, or new, is a guest file, and of `Makes` the length of the log
--- [01 V12 V25 V26 V27]
-unfoldable pub Claim-112 : Type 0
-Claim-112 =
-    NeedsAll × PagesAre × NeedsPagesNew × NeedsPagesOld × NeedsFresh × NeedsMessages × NeedsGuestOld
-    × NeedsGuestNew × NeedsRules × NeedsLogLong × NeedsHandedOn
-
--- and so is that other calls are held back: with a claim of the moved station from old, or from new, a write
--- to a register of old, or of new, one to a target of the child, or a reset between the first access and the
--- last, there is a start and a shift whose end differs from that of the shift in which the station is not
--- moved and makes the same calls on its own file
--- [01 V24]
-unfoldable pub Claim-186 : Type 0
-Claim-186 =
-    NeedsNoClaimOld × NeedsNoClaimNew × NeedsNoWriteOld × NeedsNoWriteNew × NeedsNoTarget × NeedsNoReset

@@ -127,7 +127,7 @@ over-small : EventsSmall over
 unfolding early edgeOver levelOver lookedOn EventsSmall rowOf
 over-small = (omega arith, (tt, (tt, tt)))
 
-shift-small : EventsSmall shift
+pub shift-small : EventsSmall shift
 unfolding shift early edgeOver levelOver lookedOn late EventsSmall rowOf
 shift-small = (omega arith, (tt, (tt, tt)))
 
@@ -147,6 +147,10 @@ unfolding start
 without = lent-ran board good-old (withoutMove stations shift) (small-without stations shift shift-small)
 
 -- ---- the example
+
+pub start-ready : Ready start
+unfolding start
+start-ready = lent-ready board good-old
 
 begins : lentFrom (start .block) (start .saved) ≡ start
 unfolding start lent

@@ -1,0 +1,97 @@
+-- Claims 111, 112, 186 and 191: the premises of a move can be met, each is needed, and so is what has to be
+-- held back; and they are the premises that the claims on the move have. 01, "The move, with its premises".
+--   TooWeak P    some stations, a start and a shift meet P, and the shift with the move does not end as without
+--                it; Letting d, so it is of a shift in which the call d is made, and all else is as it should
+--                be: Claim-188 has both in plain words
+-- Premises: none. No axioms.
+use Prim.Native.Nat.{ℕ, _-_}
+use mathlib.Core.Path.{_≡_}
+use mathlib.Core.List.{List}
+use mathlib.Core.Logic.{_↔_}
+use Rattle.board_call.specs.declared.Call.the-variants.{Reset, DomainWrite}
+use Rattle.board_call.specs.declared.Call.the-variants.{Register, Claim}
+use Rattle.board_runs.specs.Runs.{Made, after}
+use Rattle.board_runs.specs.Handed.{HandedOn, Makes}
+use Rattle.board_runs.specs.Ready.{boardIn}
+use Rattle.move_laws.specs.Shift.{Stations, Event, withMove, withoutMove}
+use Rattle.move_laws.specs.Premises.{Started, TwoGuests, ByMessages, NoneNamesNew, AllAccesses, PagesKept}
+use Rattle.move_laws.specs.Premises.{CallsKept, accessesIn}
+use Rattle.move_cases.specs.Example.{Example}
+use Rattle.move_cases.specs.Needed.{PagesAre}
+use Rattle.move_cases.specs.Needed.{NeedsHandedOn}
+use Rattle.move_laws.specs.Premises.{Premises, accessesIn}
+use Rattle.board_runs.specs.Runs.{handing, ran}
+use Rattle.move_cases.specs.Board.{stations, stale, wiredTo}
+use Rattle.move_cases.specs.Example.{start, shift, soFar, stationEnd, oldEnd, boardEnd}
+use Rattle.move_cases.specs.Needed.{PagesWithin, LogLong, AnyState, AnyOld, AnyNew, TooWeak, Letting}
+use Rattle.claims_move.specs.Station.{MovedWhere}
+
+-- the premises of a move can be met: a start and a shift in full. Two devices, an edge source and a level
+-- source bring messages to old before they change over and to new after it, in the middle of steps too, and
+-- another station claims; at the end new is the file that the station would have had, with its bits in four
+-- words of 64 and its threshold of 200, and has nothing of what it held before
+unfoldable pub Claim-111 : Type 0
+Claim-111 =
+    Premises stations (start .block) (start .saved) shift
+    × (boardIn (soFar shift) ≡ boardEnd oldEnd stationEnd (wiredTo 1 3))
+    × (boardIn (ran (withoutMove stations shift) start) ≡ boardEnd stationEnd stale (wiredTo 0 2)) × Example
+
+-- each premise of a move is needed: without it, or with a bound that is off by one, and with all the others,
+-- there is a start and a shift whose end differs. Of `Started` it drops the state rules, of `TwoGuests` that
+-- old, or new, is a guest file, and of `Makes` the length of the log
+-- [01 V12 V25 V26 V27]
+unfoldable pub Claim-112 : Type 0
+Claim-112 =
+    -- one access is not made
+    TooWeak (λ m x es. Started (x .block) (x .saved) × LogLong x × TwoGuests m × ByMessages (x .block)
+    × NoneNamesNew m (x .block) × (accessesIn es ≡ 88) × PagesKept m 0 es × CallsKept m es)
+    -- a device writes to new after access 7, or to old after access 72
+    × TooWeak (λ m x es. Started (x .block) (x .saved) × LogLong x × TwoGuests m × ByMessages (x .block)
+    × NoneNamesNew m (x .block) × AllAccesses es × PagesWithin 7 72 m 0 es × CallsKept m es)
+    × TooWeak (λ m x es. Started (x .block) (x .saved) × LogLong x × TwoGuests m × ByMessages (x .block)
+    × NoneNamesNew m (x .block) × AllAccesses es × PagesWithin 8 73 m 0 es × CallsKept m es)
+    × PagesAre
+    -- a source sends to new from the start on
+    × TooWeak (λ m x es. Started (x .block) (x .saved) × LogLong x × TwoGuests m × ByMessages (x .block)
+    × AllAccesses es × PagesKept m 0 es × CallsKept m es)
+    -- the child is in direct mode
+    × TooWeak (λ m x es. Started (x .block) (x .saved) × LogLong x × TwoGuests m × NoneNamesNew m (x .block)
+    × AllAccesses es × PagesKept m 0 es × CallsKept m es)
+    -- old, or new, is no guest's file
+    × TooWeak (λ m x es. Started (x .block) (x .saved) × LogLong x × AnyOld m × ByMessages (x .block)
+    × NoneNamesNew m (x .block) × AllAccesses es × PagesKept m 0 es × CallsKept m es)
+    × TooWeak (λ m x es. Started (x .block) (x .saved) × LogLong x × AnyNew m × ByMessages (x .block)
+    × NoneNamesNew m (x .block) × AllAccesses es × PagesKept m 0 es × CallsKept m es)
+    -- the state breaks a rule
+    × TooWeak (λ m x es. AnyState (x .block) (x .saved) × LogLong x × TwoGuests m × ByMessages (x .block)
+    × NoneNamesNew m (x .block) × AllAccesses es × PagesKept m 0 es × CallsKept m es)
+    -- the log is too short
+    × TooWeak (λ m x es. Started (x .block) (x .saved) × TwoGuests m × ByMessages (x .block)
+    × NoneNamesNew m (x .block) × AllAccesses es × PagesKept m 0 es × CallsKept m es)
+    -- an access is not given the saved numbers that the last one gave
+    × NeedsHandedOn
+
+-- and so is that other calls are held back: with a claim of the moved station from old, or from new, a write
+-- to a register of old, or of new, one to a target of the child, or a reset between the first access and the
+-- last, there is a start and a shift whose end differs from that of the shift in which the station is not
+-- moved and makes the same calls on its own file
+-- [01 V24]
+unfoldable pub Claim-186 : Type 0
+Claim-186 =
+    Letting (λ m. Claim (m .oldHart) (m .oldFile)) × Letting (λ m. Claim (m .newHart) (m .newFile))
+    × Letting (λ m. Register (m .oldHart) (m .oldFile) 1 0xC0 0)
+    × Letting (λ m. Register (m .newHart) (m .newFile) 1 0xC0 0)
+    × Letting (λ m. DomainWrite 1 0x3004 0x1007) × Letting (λ m. Reset)
+
+-- what the claims on the move ask is `Premises`, and what each call brings; and the shift of Claim-111 meets
+-- it
+unfoldable pub Claim-191 : Type 1
+Claim-191 =
+    (P : Stations → List ℕ → List ℕ → List Made → List Made → Type 0)
+    → (MovedWhere P
+    ↔ ((m : Stations) (l s : List ℕ) (es : List Event) (ms ns : List Made)
+    → Premises m l s es → Makes (withMove m 0 es) ms → HandedOn s ms l → Makes (withoutMove m es) ns
+    → P m l s ms ns))
+    × (MovedWhere P
+    → P stations (start .block) (start .saved) (handing (withMove stations 0 shift) start)
+    (handing (withoutMove stations shift) start))
