@@ -1,8 +1,8 @@
 -- Claims 111, 112, 186 and 191: the premises of a move can be met, each is needed, and so is what has to be
 -- held back; and they are the premises that the claims on the move have. 01, "The move, with its premises".
---   TooWeak P    some stations, a start and a shift meet P, and the shift with the move does not end as without
---                it; Letting d, so it is of a shift in which the call d is made, and all else is as it should
---                be: Claim-188 has both in plain words
+--   TooWeak P    some stations, a start and a shift meet P, and the shift with the move does not end as
+--                without it; Letting d, so it is of a shift in which the call d is made, and all else is as
+--                it should be: Claim-188 has both in plain words
 -- Premises: none. No axioms.
 use Prim.Native.Nat.{ℕ, _-_}
 use mathlib.Core.Path.{_≡_}
