@@ -38,7 +38,7 @@ ENDS = [
     '*none doubled:* Claim #108\nwhat is pending in new would be pending with no move; claimed once, it '
     'is gone',
     '*none to another station:* Claim #109\nevery file but old and new has the same pending bits',
-    '*the shift goes on:* Claim #110\ncalls on new answer, and new signals, as old would have',
+    '*the shift goes on:* Claim #110\nevery call then answers, and new signals, as with no move',
 ]
 NOT_SAID = ('*Not compared:* the logs, whose words name the files; time. A target of the supervisor’s domain that '
             'names old with no move names new: Claim #105. What new held before is lost; what is still pending in old is '

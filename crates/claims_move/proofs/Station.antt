@@ -1,8 +1,8 @@
 -- Claims 104 to 110, 180, 181, 185 and 190, by the laws of runs and of the move. Assumes nothing.
-use Prim.Native.Nat.{ℕ, _+_, _*_}
+use Prim.Native.Nat.{ℕ, _+_, _*_, _<_}
 use mathlib.Core.Path.{_≡_, refl, sym, ap, _∙_}
 use mathlib.Core.Bool.{Bool, true, false, not, _&&_, false≢true}
-use mathlib.Core.List.{List, map}
+use mathlib.Core.List.{List}
 use mathlib.Core.Logic.{_≢_, _↔_}
 use native.Mathlib.Omega.{arith}
 use lib.Dec.{eqb}
@@ -29,18 +29,21 @@ use Rattle.board_runs.proofs.MadeEffects.{Alike, made-alike, Follows}
 use Rattle.move_laws.specs.Shift.{Stations, Event, withMove, withoutMove}
 use Rattle.move_laws.specs.Premises.{Started, TwoGuests, ByMessages, NoneNamesNew, AllAccesses, PagesKept}
 use Rattle.move_laws.specs.Premises.{CallsKept, Premises}
-use Rattle.move_laws.specs.Moved.{newNumber, oldIn, newIn, Moved}
-use Rattle.move_laws.specs.After.{FileCall, callOn, SmallCalls}
+use Rattle.move_laws.specs.Moved.{oldNumber, newNumber, oldIn, newIn, Moved}
+use Rattle.words.specs.Bits.{hasBit}
+use Rattle.files.specs.Files.{theFile}
+use Rattle.board_call.specs.Change.{signalsTo}
+use Rattle.move_laws.specs.After.{FileCall, Later, thenHere, thenThere, LaterKept}
+use Rattle.move_laws.proofs.LaterEffects.{goes-start, follows-later, later-run}
 use Rattle.board_call_laws.proofs.HartCallEffects.{signal-bit}
 use Rattle.move_laws.proofs.Invariant.{new-lt, is-new, is-old}
 use Rattle.move_laws.proofs.WatchEffects.{file-signals}
 use Rattle.move_laws.proofs.BesideEffects.{Beside}
 use Rattle.move_laws.proofs.ShiftEffects.{lentFrom, moment, move-beside, move-keeps}
-use Rattle.move_laws.proofs.AfterEffects.{said-same, file-same, claim-said, claim-left, goes-on}
+use Rattle.move_laws.proofs.AfterEffects.{said-same, file-same, claim-said, claim-left}
 use Rattle.move_laws.proofs.AfterEffects.{same-signal}
 use Rattle.move_laws.proofs.LeftEffects.{wire-leaves, move-leaves, move-held}
 use Rattle.move_laws.proofs.EndEffects.{follows-here, follows-there, accesses-said, others-said}
-use Rattle.move_laws.proofs.EndEffects.{follows-calls}
 use Rattle.claims_move.proofs.Premises.{file-other}
 use Rattle.claims_move.proofs.Words.{targets-to}
 use Rattle.claims_move.specs.Station.{Claim-104, Claim-105, Claim-106, Claim-107, Claim-108, Claim-109}
@@ -162,19 +165,28 @@ module _ (m : Stations) (l s : List ℕ) (es : List Event) (ms ns : List Made) (
             ∙ ap (λ (b : List ℕ). oldIn m (boardOf b)) (sym (on-old .block)),
       )
 
-    -- calls afterwards
-    module _ (cs : List FileCall) (us vs : List Made) (small : SmallCalls cs)
-        (onNew : Makes (map (callOn (m .newHart) (m .newFile)) cs) us)
-        (onOld : Makes (map (callOn (m .oldHart) (m .oldFile)) cs) vs) where
-      on : (saidWhere (λ c. true) us (here .block) ≡ saidWhere (λ c. true) vs (there .block))
-          × (newIn m (boardOf (leftBy us (here .block))) ≡ oldIn m (boardOf (leftBy vs (there .block))))
+    -- the rest of the shift
+    module _ (more : List Later) (us vs : List Made) (kept : LaterKept m more)
+        (onNew : Makes (thenHere m more) us)
+        (onOld : Makes (thenThere m more) vs) where
+      on : let b = boardOf (leftBy us (here .block)) in
+          let b′ = boardOf (leftBy vs (there .block)) in
+          (saidWhere (λ c. true) us (here .block) ≡ saidWhere (λ c. true) vs (there .block))
+          × (newIn m b ≡ oldIn m b′)
+          × ((k : ℕ) → k < 20 → k ≢ oldNumber m → k ≢ newNumber m
+          → theFile (b .files) k ≡ theFile (b′ .files) k)
+          × (hasBit (signalsTo b (m .newHart) 5) (m .newFile)
+          ≡ hasBit (signalsTo b′ (m .oldHart) 5) (m .oldFile))
       on =
-          let f = follows-calls (m .newHart) (m .newFile) cs us here (beside .ready) small onNew in
-          let e = follows-calls (m .oldHart) (m .oldFile) cs vs there (beside .ready′) small onOld in
-          let r = goes-on m guests cs small here there (beside .ready) (beside .ready′) (moved .station) in (
-            f .said (λ c. true) ∙ r .said (λ c. true) (λ c. refl) ∙ sym (e .said (λ c. true)),
-            ap (λ (b : List ℕ). newIn m (boardOf b)) (f .left) ∙ r .station
-                ∙ ap (λ (b : List ℕ). oldIn m (boardOf b)) (sym (e .left)),
+          let start = goes-start m guests here there beside in
+          let f = follows-later m guests more kept us vs here there start onNew onOld in
+          let r = later-run m guests more here there start kept in
+          let same = r .goes .station in
+          rw (f .0 .left, f .1 .left) (
+            f .0 .said (λ c. true) ∙ r .said ∙ sym (f .1 .said (λ c. true)),
+            same,
+            r .goes .others,
+            same-signal m guests _ _ same,
           )
 
     -- a wire afterwards
@@ -232,10 +244,8 @@ claim-109 m l s es ms ns a b c d e f g h i j =
 pub claim-110 : Claim-110
 unfolding Claim-110
 claim-110 m l s es ms ns a b c d e f g h i j =
-    rw (left-here m l s es ms ns a b c d e f g h i j, left-there m l s es ms ns a b c d e f g h i j) (
-      on m l s es ms ns a b c d e f g h i j,
-      same-signal m b _ _ (moved m l s es ms ns a b c d e f g h i j .station),
-    )
+    rw (left-here m l s es ms ns a b c d e f g h i j, left-there m l s es ms ns a b c d e f g h i j)
+    (on m l s es ms ns a b c d e f g h i j)
 
 pub claim-185 : Claim-185
 unfolding Claim-185

@@ -17,7 +17,7 @@ use Rattle.board_call_laws.proofs.FileCallEffects.{hart-lt, file-lt}
 use Rattle.board_move_laws.proofs.MoveEffects.{guest-hart, guest-low, guest-high}
 use Rattle.board_runs.specs.Reading.{onlyReads}
 use Rattle.move_laws.specs.Shift.{Stations, isNeither, hasNeither, elsewhere}
-use Rattle.move_laws.specs.After.{FileCall, callOn}
+use Rattle.move_laws.specs.After.{FileCall, callOn, thenHere, thenThere, LaterKept}
 use Rattle.move_cases.specs.Needed.{PagesWithin, LogLong, AnyOld, AnyNew, Besides, onOld}
 use Rattle.move_cases.specs.Needed.{stationThere}
 use Rattle.claims_move.specs.Words.{Claim-187, Claim-188}
@@ -179,7 +179,8 @@ any-new m =
     )
 
 pub claim-187 : Claim-187
-unfolding Claim-187 elsewhere PagesWithin Besides onOld stationThere LogLong WordsFit
+unfolding Claim-187 elsewhere thenHere thenThere LaterKept PagesWithin Besides onOld stationThere LogLong
+    WordsFit
 claim-187 = (
   (λ m a d f h k level n nf nh of oh s v w. (
     neither-iff m h f,
@@ -283,6 +284,29 @@ claim-187 = (
     refl,
     refl,
   )),
+  (λ m es c h f a v i level. let oh = m .oldHart in
+      let of = m .oldFile in
+      let neither = neither-iff m h f in (
+        refl,
+        refl,
+        refl,
+        refl,
+        refl,
+        refl,
+        refl,
+        (λ p q. rw (file-same h f (m .newHart) (m .newFile) p q) refl),
+        (λ d. rw (file-other h f (m .newHart) (m .newFile) d) refl),
+        refl,
+        refl,
+        tt,
+        ((λ p. p), (λ p. p)),
+        (
+          (λ p. ((λ a b. not-same _ (file-same h f oh of a b) (p .0)), p .1)),
+          (λ p. (file-other h f oh of (p .0), p .1)),
+        ),
+        ((λ p. p), (λ p. p)),
+        ((λ p. (neither .0 (p .0), p .1, p .2)), (λ p. (neither .1 (p .0), p .1, p .2))),
+      )),
   (λ l s. (
     (λ p. (p .block, p .words, p .saved-long, p .saved-fit)),
     (λ p. record { block = p .0; words = p .1; saved-long = p .2; saved-fit = p .3 }),

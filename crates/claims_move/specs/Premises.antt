@@ -2,7 +2,7 @@
 -- compared, event by event; and that what is lent by the rules is ready for calls. 01, "The move, with its
 -- premises", "Calls and their refusals", "State rules".
 --   Ready x          what the claims on calls one after the other ask of what is lent
---   Small c          what they ask of a call, and SmallCalls cs of calls on a file
+--   Small c          what they ask of a call, and AllSmall cs of several
 --   Fit b            what the claims on one call ask of a board
 --   BoardShaped b    the lists of a board have their lengths
 -- A premise that asked for more than 01 does would make the claims on the move say less; so each is said in
@@ -32,8 +32,6 @@ use Rattle.move_laws.specs.Shift.{Stations, Event, elsewhere, withMove, without
 use Rattle.move_laws.specs.Shift.Event.{wire, page, access, call}
 use Rattle.move_laws.specs.Premises.{Started, TwoGuests, ByMessages, NoneNamesNew, accessesIn}
 use Rattle.move_laws.specs.Premises.{AllAccesses, PagesKept, CallsKept}
-use Rattle.move_laws.specs.After.{FileCall, SmallCalls}
-use Rattle.move_laws.specs.After.FileCall.{pageRead, pageWrite, register, top, claim}
 
 -- the premises of a move, and the two shifts that are compared, ask this and no more: old and new are two
 -- different files 2 to 4 of harts 0 to 3; at the start no active source of the child names new, the child is
@@ -102,7 +100,7 @@ Claim-175 =
 -- words of 32 bits that keep the rules, a log of 63 words, and saved numbers of 64 bits: so what claims 102
 -- to 104, 150, 152, 154, 156 and 171 ask of a board holds of every block of such words that is not refused.
 -- `Small`, where they ask it of a call, is no more than that the value of a register access has 64 bits;
--- and `SmallCalls`, which Claim-110 asks of calls on a file, is that of each
+-- and `AllSmall` is that of each of several
 unfoldable pub Claim-178 : Type 0
 Claim-178 =
     ((x : Lent) → length (x .block) ≡ 650 → ((k : ℕ) → getD (x .block) k 0 < 2 ^ 32)
@@ -110,10 +108,3 @@ Claim-178 =
     → Ready x × Fit (boardIn x) × BoardShaped (boardIn x))
     × ((c : Call) → ((h f k s v : ℕ) → c ≡ Register h f k s v → v < 2 ^ 64) → Small c)
     × AllSmall [] × ((c : Call) (cs : List Call) → AllSmall (c ∷ cs) ↔ (Small c × AllSmall cs))
-    × SmallCalls []
-    × ((cs : List FileCall) (a k s v : ℕ)
-    → (SmallCalls (register k s v ∷ cs) ↔ ((v < 2 ^ 64) × SmallCalls cs))
-    × (SmallCalls (pageRead a ∷ cs) ↔ SmallCalls cs)
-    × (SmallCalls (pageWrite a v ∷ cs) ↔ SmallCalls cs)
-    × (SmallCalls (top ∷ cs) ↔ SmallCalls cs)
-    × (SmallCalls (claim ∷ cs) ↔ SmallCalls cs))

@@ -9,12 +9,12 @@
 -- 110, 180 and 185 the six of 01, `Started`, `TwoGuests`, `ByMessages`, `NoneNamesNew`, `AllAccesses` and
 -- `PagesKept`, which Claim-111 shows can be met, and Claim-112 that each is needed; `CallsKept`, what else
 -- may be called, where 01 has no call at all; and `Makes` and `HandedOn`, what each call brings: a log of 63
--- words, and an access the saved numbers that the last one gave; of Claim-110 besides `SmallCalls cs`,
--- register values of 64 bits in the calls afterwards. Claim-181 has none. No axioms.
+-- words, and an access the saved numbers that the last one gave; of Claim-110 besides `LaterKept`, what
+-- may be called afterwards. Claim-181 has none. No axioms.
 use Prim.Native.Nat.{ℕ, _+_, _-_, _*_, _/_, _%_, _^_, _≤_, _<_}
 use mathlib.Core.Path.{_≡_}
 use mathlib.Core.Bool.{Bool, true, false}
-use mathlib.Core.List.{List, [], _∷_, map}
+use mathlib.Core.List.{List, [], _∷_}
 use mathlib.Core.Logic.{_≢_, _↔_}
 use lib.ListN.{length, getD, replicate}
 use Rattle.words.specs.Bits.{hasBit}
@@ -44,7 +44,7 @@ use Rattle.move_laws.specs.Shift.{Stations, Event, elsewhere, withMove, without
 use Rattle.move_laws.specs.Premises.{Started, TwoGuests, ByMessages, NoneNamesNew, AllAccesses, PagesKept}
 use Rattle.move_laws.specs.Premises.{CallsKept, accessesIn}
 use Rattle.move_laws.specs.Moved.{oldNumber, newNumber, oldIn, newIn}
-use Rattle.move_laws.specs.After.{FileCall, callOn, SmallCalls}
+use Rattle.move_laws.specs.After.{Later, thenHere, thenThere, LaterKept}
 
 -- calls one after the other: what a call leaves is ready for the next one, whether it is refused or not; a
 -- refused one leaves all as it was, and an accepted one the board and the saved numbers that `step` says. So
@@ -133,18 +133,21 @@ Claim-109 =
     → member (theFile (boardOf (leftBy ms l) .files) k .pending) i
     ≡ member (theFile (boardOf (leftBy ns l) .files) k .pending) i)
 
--- and the shift goes on: any calls on the new file, with register values of 64 bits and logs of 63 words,
--- answer what the same calls on the old file would have answered, and leave the same file; and the new file
--- signals its hart exactly if the old one would have signalled its own
+-- and the shift goes on: whatever wires change and devices write then, and whatever calls the station makes
+-- on its file and others on theirs, with register values of 64 bits and logs of 63 words, every call answers
+-- what it would have answered with no move; the new file is the one that the old one would have been, and
+-- every other file but these two is the same; and the new file signals its hart exactly if the old one would
+-- have signalled its own
 unfoldable pub Claim-110 : Type 0
 Claim-110 =
-    MovedWhere (λ m l s ms ns. ((cs : List FileCall) (us vs : List Made) → SmallCalls cs
-    → Makes (map (callOn (m .newHart) (m .newFile)) cs) us
-    → Makes (map (callOn (m .oldHart) (m .oldFile)) cs) vs
-    → (saidWhere (λ c. true) us (leftBy ms l) ≡ saidWhere (λ c. true) vs (leftBy ns l))
-    × (newIn m (boardOf (leftBy us (leftBy ms l))) ≡ oldIn m (boardOf (leftBy vs (leftBy ns l)))))
-    × (hasBit (signalsTo (boardOf (leftBy ms l)) (m .newHart) 5) (m .newFile)
-    ≡ hasBit (signalsTo (boardOf (leftBy ns l)) (m .oldHart) 5) (m .oldFile)))
+    MovedWhere (λ m l s ms ns. (es : List Later) (us vs : List Made) → LaterKept m es
+    → Makes (thenHere m es) us → Makes (thenThere m es) vs
+    → let b = boardOf (leftBy us (leftBy ms l)) in
+    let b′ = boardOf (leftBy vs (leftBy ns l)) in
+    (saidWhere (λ c. true) us (leftBy ms l) ≡ saidWhere (λ c. true) vs (leftBy ns l))
+    × (newIn m b ≡ oldIn m b′)
+    × ((k : ℕ) → k < 20 → k ≢ oldNumber m → k ≢ newNumber m → theFile (b .files) k ≡ theFile (b′ .files) k)
+    × (hasBit (signalsTo b (m .newHart) 5) (m .newFile) ≡ hasBit (signalsTo b′ (m .oldHart) 5) (m .oldFile)))
 
 -- the other stations go on: a call on a file that is neither old nor new, anywhere between the accesses, and
 -- the signals of a hart that has neither, answer what they would have answered with no move

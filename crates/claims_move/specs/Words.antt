@@ -26,7 +26,7 @@ use Rattle.move_laws.specs.Shift.Event.{wire, page, access, call}
 use Rattle.move_laws.specs.Premises.{Started, TwoGuests, ByMessages, NoneNamesNew}
 use Rattle.move_laws.specs.Premises.{AllAccesses, PagesKept, CallsKept, Premises}
 use Rattle.move_laws.specs.Moved.{Moved}
-use Rattle.move_laws.specs.After.{FileCall, callOn}
+use Rattle.move_laws.specs.After.{FileCall, callOn, Later, thenHere, thenThere, LaterKept}
 use Rattle.move_laws.specs.After.FileCall.{pageRead, pageWrite, register, top, claim}
 use Rattle.move_cases.specs.Needed.{PagesWithin, LogLong, AnyState, AnyOld, AnyNew, Besides, onOld}
 use Rattle.move_cases.specs.Needed.{stationThere, TooWeak, Letting, NeedsHandedOn}
@@ -97,6 +97,25 @@ Claim-187 =
     × (onOld m Reset ≡ Reset) × (onOld m (Wire w level) ≡ Wire w level)
     × (onOld m (DomainRead d a) ≡ DomainRead d a) × (onOld m (DomainWrite d a v) ≡ DomainWrite d a v)
     × (onOld m (Signals h) ≡ Signals h) × (onOld m (Move oh of nh nf n) ≡ Move oh of nh nf n))
+    × ((m : Stations) (es : List Later) (c : FileCall) (h f a v i level : ℕ)
+    → let nh = m .newHart in
+    let nf = m .newFile in
+    let oh = m .oldHart in
+    let of = m .oldFile in
+    (thenHere m [] ≡ []) × (thenHere m (Later.wire i level ∷ es) ≡ Wire i level ∷ thenHere m es)
+    × (thenHere m (Later.page h f a v ∷ es) ≡ PageWrite h f a v ∷ thenHere m es)
+    × (thenHere m (Later.own c ∷ es) ≡ callOn nh nf c ∷ thenHere m es)
+    × (thenHere m (Later.other h f c ∷ es) ≡ callOn h f c ∷ thenHere m es)
+    × (thenThere m [] ≡ []) × (thenThere m (Later.wire i level ∷ es) ≡ Wire i level ∷ thenThere m es)
+    × (h ≡ nh → f ≡ nf → thenThere m (Later.page h f a v ∷ es) ≡ PageWrite oh of a v ∷ thenThere m es)
+    × ((h ≡ nh → f ≡ nf → ⊥) → thenThere m (Later.page h f a v ∷ es) ≡ PageWrite h f a v ∷ thenThere m es)
+    × (thenThere m (Later.own c ∷ es) ≡ callOn oh of c ∷ thenThere m es)
+    × (thenThere m (Later.other h f c ∷ es) ≡ callOn h f c ∷ thenThere m es)
+    × LaterKept m [] × (LaterKept m (Later.wire i level ∷ es) ↔ LaterKept m es)
+    × (LaterKept m (Later.page h f a v ∷ es) ↔ ((h ≡ oh → f ≡ of → ⊥) × LaterKept m es))
+    × (LaterKept m (Later.own c ∷ es) ↔ (Small (callOn 0 0 c) × LaterKept m es))
+    × (LaterKept m (Later.other h f c ∷ es)
+    ↔ (((h ≡ oh → f ≡ of → ⊥) × (h ≡ nh → f ≡ nf → ⊥)) × Small (callOn 0 0 c) × LaterKept m es)))
     × ((l s : List ℕ)
     → AnyState l s
     ↔ ((length l ≡ 650) × ((k : ℕ) → getD l k 0 < 2 ^ 32) × (length s ≡ 10)

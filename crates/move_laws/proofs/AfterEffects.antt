@@ -1,12 +1,9 @@
 -- Two files that are the same answer the same to every call, and stay the same: so the station's shift goes
 -- on after the move. No contract cites this file. Assumes nothing.
 --   refusalIn c    the refusal of a call on a file that is there
---   GoesOn m x y   calls on new from x on answer what the same calls on old from y on answer, and the two
---                  files are the same again after them
 use Prim.Native.Nat.{ℕ}
-use mathlib.Core.Path.{_≡_, refl, sym, ap, ap₂, _∙_}
+use mathlib.Core.Path.{_≡_, sym, ap, ap₂, _∙_}
 use mathlib.Core.Bool.{Bool, true, cond}
-use mathlib.Core.List.{List, [], _∷_, map}
 use native.Mathlib.Decide.{ℕ-discrete}
 use lib.Dec.{ltb}
 use Rattle.words.specs.Bits.{hasBit}
@@ -25,13 +22,12 @@ use Rattle.board_call_laws.specs.Small.{Small}
 use Rattle.board_call_laws.proofs.HartCallEffects.{signal-bit, signal-guest-own}
 use Rattle.board_move_laws.proofs.MoveCallEffects.{guest-there}
 use Rattle.board_move_laws.proofs.MoveEffects.{guest-low, guest-high}
-use Rattle.board_runs.specs.Runs.{Said, saidOf, saidWhere, Lent, outcomeOn, after, ran, handing}
+use Rattle.board_runs.specs.Runs.{Said, saidOf, Lent, outcomeOn, after}
 use Rattle.board_runs.specs.Ready.{boardIn, Ready}
-use Rattle.board_runs.proofs.RunsEffects.{ready-after}
 use Rattle.move_laws.specs.Shift.{Stations}
 use Rattle.move_laws.specs.Premises.{TwoGuests}
 use Rattle.move_laws.specs.Moved.{oldNumber, newNumber, oldIn, newIn}
-use Rattle.move_laws.specs.After.{FileCall, callOn, SmallCalls}
+use Rattle.move_laws.specs.After.{FileCall, callOn}
 use Rattle.move_laws.proofs.ActedEffects.{guest-is}
 use Rattle.move_laws.proofs.OnFileEffects.{leaves, answers, small-on, said-done, said-refused}
 use Rattle.move_laws.proofs.OnFileEffects.{file-done, file-refused}
@@ -121,26 +117,6 @@ module _ (m : Stations) (g : TwoGuests m) where
   claim-left x ready =
       file-done (m .newHart) (m .newFile) x ready FileCall.claim
       (refusal-on (m .newHart) (m .newFile) (g .new) (boardIn x) FileCall.claim) (unfold rowOf in tt)
-
-  pub record GoesOn (x y : Lent) (cs : List FileCall) : Type 0 where
-    pub said : (p : Call → Bool) → ((c : FileCall) → p (onNew c) ≡ p (onOld c))
-        → saidWhere p (handing (map onNew cs) x) (x .block)
-        ≡ saidWhere p (handing (map onOld cs) y) (y .block)
-    pub station : newIn m (boardIn (ran (map onNew cs) x)) ≡ oldIn m (boardIn (ran (map onOld cs) y))
-
-  pub goes-on : (cs : List FileCall) → SmallCalls cs → (x y : Lent) → Ready x → Ready y
-      → newIn m (boardIn x) ≡ oldIn m (boardIn y) → GoesOn x y cs
-  unfolding ran handing saidWhere after
-  goes-on [] small x y ready ready′ same = record { said = λ p e. refl; station = same }
-  goes-on (c ∷ cs) small x y ready ready′ same =
-      let rest = goes-on cs (small .1) (after (onNew c) x) (after (onOld c) y)
-      (ready-after (onNew c) x ready (small-on (m .newHart) (m .newFile) c (small .0)))
-      (ready-after (onOld c) y ready′ (small-on (m .oldHart) (m .oldFile) c (small .0)))
-      (file-same x y ready ready′ same c (small .0)) in
-      record {
-        said = λ p e. rw (e c, said-same x y ready ready′ same c, rest .said p e) refl;
-        station = rest .station;
-      }
 
   -- ---- the signals
 

@@ -3,7 +3,7 @@
 -- Assumes nothing.
 use Prim.Native.Nat.{ℕ, suc}
 use mathlib.Core.Path.{_≡_, refl, sym, _∙_}
-use mathlib.Core.List.{List, [], _∷_, map}
+use mathlib.Core.List.{List, [], _∷_}
 use lib.ListN.{replicate}
 use Rattle.board_move_steps.specs.Steps.{accesses}
 use Rattle.board_call.specs.Calls.{rowOf}
@@ -14,8 +14,6 @@ use Rattle.board_runs.specs.Ready.{Ready, AllSmall}
 use Rattle.board_runs.proofs.MadeEffects.{Follows, follows, NoAccess, handed-none}
 use Rattle.move_laws.specs.Shift.{Stations, Event, elsewhere, withMove, withoutMove}
 use Rattle.move_laws.specs.Premises.{Started, CallsKept, Premises}
-use Rattle.move_laws.specs.After.{FileCall, callOn, SmallCalls}
-use Rattle.move_laws.proofs.OnFileEffects.{small-on, no-access}
 use Rattle.move_laws.proofs.OthersEffects.{kept-no-access}
 use Rattle.move_laws.proofs.ShiftEffects.{nothing, lentFrom, started-ready, move-done, move-others}
 
@@ -95,21 +93,3 @@ module _ (m : Stations) (l s : List ℕ) (es : List Event) (ms ns : List Made) (
     others-said =
         here .said (elsewhere m) ∙ move-others m l s es p
         ∙ sym (follows-there m l s es (p .started) (p .calls) ns without .said (elsewhere m))
-
--- ---- calls on one file
-
-module _ (h f : ℕ) where
-  small-calls : (cs : List FileCall) → SmallCalls cs → AllSmall (map (callOn h f) cs)
-  small-calls [] small = tt
-  small-calls (c ∷ cs) small = (small-on h f c (small .0), small-calls cs (small .1))
-
-  none-calls : (cs : List FileCall) → NoAccess (map (callOn h f) cs)
-  unfolding NoAccess
-  none-calls [] = tt
-  none-calls (c ∷ cs) = (no-access h f c, none-calls cs)
-
-  pub follows-calls : (cs : List FileCall) (ms : List Made) (x : Lent) → Ready x → SmallCalls cs
-      → Makes (map (callOn h f) cs) ms → Follows (map (callOn h f) cs) ms x
-  follows-calls cs ms x ready small makes =
-      follows (map (callOn h f) cs) ms x ready (small-calls cs small) makes
-      (handed-none (map (callOn h f) cs) ms (x .saved) (x .block) makes (none-calls cs))

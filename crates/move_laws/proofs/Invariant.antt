@@ -56,7 +56,7 @@ use Rattle.move_laws.proofs.ArrivalEffects.{arrival-same, arrival-new, 
 use Rattle.move_laws.proofs.ActedEffects.{guest-whole, acted-three, acted-others, acted-wired}
 
 -- how many identities each file has
-abbrev identitiesAt : ℕ → ℕ
+abbrev pub identitiesAt : ℕ → ℕ
 identitiesAt k = identities
 
 -- ---- the two stations
@@ -124,76 +124,19 @@ module _ (m : Stations) (g : TwoGuests m) where
     -- genmsi, which stands in the place of the target of source 0
     pub genmsi : targetIn (b .wired) 0 ≡ targetIn (b′ .wired) 0
 
-  module _ (n : ℕ) (b b′ : Board) (s : List ℕ) (fit : Fit b) (fit′ : Fit b′) (r : Middle n b b′ s) where
-    -- ---- a message that arrives
+  -- ---- the messages of a wire, for any relation of the files that arrivals keep
 
-    -- at new here and at old there
-    come-new : (i : ℕ) → 8 ≤ n
-        → Files n (arrivedAt identitiesAt (b .files) (newNumber m) i)
-        (arrivedAt identitiesAt (b′ .files) (oldNumber m) i) s
-    come-new i h =
-        arrival-new identitiesAt (oldNumber m) (newNumber m) refl large-sized n (b .files) (b′ .files) s
-        (fit .shaped .many) (fit′ .shaped .many) (fit .files) (fit′ .files) (r .files) different old-lt
-        new-lt i h
-
-    -- at one file of both
-    come-same : (k i : ℕ) → k < fileCount → k ≢ newNumber m → (k ≡ oldNumber m → n < 72)
-        → Files n (arrivedAt identitiesAt (b .files) k i) (arrivedAt identitiesAt (b′ .files) k i) s
-    come-same k i h notNew still =
-        arrival-same identitiesAt (oldNumber m) (newNumber m) refl large-sized n (b .files) (b′ .files) s
-        (fit .shaped .many) (fit′ .shaped .many) (fit .files) (fit′ .files) (r .files) different old-lt
-        new-lt i k h notNew still
-
-    -- ---- a page write
-
-    pub middle-page : (h f a v : ℕ) → isFile h f ≡ true → (isNew m h f ≡ true → 8 ≤ n)
-        → (isOld m h f ≡ true → n < 72)
-        → Middle n (onlyFile b (fileNumber h f) (pageWritten identities (theFile (b .files) (fileNumber h f))
-        a v))
-        (let k = fileNumber (cond (isNew m h f) (m .oldHart) h) (cond (isNew m h f) (m .oldFile) f) in
-        onlyFile b′ k (pageWritten identities (theFile (b′ .files) k) a v)) s
-    middle-page h f a v there toNew toOld =
-        record {
-          files =
-              rw (
-                page-arrives identities (theFile (b .files) (fileNumber h f)) a v,
-                page-arrives identities (theFile (b′ .files) _) a v,
-              )
-              (tested (isNew m h f)
-              (λ t. rw t (subst (λ (k : ℕ). Files n (arrivedAt identitiesAt (b .files) k (pageNumber a v))
-              (arrivedAt identitiesAt (b′ .files) (oldNumber m) (pageNumber a v)) s)
-              (sym (new-number h f t)) (come-new (pageNumber a v) (toNew t))))
-              (λ u. rw u (come-same (fileNumber h f) (pageNumber a v)
-              (omega (arith, number-read h f, number-lt h f there))
-              (λ e. not-same _ (is-new h f (file-lt h f there) e) u)
-              (λ e. toOld (is-old h f (file-lt h f there) e)))));
-          only = r .only;
-          targets = r .targets;
-          messages = r .messages;
-          genmsi = r .genmsi;
-        }
-
-    -- ---- a call on a file that is neither old nor new
-
-    pub middle-other : (k : ℕ) → k ≢ newNumber m → k ≢ oldNumber m → (x y : File) → x ≡ y
-        → Middle n (onlyFile b k x) (onlyFile b′ k y) s
-    middle-other k notNew notOld x y e =
-        record {
-          files =
-              put-other identitiesAt (oldNumber m) (newNumber m) refl large-sized n (b .files) (b′ .files) s
-              (fit .shaped .many) (fit′ .shaped .many) (fit .files) (fit′ .files) (r .files) different old-lt
-              new-lt 0 k notNew notOld x y e;
-          only = r .only;
-          targets = r .targets;
-          messages = r .messages;
-          genmsi = r .genmsi;
-        }
-
-    -- ---- a wire
-
+  module _ (n : ℕ) (b b′ : Board) (fit : Fit b) (fit′ : Fit b′) (only : TargetsOnly (b .wired) (b′ .wired))
+      (targets : TargetsMoved (m .oldHart) (m .oldFile) (m .newHart) (m .newFile) n (b .wired) (b′ .wired))
+      (R : List File → List File → Type 0) (stay : R (b .files) (b′ .files))
+      (come-new : (i : ℕ) → 8 ≤ n
+      → R (arrivedAt identitiesAt (b .files) (newNumber m) i)
+      (arrivedAt identitiesAt (b′ .files) (oldNumber m) i))
+      (come-same : (k i : ℕ) → k < fileCount → k ≢ newNumber m → (k ≡ oldNumber m → n < 72)
+      → R (arrivedAt identitiesAt (b .files) k i) (arrivedAt identitiesAt (b′ .files) k i)) where
     -- the message of the machine domain goes to a machine file, which is neither old nor new
-    machine-comes : (t : ℕ) → Files n (reached (b .files) (messageOf false t))
-        (reached (b′ .files) (messageOf false t)) s
+    machine-comes : (t : ℕ) → R (reached (b .files) (messageOf false t))
+        (reached (b′ .files) (messageOf false t))
     machine-comes t =
         let k = fileNumber (hartOf t) 0 in
         rw (message-reaches false t (b .files), message-reaches false t (b′ .files))
@@ -205,7 +148,7 @@ module _ (m : Stations) (g : TwoGuests m) where
     child-comes : (i t t′ : ℕ) → 1 ≤ i → i < 64
         → Same (m .oldHart) (m .oldFile) (m .newHart) (m .newFile) n i t t′
         ⊎ Rewritten (m .oldHart) (m .oldFile) (m .newHart) (m .newFile) n i t t′
-        → Files n (reached (b .files) (messageOf true t)) (reached (b′ .files) (messageOf true t′)) s
+        → R (reached (b .files) (messageOf true t)) (reached (b′ .files) (messageOf true t′))
     child-comes i t t′ l h (inl q) =
         rw (q .same, message-reaches true t′ (b .files), message-reaches true t′ (b′ .files))
         (come-same (fileNumber (hartOf t′) (guestOf t′ + 1)) (numberOf t′)
@@ -236,16 +179,90 @@ module _ (m : Stations) (g : TwoGuests m) where
         (come-new (numberOf t′) (omega (arith, q .passed)))
 
     module _ (i : ℕ) (l : 1 ≤ i) (h : i < 64) (level : Bool) where
-      wire-files : Files n (allReached (b .files) (wireCall (b .wired) i level .messages))
-          (allReached (b′ .files) (wireCall (b′ .wired) i level .messages)) s
+      pub wire-comes : R (allReached (b .files) (wireCall (b .wired) i level .messages))
+          (allReached (b′ .files) (wireCall (b′ .wired) i level .messages))
       unfolding allReached
-      wire-files =
-          ⊎-elim (λ q. rw (q .0, q .1) (r .files))
+      wire-comes =
+          ⊎-elim (λ q. rw (q .0, q .1) stay)
           (⊎-elim (λ q. rw (q .0, q .1) (machine-comes _))
           (λ q. rw (q .0 .0, q .0 .1) (child-comes i _ _ l h (q .1))))
-          (wire-moved (r .only) (fit-steady b fit) (sound-quiet b (fit .sound)) (fit-steady b′ fit′)
+          (wire-moved only (fit-steady b fit) (sound-quiet b (fit .sound)) (fit-steady b′ fit′)
           (sound-quiet b′ (fit′ .sound)) i l h level (m .oldHart) (m .oldFile) (m .newHart) (m .newFile) n
-          (r .targets))
+          targets)
+
+  module _ (n : ℕ) (b b′ : Board) (s : List ℕ) (fit : Fit b) (fit′ : Fit b′) (r : Middle n b b′ s) where
+    -- ---- a message that arrives
+
+    -- at new here and at old there
+    files-new : (i : ℕ) → 8 ≤ n
+        → Files n (arrivedAt identitiesAt (b .files) (newNumber m) i)
+        (arrivedAt identitiesAt (b′ .files) (oldNumber m) i) s
+    files-new i h =
+        arrival-new identitiesAt (oldNumber m) (newNumber m) refl large-sized n (b .files) (b′ .files) s
+        (fit .shaped .many) (fit′ .shaped .many) (fit .files) (fit′ .files) (r .files) different old-lt
+        new-lt i h
+
+    -- at one file of both
+    files-same : (k i : ℕ) → k < fileCount → k ≢ newNumber m → (k ≡ oldNumber m → n < 72)
+        → Files n (arrivedAt identitiesAt (b .files) k i) (arrivedAt identitiesAt (b′ .files) k i) s
+    files-same k i h notNew still =
+        arrival-same identitiesAt (oldNumber m) (newNumber m) refl large-sized n (b .files) (b′ .files) s
+        (fit .shaped .many) (fit′ .shaped .many) (fit .files) (fit′ .files) (r .files) different old-lt
+        new-lt i k h notNew still
+
+    -- ---- a page write
+
+    pub middle-page : (h f a v : ℕ) → isFile h f ≡ true → (isNew m h f ≡ true → 8 ≤ n)
+        → (isOld m h f ≡ true → n < 72)
+        → Middle n (onlyFile b (fileNumber h f) (pageWritten identities (theFile (b .files) (fileNumber h f))
+        a v))
+        (let k = fileNumber (cond (isNew m h f) (m .oldHart) h) (cond (isNew m h f) (m .oldFile) f) in
+        onlyFile b′ k (pageWritten identities (theFile (b′ .files) k) a v)) s
+    middle-page h f a v there toNew toOld =
+        record {
+          files =
+              rw (
+                page-arrives identities (theFile (b .files) (fileNumber h f)) a v,
+                page-arrives identities (theFile (b′ .files) _) a v,
+              )
+              (tested (isNew m h f)
+              (λ t. rw t (subst (λ (k : ℕ). Files n (arrivedAt identitiesAt (b .files) k (pageNumber a v))
+              (arrivedAt identitiesAt (b′ .files) (oldNumber m) (pageNumber a v)) s)
+              (sym (new-number h f t)) (files-new (pageNumber a v) (toNew t))))
+              (λ u. rw u (files-same (fileNumber h f) (pageNumber a v)
+              (omega (arith, number-read h f, number-lt h f there))
+              (λ e. not-same _ (is-new h f (file-lt h f there) e) u)
+              (λ e. toOld (is-old h f (file-lt h f there) e)))));
+          only = r .only;
+          targets = r .targets;
+          messages = r .messages;
+          genmsi = r .genmsi;
+        }
+
+    -- ---- a call on a file that is neither old nor new
+
+    pub middle-other : (k : ℕ) → k ≢ newNumber m → k ≢ oldNumber m → (x y : File) → x ≡ y
+        → Middle n (onlyFile b k x) (onlyFile b′ k y) s
+    middle-other k notNew notOld x y e =
+        record {
+          files =
+              put-other identitiesAt (oldNumber m) (newNumber m) refl large-sized n (b .files) (b′ .files) s
+              (fit .shaped .many) (fit′ .shaped .many) (fit .files) (fit′ .files) (r .files) different old-lt
+              new-lt 0 k notNew notOld x y e;
+          only = r .only;
+          targets = r .targets;
+          messages = r .messages;
+          genmsi = r .genmsi;
+        }
+
+    -- ---- a wire
+
+    module _ (i : ℕ) (l : 1 ≤ i) (h : i < 64) (level : Bool) where
+      wire-files : Files n (allReached (b .files) (wireCall (b .wired) i level .messages))
+          (allReached (b′ .files) (wireCall (b′ .wired) i level .messages)) s
+      wire-files =
+          wire-comes n b b′ fit fit′ (r .only) (r .targets) (λ fs gs. Files n fs gs s) (r .files) files-new
+          files-same i l h level
 
       pub middle-wire : Middle n (wiredStep b (wireCall (b .wired) i level) 0 s .board)
           (wiredStep b′ (wireCall (b′ .wired) i level) 0 s .board) s

@@ -11,3 +11,4 @@ pub mod AfterEffects
 pub mod LeftEffects
 pub mod EndEffects
 pub mod GivenUpEffects
+pub mod LaterEffects

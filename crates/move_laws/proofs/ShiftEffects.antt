@@ -77,7 +77,7 @@ module _ (m : Stations) (g : TwoGuests m) where
       rw (kept-no-access m c (q .0)) (done-run es n _ _ (beside-call m g n x y r c (q .0) (q .1)) e p (q .2))
 
   -- one call on each, and then the others
-  said-cons : (p : Call → Bool) (c c′ : Call) (cs cs′ : List Call) (x y : Lent) → p c ≡ p c′
+  pub said-cons : (p : Call → Bool) (c c′ : Call) (cs cs′ : List Call) (x y : Lent) → p c ≡ p c′
       → (p c ≡ true → saidOf (outcomeOn c x) ≡ saidOf (outcomeOn c′ y))
       → saidWhere p (handing cs (after c x)) (after c x .block)
       ≡ saidWhere p (handing cs′ (after c′ y)) (after c′ y .block)
@@ -156,7 +156,7 @@ module _ (m : Stations) (g : TwoGuests m) where
   target-end i t t′ h (inl q) = ((λ e. absurd (not-same _ e (q .not-old (omega arith)))), (λ e. q .same))
   target-end i t t′ h (inr q) = ((λ e. q .now-new), (λ e. absurd (not-same _ (q .was-old) e)))
 
-  beside-end : (x y : Lent) → Beside m g accesses x y → Moved m (boardIn x) (boardIn y)
+  pub beside-end : (x y : Lent) → Beside m g accesses x y → Moved m (boardIn x) (boardIn y)
   beside-end x y r =
       let files = r .middle .files in
       let only = r .middle .only in
