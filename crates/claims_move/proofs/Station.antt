@@ -34,7 +34,8 @@ use Rattle.words.specs.Bits.{hasBit}
 use Rattle.files.specs.Files.{theFile}
 use Rattle.board_call.specs.Change.{signalsTo}
 use Rattle.move_laws.specs.After.{FileCall, Later, thenHere, thenThere, LaterKept}
-use Rattle.move_laws.proofs.LaterEffects.{goes-start, follows-later, later-run}
+use Rattle.move_laws.proofs.LaterEffects.{goes-start, later-run}
+use Rattle.move_laws.proofs.LaterRuns.{follows-later}
 use Rattle.board_call_laws.proofs.HartCallEffects.{signal-bit}
 use Rattle.move_laws.proofs.Invariant.{new-lt, is-new, is-old}
 use Rattle.move_laws.proofs.WatchEffects.{file-signals}

@@ -11,7 +11,7 @@ use native.Mathlib.Decide.{ℕ-discrete}
 use native.Mathlib.Omega.{arith}
 use lib.Dec.{eqb}
 use lib.ListN.{length}
-use Rattle.words.proofs.TestsLaws.{tested, not-same}
+use Rattle.words.proofs.TestsLaws.{tested}
 use Rattle.sizes.specs.Sizes.{identities, fileCount}
 use Rattle.file.specs.declared.File.{File}
 use Rattle.file.specs.Page.{arrived}
@@ -30,26 +30,24 @@ use Rattle.board_call.specs.Outcome.{Stepped, doneAs}
 use Rattle.board_call.specs.Refusal.{nameTests, nameRefusal, nameRefusalBy}
 use Rattle.board_call.proofs.RefusalLaws.{accepted-present}
 use Rattle.board_call_laws.specs.Small.{Small}
-use Rattle.board_call_laws.proofs.FileCallEffects.{file-lt, number-read, number-lt}
+use Rattle.board_call_laws.proofs.FileCallEffects.{file-lt}
 use Rattle.board_call_laws.proofs.FitEffects.{fit-steady}
 use Rattle.board_call_laws.proofs.OutcomeEffects.{outcome-refused, outcome-done}
 use Rattle.board_call_laws.proofs.StepEffects.{sound-quiet, step-wire, wiredStep}
 use Rattle.board_call_laws.proofs.WiredCallEffects.{wire-low, wire-high}
 use Rattle.board_runs.specs.Runs.{saidOf, saidWhere, Lent, outcomeOn, after, ran, handing}
-use Rattle.board_runs.specs.Runs.{Made}
-use Rattle.board_runs.specs.Handed.{isAccess, Makes}
-use Rattle.board_runs.specs.Ready.{boardIn, Ready, AllSmall}
-use Rattle.board_runs.proofs.MadeEffects.{Follows, follows, NoAccess, handed-none}
+use Rattle.board_runs.specs.Ready.{boardIn, Ready}
 use Rattle.board_runs.proofs.RunsEffects.{after-refused, ready-refusal, after-board, ready-after}
 use Rattle.move_laws.specs.Shift.{Stations, isOld, isNew, isNeither}
 use Rattle.move_laws.specs.Premises.{TwoGuests}
 use Rattle.move_laws.specs.Moved.{oldNumber, newNumber, oldIn, newIn}
 use Rattle.move_laws.specs.After.{FileCall, callOn, Later, thenHere, thenThere, LaterKept}
 use Rattle.move_laws.proofs.ArrivalEffects.{arrivedAt}
-use Rattle.move_laws.proofs.Invariant.{identitiesAt, new-parts, old-lt, new-lt, is-new, is-old}
+use Rattle.move_laws.proofs.Invariant.{identitiesAt, new-parts, old-lt, new-lt}
 use Rattle.move_laws.proofs.Invariant.{wire-comes}
-use Rattle.move_laws.proofs.OnFileEffects.{leaves, answers, small-on, refusal-apart, there-on}
-use Rattle.move_laws.proofs.OnFileEffects.{said-done, said-refused, file-done, rest-kept, no-access}
+use Rattle.move_laws.proofs.OnFileEffects.{leaves, small-on, there-on}
+use Rattle.move_laws.proofs.OnFileEffects.{file-done, rest-kept}
+use Rattle.move_laws.proofs.ElseEffects.{not-old, not-new, same, alike, on-said}
 use Rattle.move_laws.proofs.AfterEffects.{said-same, file-same}
 use Rattle.move_laws.proofs.BesideEffects.{Beside}
 use Rattle.move_laws.proofs.ShiftEffects.{said-cons, beside-end}
@@ -108,42 +106,6 @@ module _ (m : Stations) (g : TwoGuests m) where
       abbrev k : ℕ
       k = fileNumber h f
 
-      module _ (low : f < 5) where
-        not-old : k ≢ oldNumber m
-        not-old q = not-same _ neither (rw (is-old m g h f low q))
-
-        not-new : k ≢ newNumber m
-        not-new q =
-            not-same _ neither
-            (rw (is-new m g h f low q) (tested (isOld m h f) (λ t. rw t refl) (λ e. rw e refl)))
-
-      same : nameRefusal c (boardIn x) ≡ nameRefusal c (boardIn y)
-      same = refusal-apart h f d (boardIn x) (boardIn y)
-
-      alike : nameRefusal c (boardIn x) ≡ 0 → theFile (boardIn x .files) k ≡ theFile (boardIn y .files) k
-      alike e =
-          let there = there-on h f d (boardIn x) e in
-          let low = file-lt h f there in
-          r .others k (omega (arith, number-read h f, number-lt h f there)) (not-old low) (not-new low)
-
-      other-said : saidOf (outcomeOn c x) ≡ saidOf (outcomeOn c y)
-      other-said = at (ℕ-discrete (nameRefusal c (boardIn x)) 0)
-        where
-          at : Dec (nameRefusal c (boardIn x) ≡ 0) → saidOf (outcomeOn c x) ≡ saidOf (outcomeOn c y)
-          at (yes e) =
-              said-done h f x (r .ready) d e
-              ∙ ap (λ (z : File). record {
-                number = 0;
-                value = answers identities (isGuest k) d z;
-                count = 0;
-              })
-              (alike e)
-              ∙ sym (said-done h f y (r .ready′) d (sym same ∙ e))
-          at (no q) =
-              said-refused h f x (r .ready) d q
-              ∙ ap (λ (i : ℕ). record { number = i; value = 0; count = 0 }) same
-              ∙ sym (said-refused h f y (r .ready′) d (λ z. q (same ∙ z)))
-
       goes-other : Small (callOn 0 0 d) → Goes (after c x) (after c y)
       goes-other tiny = at (ℕ-discrete (nameRefusal c (boardIn x)) 0)
         where
@@ -154,7 +116,8 @@ module _ (m : Stations) (g : TwoGuests m) where
           at (no q) =
               rw (
                 after-refused c x (λ z. q (sym (ready-refusal c x (r .ready)) ∙ z)),
-                after-refused c y (λ z. q (same ∙ sym (ready-refusal c y (r .ready′)) ∙ z)),
+                after-refused c y (λ z. q (same m g x y (r .ready) (r .ready′) (r .others) h f d neither ∙ sym
+                    (ready-refusal c y (r .ready′)) ∙ z)),
               )
               r
           at (yes e) =
@@ -166,8 +129,10 @@ module _ (m : Stations) (g : TwoGuests m) where
                 ready = ready-after c x (r .ready) small;
                 ready′ = ready-after c y (r .ready′) small;
                 station =
-                    rest .1 (newNumber m) (λ q. not-new low (sym q)) ∙ r .station
-                    ∙ sym (rest′ .1 (oldNumber m) (λ q. not-old low (sym q)));
+                    rest .1 (newNumber m) (λ q. not-new m g x y (r .ready) (r .ready′) (r .others) h f d
+                    neither low (sym q)) ∙ r .station
+                    ∙ sym (rest′ .1 (oldNumber m) (λ q. not-old m g x y (r .ready) (r .ready′) (r .others) h f
+                    d neither low (sym q)));
                 others = λ j l o n. file j l o n (ℕ-discrete j k);
                 only = whole .0;
                 targets = whole .1;
@@ -176,8 +141,10 @@ module _ (m : Stations) (g : TwoGuests m) where
               file : (j : ℕ) → j < fileCount → j ≢ oldNumber m → j ≢ newNumber m → Dec (j ≡ k)
                   → theFile (boardIn (after c x) .files) j ≡ theFile (boardIn (after c y) .files) j
               file j l o n (yes q) =
-                  rw q (file-done h f x (r .ready) d e small ∙ ap (leaves identities (isGuest k) d) (alike e)
-                  ∙ sym (file-done h f y (r .ready′) d (sym same ∙ e) small))
+                  rw q (file-done h f x (r .ready) d e small ∙ ap (leaves identities (isGuest k) d)
+                  (alike m g x y (r .ready) (r .ready′) (r .others) h f d neither e)
+                  ∙ sym (file-done h f y (r .ready′) d (sym
+                  (same m g x y (r .ready) (r .ready′) (r .others) h f d neither) ∙ e) small))
               file j l o n (no q) =
                   rest-kept h f x (r .ready) d small .1 j q ∙ r .others j l o n
                   ∙ sym (rest-kept h f y (r .ready′) d small .1 j q)
@@ -322,7 +289,8 @@ module _ (m : Stations) (g : TwoGuests m) where
       page-said : saidOf (outcomeOn (PageWrite h f a v) x) ≡ saidOf (outcomeOn gone y)
       page-said =
           page-cases (λ c c′. saidOf (outcomeOn c x) ≡ saidOf (outcomeOn c′ y))
-          (own-said (FileCall.pageWrite a v)) (other-said h f (FileCall.pageWrite a v))
+          (own-said (FileCall.pageWrite a v)) (on-said m g x y (r .ready) (r .ready′) (r .others) h f
+          (FileCall.pageWrite a v))
 
       goes-page : Goes (after (PageWrite h f a v) x) (after gone y)
       goes-page =
@@ -371,52 +339,9 @@ module _ (m : Stations) (g : TwoGuests m) where
       let rest = later-run es _ _ (goes-other x y r h f c (k .0) (k .1)) (k .2) in
       record {
         goes = rest .goes;
-        said = one _ _ (thenHere m es) (thenThere m es) x y (other-said x y r h f c (k .0)) (rest .said);
+        said = one _ _ (thenHere m es) (thenThere m es) x y
+            (on-said m g x y (r .ready) (r .ready′) (r .others) h f c (k .0)) (rest .said);
       }
-
-  -- ---- what these calls bring
-
-  small-here : (es : List Later) → LaterKept m es → AllSmall (thenHere m es)
-  unfolding thenHere LaterKept rowOf
-  small-here [] k = tt
-  small-here (Later.wire i level ∷ es) k = (tt, small-here es k)
-  small-here (Later.page h f a v ∷ es) k = (tt, small-here es (k .1))
-  small-here (Later.own c ∷ es) k = (small-on (m .newHart) (m .newFile) c (k .0), small-here es (k .1))
-  small-here (Later.other h f c ∷ es) k = (small-on h f c (k .1), small-here es (k .2))
-
-  small-there : (es : List Later) → LaterKept m es → AllSmall (thenThere m es)
-  unfolding thenThere LaterKept rowOf
-  small-there [] k = tt
-  small-there (Later.wire i level ∷ es) k = (tt, small-there es k)
-  small-there (Later.page h f a v ∷ es) k = (tt, small-there es (k .1))
-  small-there (Later.own c ∷ es) k = (small-on (m .oldHart) (m .oldFile) c (k .0), small-there es (k .1))
-  small-there (Later.other h f c ∷ es) k = (small-on h f c (k .1), small-there es (k .2))
-
-  none-here : (es : List Later) → NoAccess (thenHere m es)
-  unfolding thenHere NoAccess isAccess rowOf
-  none-here [] = tt
-  none-here (Later.wire i level ∷ es) = (refl, none-here es)
-  none-here (Later.page h f a v ∷ es) = (refl, none-here es)
-  none-here (Later.own c ∷ es) = (no-access (m .newHart) (m .newFile) c, none-here es)
-  none-here (Later.other h f c ∷ es) = (no-access h f c, none-here es)
-
-  none-there : (es : List Later) → NoAccess (thenThere m es)
-  unfolding thenThere NoAccess isAccess rowOf
-  none-there [] = tt
-  none-there (Later.wire i level ∷ es) = (refl, none-there es)
-  none-there (Later.page h f a v ∷ es) = (refl, none-there es)
-  none-there (Later.own c ∷ es) = (no-access (m .oldHart) (m .oldFile) c, none-there es)
-  none-there (Later.other h f c ∷ es) = (no-access h f c, none-there es)
-
-  pub follows-later : (es : List Later) → LaterKept m es → (us vs : List Made) (x y : Lent) → Goes x y
-      → Makes (thenHere m es) us → Makes (thenThere m es) vs
-      → Follows (thenHere m es) us x × Follows (thenThere m es) vs y
-  follows-later es k us vs x y r here there = (
-    follows (thenHere m es) us x (r .ready) (small-here es k) here
-        (handed-none (thenHere m es) us (x .saved) (x .block) here (none-here es)),
-    follows (thenThere m es) vs y (r .ready′) (small-there es k) there
-        (handed-none (thenThere m es) vs (y .saved) (y .block) there (none-there es)),
-  )
 
   -- the end of the move is where it starts
   pub goes-start : (x y : Lent) → Beside m g accesses x y → Goes x y

@@ -5,6 +5,7 @@ pub mod Invariant
 pub mod BesideEffects
 pub mod OnFileEffects
 pub mod WatchEffects
+pub mod ElseEffects
 pub mod OthersEffects
 pub mod ShiftEffects
 pub mod AfterEffects
@@ -12,3 +13,4 @@ pub mod LeftEffects
 pub mod EndEffects
 pub mod GivenUpEffects
 pub mod LaterEffects
+pub mod LaterRuns

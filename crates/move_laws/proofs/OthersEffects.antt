@@ -2,37 +2,34 @@
 -- that is neither old nor new answers the same in both. No contract cites this file. Assumes nothing.
 --   On m c        c is a call on a file that is neither old nor new
 --   Watches m c   c asks for the signals of a hart that has neither
-use Prim.Native.Nat.{ℕ, _<_}
+use Prim.Native.Nat.{ℕ}
 use mathlib.Core.Path.{_≡_, refl, sym, ap, subst, _∙_}
 use mathlib.Core.Bool.{true, false, _||_, false≢true}
 use mathlib.Core.Logic.{_≢_, _⊎_, inl, inr, ⊎-elim}
-use native.Mathlib.Decide.{ℕ-discrete}
-use native.Mathlib.Omega.{arith}
 use Rattle.words.proofs.TestsLaws.{tested, not-same}
 use Rattle.sizes.specs.Sizes.{identities}
-use Rattle.file.specs.declared.File.{File}
-use Rattle.files.specs.Files.{fileNumber, isGuest, theFile}
+use Rattle.files.specs.Files.{fileNumber, isGuest}
 use Rattle.board_call.specs.declared.Call.{Call}
 use Rattle.board_call.specs.declared.Call.the-variants.{Reset, Wire, DomainRead, DomainWrite, PageRead}
 use Rattle.board_call.specs.declared.Call.the-variants.{PageWrite, Register, Top, Claim, Signals, Move}
 use Rattle.board_call.specs.Calls.{rowOf}
 use Rattle.board_call.specs.Refusal.{nameRefusal}
 use Rattle.board_call_laws.specs.Small.{Small}
-use Rattle.board_call_laws.proofs.FileCallEffects.{file-lt, number-read, number-lt}
+use Rattle.board_call_laws.proofs.FileCallEffects.{file-lt}
 use Rattle.board_runs.specs.Runs.{saidOf, Lent, outcomeOn, after}
 use Rattle.board_runs.specs.Handed.{isAccess}
 use Rattle.board_runs.specs.Ready.{boardIn}
 use Rattle.board_runs.specs.Reading.{onlyReads}
 use Rattle.board_runs.proofs.ReadingEffects.{after-read}
-use Rattle.move_laws.specs.Shift.{Stations, isOld, isNeither, hasNeither, elsewhere}
+use Rattle.move_laws.specs.Shift.{Stations, isNeither, hasNeither, elsewhere}
 use Rattle.move_laws.specs.Premises.{TwoGuests}
-use Rattle.move_laws.specs.Moved.{oldNumber, newNumber}
 use Rattle.move_laws.specs.After.{FileCall, callOn}
-use Rattle.move_laws.proofs.OnFileEffects.{leaves, answers, refusal-apart, there-on, step-on}
-use Rattle.move_laws.proofs.OnFileEffects.{said-done, said-refused, no-access}
-use Rattle.move_laws.proofs.Invariant.{is-new, is-old, middle-other}
+use Rattle.move_laws.proofs.OnFileEffects.{leaves, there-on, step-on}
+use Rattle.move_laws.proofs.OnFileEffects.{no-access}
+use Rattle.move_laws.proofs.Invariant.{middle-other}
 use Rattle.move_laws.proofs.BesideEffects.{Beside, both, done}
 use Rattle.move_laws.proofs.WatchEffects.{watch-said}
+use Rattle.move_laws.proofs.ElseEffects.{not-old, not-new, same, alike, on-said}
 
 -- ---- which calls these are
 
@@ -104,42 +101,9 @@ module _ (m : Stations) (g : TwoGuests m) (n : ℕ) (x y : Lent) (r : Beside m g
     abbrev k : ℕ
     k = fileNumber h f
 
-    module _ (low : f < 5) where
-      not-old : k ≢ oldNumber m
-      not-old q = not-same _ neither (rw (is-old m g h f low q))
-
-      not-new : k ≢ newNumber m
-      not-new q =
-          not-same _ neither
-          (rw (is-new m g h f low q) (tested (isOld m h f) (λ t. rw t refl) (λ e. rw e refl)))
-
-    same : nameRefusal c (boardIn x) ≡ nameRefusal c (boardIn y)
-    same = refusal-apart h f d (boardIn x) (boardIn y)
-
-    -- the file is the same in both, if it is there
-    alike : nameRefusal c (boardIn x) ≡ 0 → theFile (boardIn x .files) k ≡ theFile (boardIn y .files) k
-    alike e =
-        let there = there-on h f d (boardIn x) e in
-        let low = file-lt h f there in
-        r .middle .files .others k (omega (arith, number-read h f, number-lt h f there)) (not-old low)
-        (not-new low)
-
-    on-said : saidOf (outcomeOn c x) ≡ saidOf (outcomeOn c y)
-    on-said = at (ℕ-discrete (nameRefusal c (boardIn x)) 0)
-      where
-        at : Dec (nameRefusal c (boardIn x) ≡ 0) → saidOf (outcomeOn c x) ≡ saidOf (outcomeOn c y)
-        at (yes e) =
-            said-done h f x (r .ready) d e
-            ∙ ap (λ (z : File). record { number = 0; value = answers identities (isGuest k) d z; count = 0 })
-            (alike e)
-            ∙ sym (said-done h f y (r .ready′) d (sym same ∙ e))
-        at (no q) =
-            said-refused h f x (r .ready) d q
-            ∙ ap (λ (i : ℕ). record { number = i; value = 0; count = 0 }) same
-            ∙ sym (said-refused h f y (r .ready′) d (λ z. q (same ∙ z)))
-
     on-beside : Small c → Beside m g n (after c x) (after c y)
-    on-beside small = both m g n x y r c c same stepped
+    on-beside small = both m g n x y r c c (same m g x y (r .ready) (r .ready′) (r .middle .files .others) h f
+        d neither) stepped
       where
         stepped : nameRefusal c (boardIn x) ≡ 0 → nameRefusal c (boardIn y) ≡ 0
             → Beside m g n (after c x) (after c y)
@@ -151,14 +115,18 @@ module _ (m : Stations) (g : TwoGuests m) (n : ℕ) (x y : Lent) (r : Beside m g
               step-on h f (boardIn y) (r .ready′ .fit) d (y .saved),
             )
             (middle-other m g n (boardIn x) (boardIn y) (x .saved) (r .ready .fit) (r .ready′ .fit)
-            (r .middle) k (not-new low) (not-old low) _ _
-            (ap (leaves identities (isGuest k) d) (alike e))))
+            (r .middle) k (not-new m g x y (r .ready) (r .ready′) (r .middle .files .others) h f d neither
+            low)
+            (not-old m g x y (r .ready) (r .ready′) (r .middle .files .others) h f d neither low) _ _
+            (ap (leaves identities (isGuest k) d) (alike m g x y (r .ready) (r .ready′)
+            (r .middle .files .others) h f d neither e))))
 
   -- ---- any call that may be made besides
 
   pub other-said : (c : Call) → elsewhere m c ≡ true → saidOf (outcomeOn c x) ≡ saidOf (outcomeOn c y)
   other-said c e =
-      ⊎-elim (λ on. subst Same (sym (on .is)) (on-said (on .h) (on .f) (on .d) (on .neither)))
+      ⊎-elim (λ on. subst Same (sym (on .is)) (on-said m g x y (r .ready) (r .ready′)
+      (r .middle .files .others) (on .h) (on .f) (on .d) (on .neither)))
       (λ w. subst Same (sym (w .is)) (watch-said m g n x y r (w .h) (w .neither))) (elsewhere-is m c e)
     where
       Same : Call → Type 0
