@@ -51,7 +51,8 @@ use Rattle.claims_move.proofs.Runs.{claim-183, claim-184}
 use Rattle.claims_move.proofs.Premises.{claim-175, claim-178}
 use Rattle.claims_move.proofs.Words.{claim-187, claim-188}
 use Rattle.claims_move.proofs.Station.{claim-110, claim-180, claim-181, claim-185, claim-190}
-use Rattle.claims_move.proofs.Conditions.{claim-111, claim-112, claim-186, claim-191}
+use Rattle.claims_move.proofs.OneShift.{claim-111}
+use Rattle.claims_move.proofs.Conditions.{claim-112, claim-186, claim-191}
 use Rattle.claims_move.proofs.GivenUp.{claim-189}
 use Rattle.claims_cases.proofs.Runs.{claim-163}
 use Rattle.claims_cases.proofs.Table.{claim-170}

@@ -51,7 +51,8 @@ use Rattle.claims_move.specs.Runs.{Claim-183, Claim-184}
 use Rattle.claims_move.specs.Premises.{Claim-175, Claim-178}
 use Rattle.claims_move.specs.Words.{Claim-187, Claim-188}
 use Rattle.claims_move.specs.Station.{Claim-110, Claim-180, Claim-181, Claim-185, Claim-190}
-use Rattle.claims_move.specs.Conditions.{Claim-111, Claim-112, Claim-186, Claim-191}
+use Rattle.claims_move.specs.OneShift.{Claim-111}
+use Rattle.claims_move.specs.Conditions.{Claim-112, Claim-186, Claim-191}
 use Rattle.claims_move.specs.GivenUp.{Claim-189}
 use Rattle.claims_cases.specs.Runs.{Claim-163}
 use Rattle.claims_cases.specs.Table.{Claim-170}

@@ -223,6 +223,7 @@ unfolding Claim-129 hasBit bitOf member WordsFit
 claim-129 = (
   (λ w k. (eqb-true (w / 2 ^ k % 2) 1, eq-eqb (w / 2 ^ k % 2) 1)),
   (λ ws i. refl),
+  (λ ws. ((λ h. h), (λ h. h))),
   (λ f. (
     (λ s. (
       s .deliveryFit,

@@ -15,7 +15,7 @@ use lib.Dec.{eqb, leb}
 use lib.ListN.{length, getD}
 use Rattle.words.specs.Bits.{hasBit}
 use Rattle.words.specs.Parts.{reversed}
-use Rattle.words.specs.Sets.{member}
+use Rattle.words.specs.Sets.{member, WordsFit}
 use Rattle.file.specs.declared.File.{File}
 use Rattle.file.specs.declared.register.Access.{Access}
 use Rattle.file.specs.Shape.{Shaped}
@@ -100,13 +100,15 @@ pub record KeepsShape (g : Bool) (f : File) : Type 0 where
   pub claim : Shaped (claimed 255 f)
   pub access : (k : Access) (s v : ℕ) → v < 2 ^ 64 → Shaped (accessed 255 g f k s v .file)
 
--- identity i is bit i mod 32 of word i div 32; of two files of this shape with the same delivery, threshold,
--- pending and enable bits, one is the other: so claims that speak of bits speak of the whole file
+-- identity i is bit i mod 32 of word i div 32; words fit that are below 2^32; of two files of this shape
+-- with the same delivery, threshold, pending and enable bits, one is the other: so claims that speak of bits
+-- speak of the whole file
 -- [01 F23]
 unfoldable pub Claim-129 : Type 0
 Claim-129 =
     ((w k : ℕ) → (hasBit w k ≡ true) ↔ (w / 2 ^ k % 2 ≡ 1))
     × ((ws : List ℕ) (i : ℕ) → member ws i ≡ hasBit (getD ws (i / 32) 0) (i % 32))
+    × ((ws : List ℕ) → WordsFit ws ↔ ((k : ℕ) → getD ws k 0 < 2 ^ 32))
     × ((f : File) → Shaped f ↔
     ((f .delivery < 2 ^ 32) × (f .threshold < 2 ^ 32) × EightWords (f .pending) × EightWords (f .enable)))
     × ((f f′ : File) → Shaped f → Shaped f′ → f .delivery ≡ f′ .delivery → f .threshold ≡ f′ .threshold

@@ -1,4 +1,4 @@
--- Claims 111, 112, 186 and 191, by the shifts that are given in full. Assumes nothing.
+-- Claims 112, 186 and 191, by the shifts that are given in full. Assumes nothing.
 use Rattle.move_laws.specs.Shift.{withMove, withoutMove}
 use Rattle.move_cases.proofs.ExampleShift.{example}
 use Rattle.move_cases.proofs.NeededShifts.{pages-are, needs-all, needs-pages-new, needs-pages-old}
@@ -17,11 +17,7 @@ use Rattle.move_cases.specs.Needed.{NeedsGuestOld, NeedsGuestNew, NeedsRules, N
 use Rattle.move_cases.specs.Needed.{NeedsNoClaimNew, NeedsNoWriteOld, NeedsNoWriteNew, NeedsNoTarget}
 use Rattle.move_cases.specs.Needed.{NeedsNoReset}
 use Rattle.move_cases.proofs.ExampleShift.{shift-small, start-ready}
-use Rattle.claims_move.specs.Conditions.{Claim-111, Claim-112, Claim-186, Claim-191}
-
-pub claim-111 : Claim-111
-unfolding Claim-111
-claim-111 = (example .premises, example .ends, example .unmoved, example)
+use Rattle.claims_move.specs.Conditions.{Claim-112, Claim-186, Claim-191}
 
 pub claim-112 : Claim-112
 unfolding Claim-112 NeedsAll NeedsPagesNew NeedsPagesOld NeedsFresh NeedsMessages NeedsGuestOld NeedsGuestNew

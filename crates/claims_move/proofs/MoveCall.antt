@@ -87,10 +87,14 @@ module _ (oh of nh nf : ℕ) where
       (eqb-true of nf (and-second (eqb oh nh) _ t))))
       (λ f. rw f)
 
-pub claim-101 : Claim-101
-unfolding Claim-101 rowOf isMove
-claim-101 b oh of nh nf n = (
-  (λ e. let there = and-first (isMove oh of nh nf n) (byMessages (b .wired .child)) e in
+module _ (oh of nh nf n : ℕ) where
+  abbrev Numbered : Type 0
+  Numbered =
+      (oh < 4) × (2 ≤ of) × (of ≤ 4) × (nh < 4) × (2 ≤ nf) × (nf ≤ 4) × (oh ≡ nh → of ≡ nf → ⊥)
+      × (1 ≤ n) × (n ≤ 89)
+
+  move-numbered : isMove oh of nh nf n ≡ true → Numbered
+  move-numbered there =
       let old = move-old oh of nh nf n there in
       let new = move-new oh of nh nf n there in (
         guest-hart oh of old,
@@ -102,17 +106,30 @@ claim-101 b oh of nh nf n = (
         apart-differ oh of nh nf (move-apart oh of nh nf n there),
         move-low oh of nh nf n there,
         move-high oh of nh nf n there,
-        and-second (isMove oh of nh nf n) (byMessages (b .wired .child)) e,
-      )),
-  (λ p. simp (
-    guest-joined oh of (p .0) (p .1) (p .2),
-    guest-joined nh nf (p .3) (p .4) (p .5),
-    differ-apart oh of nh nf (p .6),
-    le-leb 1 n (p .7),
-    le-leb n 89 (p .8),
-    p .9,
-  )),
-)
+      )
+
+  numbered-move : Numbered → isMove oh of nh nf n ≡ true
+  unfolding isMove
+  numbered-move p =
+      simp (
+        guest-joined oh of (p .0) (p .1) (p .2),
+        guest-joined nh nf (p .3) (p .4) (p .5),
+        differ-apart oh of nh nf (p .6),
+        le-leb 1 n (p .7),
+        le-leb n 89 (p .8),
+      )
+
+pub claim-101 : Claim-101
+unfolding Claim-101 rowOf
+claim-101 b oh of nh nf n =
+    let there = isMove oh of nh nf n in
+    let messages = byMessages (b .wired .child) in (
+      (move-numbered oh of nh nf n, numbered-move oh of nh nf n),
+      (
+        (λ e. (move-numbered oh of nh nf n (and-first there messages e), and-second there messages e)),
+        (λ p. and-both there messages (numbered-move oh of nh nf n (p .0)) (p .1)),
+      ),
+    )
 
 -- ---- one access
 

@@ -85,6 +85,7 @@ claim-175 m l s es c n j level h f a v =
     let of = m .oldFile in
     let next : suc n ≡ n + 1 = omega arith in
     let either = or-split (onlyReads c) (elsewhere m c) in (
+      (λ oh of nh nf. (refl, refl, refl, refl)),
       two-guests m,
       (
         (λ none i o u z t p q. let x = sourceAt (boardOf l .wired .child) i .target in

@@ -1,5 +1,5 @@
 -- Claims 104 to 110, 180, 181, 185 and 190, by the laws of runs and of the move. Assumes nothing.
-use Prim.Native.Nat.{ℕ, _+_, _*_, _<_}
+use Prim.Native.Nat.{ℕ, _/_, _<_}
 use mathlib.Core.Path.{_≡_, refl, sym, ap, _∙_}
 use mathlib.Core.Bool.{Bool, true, false, not, _&&_, false≢true}
 use mathlib.Core.List.{List}
@@ -11,15 +11,16 @@ use borrow.Author.Tests.{eq-eqb, eqb-true}
 use Rattle.words.specs.Sets.{member}
 use Rattle.words.proofs.TestsLaws.{tested, not-same}
 use Rattle.file.specs.declared.File.{File}
-use Rattle.file.specs.Top.{topIdentity, claimed}
+use Rattle.file.specs.Top.{topIdentity, topOf, claimed}
 use Rattle.file_laws.proofs.TopEffects.{top-is, top-within, claimed-pending}
 use Rattle.board_move_steps.specs.Steps.{accesses}
+use Rattle.board_move_wired_laws.proofs.TargetNames.{number-names}
 use Rattle.board_block.specs.Block.{boardOf}
 use Rattle.board_call.specs.declared.Call.{Call}
 use Rattle.board_call.specs.declared.Call.the-variants.{Wire, Register, Claim}
 use Rattle.board_call.specs.Calls.{rowOf}
 use Rattle.board_call.specs.Outcome.{outcome}
-use Rattle.board_runs.specs.Runs.{Made, leftBy, saidOf, saidWhere, Lent, outcomeOn, after, ran}
+use Rattle.board_runs.specs.Runs.{Made, leftBy, Said, saidOf, saidWhere, Lent, outcomeOn, after, ran}
 use Rattle.board_runs.specs.Handed.{isAccess, HandedOn, Makes}
 use Rattle.board_runs.specs.Ready.{boardIn, Ready}
 use Rattle.board_runs.specs.Reading.{onlyReads, storing}
@@ -115,15 +116,21 @@ module _ (m : Stations) (l s : List ℕ) (es : List Event) (ms ns : List Made) (
         → member (newIn m (boardIn here) .pending) i ≡ member (oldIn m (boardIn there) .pending) i
     pending-same i = ap (λ (f : File). member (f .pending) i) (moved .station)
 
+    abbrev top : ℕ
+    top = topOf 255 (newIn m (boardIn here))
+
     -- the identity that a claim answers is not pending after it
-    claimed-gone : let f = newIn m (boardIn here) in
-        topIdentity 255 f ≢ 0 → member (claimed 255 f .pending) (topIdentity 255 f) ≡ false
+    claimed-gone : top ≢ 0 → member (claimed 255 (newIn m (boardIn here)) .pending) (top / 65536) ≡ false
     claimed-gone n =
         let f = newIn m (boardIn here) in
         let i = topIdentity 255 f in
+        let is = top-is 255 f in
+        let some : i ≢ 0 = λ e. n (omega (arith, is)) in
+        let low = top-within 255 f some in
+        let named : top / 65536 ≡ i = omega (arith, is, low) in
         let long = beside .ready .fit .files (newNumber m) (new-lt m guests) .pendingLong in
-        claimed-pending 255 f i (top-within 255 f n .0) (omega arith) ∙ and-never (member (f .pending) i)
-        (eqb i i) (eq-eqb i i refl)
+        ap (member (claimed 255 f .pending)) named ∙ claimed-pending 255 f i (low .0) (omega (arith, low))
+        ∙ and-never (member (f .pending) i) (eqb i i) (eq-eqb i i refl)
       where
         and-never : (a b : Bool) → b ≡ true → (a && not b) ≡ false
         and-never true b e = rw e
@@ -143,23 +150,35 @@ module _ (m : Stations) (l s : List ℕ) (es : List Event) (ms ns : List Made) (
       on-old : Alike (outcome old (there .block) g′ t′) (outcomeOn old there)
       on-old = alike old (unfold isAccess rowOf in refl) there (beside .ready′) g′ t′ long′
 
+      abbrev answer : Said
+      answer = record { number = 0; value = top; count = 0 }
+
+      said-new : saidOf (outcome new (here .block) g t) ≡ answer
+      said-new = on-new .said ∙ claim-said m guests here (beside .ready)
+
+      said-old : saidOf (outcome old (there .block) g′ t′) ≡ answer
+      said-old =
+          on-old .said
+          ∙ sym (said-same m guests here there (beside .ready) (beside .ready′) (moved .station)
+          FileCall.claim) ∙ sym (on-new .said) ∙ said-new
+
       claims : let o = outcome new (here .block) g t in
           let o′ = outcome old (there .block) g′ t′ in
-          let i = topIdentity 255 (newIn m (boardIn here)) in
-          (saidOf o ≡ record { number = 0; value = i * 65536 + i; count = 0 }) × (saidOf o ≡ saidOf o′)
-          × (i ≢ 0 → member (newIn m (boardOf (o .block)) .pending) i ≡ false)
+          (o .number ≡ 0) × (o .value ≡ top) × (o .count ≡ 0)
+          × (o′ .number ≡ 0) × (o′ .value ≡ top) × (o′ .count ≡ 0)
+          × (top ≢ 0 → member (newIn m (boardOf (o .block)) .pending) (top / 65536) ≡ false)
           × (newIn m (boardOf (o .block)) ≡ oldIn m (boardOf (o′ .block)))
       unfolding after
       claims = (
-        on-new .said ∙ claim-said m guests here (beside .ready)
-            ∙ ap (λ (v : ℕ). record { number = 0; value = v; count = 0 })
-            (top-is 255 (newIn m (boardIn here))),
-        on-new .said ∙ said-same m guests here there (beside .ready) (beside .ready′) (moved .station)
-            FileCall.claim ∙ sym (on-old .said),
-        (λ n. ap (λ (b : List ℕ). member (newIn m (boardOf b) .pending) (topIdentity 255 (newIn m
-            (boardIn here)))) (on-new .block)
-            ∙ ap (λ (z : File). member (z .pending) (topIdentity 255 (newIn m (boardIn here))))
-            (claim-left m guests here (beside .ready)) ∙ claimed-gone n),
+        ap (λ (s : Said). s .number) said-new,
+        ap (λ (s : Said). s .value) said-new,
+        ap (λ (s : Said). s .count) said-new,
+        ap (λ (s : Said). s .number) said-old,
+        ap (λ (s : Said). s .value) said-old,
+        ap (λ (s : Said). s .count) said-old,
+        (λ n. ap (λ (b : List ℕ). member (newIn m (boardOf b) .pending) (top / 65536)) (on-new .block)
+            ∙ ap (λ (z : File). member (z .pending) (top / 65536)) (claim-left m guests here (beside .ready))
+            ∙ claimed-gone n),
         ap (λ (b : List ℕ). newIn m (boardOf b)) (on-new .block)
             ∙ file-same m guests here there (beside .ready) (beside .ready′) (moved .station) FileCall.claim
             (unfold rowOf in tt)
@@ -288,7 +307,7 @@ claim-180 m l s es ms ns a b c d e f g h i j =
     rw (left-here m l s es ms ns a b c d e f g h i j, kept) (
       left .silent,
       left .signal,
-      left .unnamed,
+      (λ k u v x y. not-same _ (number-names _ (m .oldHart) (m .oldFile) x y) (left .unnamed k u v)),
       wires m l s es ms ns a b c d e f g h i j,
       held .pending,
       held .enable,

@@ -12,11 +12,14 @@ use Rattle.words.specs.Parts.{packed}
 use Rattle.source_target.specs.Target.{hartOf, guestOf, numberOf}
 use Rattle.board_move_steps.specs.Names.{namesFile, renamed}
 use Rattle.board_move_wired_laws.proofs.TargetNames.{names-number, number-names}
+use Rattle.files.specs.Files.{fileNumber}
+use Rattle.board_call.specs.declared.Call.{Call}
 use Rattle.board_call.specs.Numbers.{isFile}
 use Rattle.board_call_laws.proofs.FileCallEffects.{hart-lt, file-lt}
 use Rattle.board_move_laws.proofs.MoveEffects.{guest-hart, guest-low, guest-high}
 use Rattle.board_runs.specs.Reading.{onlyReads}
-use Rattle.move_laws.specs.Shift.{Stations, isNeither, hasNeither, elsewhere}
+use Rattle.move_laws.specs.Shift.{Stations, Event, isNeither, hasNeither, elsewhere}
+use Rattle.move_laws.specs.Shift.Event.{wire, page, access, call}
 use Rattle.move_laws.specs.After.{FileCall, callOn, thenHere, thenThere, LaterKept}
 use Rattle.move_cases.specs.Needed.{PagesWithin, LogLong, AnyOld, AnyNew, Besides, onOld}
 use Rattle.move_cases.specs.Needed.{stationThere}
@@ -178,10 +181,23 @@ any-new m =
       }),
     )
 
+-- ---- what happens in a shift
+
+event-is : (e : Event)
+    → ((i : ℕ) × (level : ℕ) × (e ≡ wire i level))
+    ⊎ ((h : ℕ) × (f : ℕ) × (a : ℕ) × (v : ℕ) × (e ≡ page h f a v)) ⊎ (e ≡ access)
+    ⊎ ((c : Call) × (e ≡ call c))
+event-is (wire i level) = inl (i, level, refl)
+event-is (page h f a v) = inr (inl (h, f, a, v, refl))
+event-is access = inr (inr (inl refl))
+event-is (call c) = inr (inr (inr (c, refl)))
+
 pub claim-187 : Claim-187
 unfolding Claim-187 elsewhere thenHere thenThere LaterKept PagesWithin Besides onOld stationThere LogLong
-    WordsFit
+    WordsFit fileNumber
 claim-187 = (
+  (λ m b h f. (refl, refl, refl, refl, refl)),
+  event-is,
   (λ m a d f h k level n nf nh of oh s v w. (
     neither-iff m h f,
     neither-iff m h f,

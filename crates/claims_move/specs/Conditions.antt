@@ -1,40 +1,25 @@
--- Claims 111, 112, 186 and 191: the premises of a move can be met, each is needed, and so is what has to be
--- held back; and they are the premises that the claims on the move have. 01, "The move, with its premises".
+-- Claims 112, 186 and 191: each premise of a move is needed, and so is what has to be held back; they are the
+-- premises that the claims on the move have, and the shift of Claim-111 meets them. 01, "The move, with its
+-- premises".
 --   TooWeak P    some stations, a start and a shift meet P, and the shift with the move does not end as
 --                without it; Letting d, so it is of a shift in which the call d is made, and all else is as
 --                it should be: Claim-188 has both in plain words
 -- Premises: none. No axioms.
-use Prim.Native.Nat.{ℕ, _-_}
+use Prim.Native.Nat.{ℕ}
 use mathlib.Core.Path.{_≡_}
 use mathlib.Core.List.{List}
 use mathlib.Core.Logic.{_↔_}
-use Rattle.board_call.specs.declared.Call.the-variants.{Reset, DomainWrite}
-use Rattle.board_call.specs.declared.Call.the-variants.{Register, Claim}
-use Rattle.board_runs.specs.Runs.{Made, after}
+use Rattle.board_call.specs.declared.Call.the-variants.{Reset, DomainWrite, Register, Claim}
+use Rattle.board_runs.specs.Runs.{Made, handing}
 use Rattle.board_runs.specs.Handed.{HandedOn, Makes}
-use Rattle.board_runs.specs.Ready.{boardIn}
 use Rattle.move_laws.specs.Shift.{Stations, Event, withMove, withoutMove}
-use Rattle.move_laws.specs.Premises.{Started, TwoGuests, ByMessages, NoneNamesNew, AllAccesses, PagesKept}
-use Rattle.move_laws.specs.Premises.{CallsKept, accessesIn}
-use Rattle.move_cases.specs.Example.{Example}
-use Rattle.move_cases.specs.Needed.{PagesAre}
-use Rattle.move_cases.specs.Needed.{NeedsHandedOn}
-use Rattle.move_laws.specs.Premises.{Premises, accessesIn}
-use Rattle.board_runs.specs.Runs.{handing, ran}
-use Rattle.move_cases.specs.Board.{stations, stale, wiredTo}
-use Rattle.move_cases.specs.Example.{start, shift, soFar, stationEnd, oldEnd, boardEnd}
+use Rattle.move_laws.specs.Premises.{Started, TwoGuests, ByMessages, NoneNamesNew, accessesIn}
+use Rattle.move_laws.specs.Premises.{AllAccesses, PagesKept, CallsKept, Premises}
+use Rattle.move_cases.specs.Board.{stations}
+use Rattle.move_cases.specs.Example.{start, shift}
 use Rattle.move_cases.specs.Needed.{PagesWithin, LogLong, AnyState, AnyOld, AnyNew, TooWeak, Letting}
+use Rattle.move_cases.specs.Needed.{NeedsHandedOn}
 use Rattle.claims_move.specs.Station.{MovedWhere}
-
--- the premises of a move can be met: a start and a shift in full. Two devices, an edge source and a level
--- source bring messages to old before they change over and to new after it, in the middle of steps too, and
--- another station claims; at the end new is the file that the station would have had, with its bits in four
--- words of 64 and its threshold of 200, and has nothing of what it held before
-unfoldable pub Claim-111 : Type 0
-Claim-111 =
-    Premises stations (start .block) (start .saved) shift
-    × (boardIn (soFar shift) ≡ boardEnd oldEnd stationEnd (wiredTo 1 3))
-    × (boardIn (ran (withoutMove stations shift) start) ≡ boardEnd stationEnd stale (wiredTo 0 2)) × Example
 
 -- each premise of a move is needed: without it, or with a bound that is off by one, and with all the others,
 -- there is a start and a shift whose end differs. Of `Started` it drops the state rules, of `TwoGuests` that
@@ -50,7 +35,7 @@ Claim-112 =
     × NoneNamesNew m (x .block) × AllAccesses es × PagesWithin 7 72 m 0 es × CallsKept m es)
     × TooWeak (λ m x es. Started (x .block) (x .saved) × LogLong x × TwoGuests m × ByMessages (x .block)
     × NoneNamesNew m (x .block) × AllAccesses es × PagesWithin 8 73 m 0 es × CallsKept m es)
-    × PagesAre
+    × ((m : Stations) (n : ℕ) (es : List Event) → (PagesKept m n es ↔ PagesWithin 8 72 m n es))
     -- a source sends to new from the start on
     × TooWeak (λ m x es. Started (x .block) (x .saved) × LogLong x × TwoGuests m × ByMessages (x .block)
     × AllAccesses es × PagesKept m 0 es × CallsKept m es)

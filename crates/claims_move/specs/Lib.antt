@@ -6,4 +6,5 @@ pub mod Premises
 pub mod Words
 pub mod Station
 pub mod GivenUp
+pub mod OneShift
 pub mod Conditions

@@ -66,14 +66,16 @@ Claim-100 =
 -- ---- when an access is barred
 
 -- an access is not barred exactly if old and new are two different guest files, each a file 2 to 4 of a hart
--- 0 to 3, its number is 1 to 89, and the child domain is not in direct mode
+-- 0 to 3, its number is 1 to 89, and the child domain is not in direct mode; `isMove` is this without the
+-- child domain
 -- [01 C14 V9 V10 V11]
 unfoldable pub Claim-101 : Type 0
 Claim-101 =
     (b : Board) (oh of nh nf n : ℕ)
-    → (present (Move oh of nh nf n) b ≡ true)
-    ↔ ((oh < 4) × (2 ≤ of) × (of ≤ 4) × (nh < 4) × (2 ≤ nf) × (nf ≤ 4) × (oh ≡ nh → of ≡ nf → ⊥)
-    × (1 ≤ n) × (n ≤ 89) × (byMessages (b .wired .child) ≡ true))
+    → let Numbered = (oh < 4) × (2 ≤ of) × (of ≤ 4) × (nh < 4) × (2 ≤ nf) × (nf ≤ 4)
+    × (oh ≡ nh → of ≡ nf → ⊥) × (1 ≤ n) × (n ≤ 89) in
+    ((isMove oh of nh nf n ≡ true) ↔ Numbered)
+    × ((present (Move oh of nh nf n) b ≡ true) ↔ (Numbered × (byMessages (b .wired .child) ≡ true)))
 
 -- ---- old, new and the saved numbers
 

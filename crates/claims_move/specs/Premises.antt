@@ -33,18 +33,21 @@ use Rattle.move_laws.specs.Shift.Event.{wire, page, access, call}
 use Rattle.move_laws.specs.Premises.{Started, TwoGuests, ByMessages, NoneNamesNew, accessesIn}
 use Rattle.move_laws.specs.Premises.{AllAccesses, PagesKept, CallsKept}
 
--- the premises of a move, and the two shifts that are compared, ask this and no more: old and new are two
--- different files 2 to 4 of harts 0 to 3; at the start no active source of the child names new, the child is
--- not in direct mode, and what is lent has its lengths and keeps the rules; the accesses are 89, with their
--- numbers in order; nobody writes to new before access 8, nor to old from access 72 on; a call besides only
--- reads, or is one on a file that is neither; and the compared shift has the same wires, page writes and
--- calls, the page writes to new going to old, and no access
--- [01 V3 V12 V13 V22 V23 V25 V26 V27 V28 V29]
+-- the premises of a move, and the two shifts that are compared, ask this and no more: old and new are any
+-- four numbers that are two different files 2 to 4 of harts 0 to 3; at the start no active source of the
+-- child names new, the child is not in direct mode, and what is lent has its lengths and keeps the rules;
+-- the accesses are 89, with their numbers in order; nobody writes to new before access 8, nor to old from
+-- access 72 on; a call besides only reads, or is one on a file that is neither; and the compared shift has
+-- the same wires, page writes and calls, the page writes to new going to old, and no access
+-- [01 V3 V12 V13 V22 V23 V24 V25 V26 V27 V28 V29]
 unfoldable pub Claim-175 : Type 0
 Claim-175 =
     (m : Stations) (l s : List ℕ) (es : List Event) (c : Call) (n j level h f a v : ℕ)
-    -- two different guest files
-    → (TwoGuests m
+    -- any four numbers, and of these two different guest files
+    → ((oh of nh nf : ℕ)
+    → let x : Stations = record { oldHart = oh; oldFile = of; newHart = nh; newFile = nf } in
+    (x .oldHart ≡ oh) × (x .oldFile ≡ of) × (x .newHart ≡ nh) × (x .newFile ≡ nf))
+    × (TwoGuests m
     ↔ ((m .oldHart < 4) × (2 ≤ m .oldFile) × (m .oldFile ≤ 4) × (m .newHart < 4) × (2 ≤ m .newFile)
     × (m .newFile ≤ 4) × (m .oldHart ≡ m .newHart → m .oldFile ≡ m .newFile → ⊥)))
     -- the start

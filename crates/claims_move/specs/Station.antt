@@ -10,7 +10,8 @@
 -- `PagesKept`, which Claim-111 shows can be met, and Claim-112 that each is needed; `CallsKept`, what else
 -- may be called, where 01 has no call at all; and `Makes` and `HandedOn`, what each call brings: a log of 63
 -- words, and an access the saved numbers that the last one gave; of Claim-110 besides `LaterKept`, what
--- may be called afterwards. Claim-181 has none. No axioms.
+-- may be called afterwards; of Claim-190 the same as of 105, but any number of accesses up to 89. Claim-181
+-- has none. No axioms.
 use Prim.Native.Nat.{ℕ, _+_, _-_, _*_, _/_, _%_, _^_, _≤_, _<_}
 use mathlib.Core.Path.{_≡_}
 use mathlib.Core.Bool.{Bool, true, false}
@@ -19,7 +20,7 @@ use mathlib.Core.Logic.{_≢_, _↔_}
 use lib.ListN.{length, getD, replicate}
 use Rattle.words.specs.Bits.{hasBit}
 use Rattle.words.specs.Sets.{member}
-use Rattle.file.specs.Top.{topIdentity}
+use Rattle.file.specs.Top.{topOf}
 use Rattle.files.specs.Files.{fileNumber, theFile}
 use Rattle.domain_region.specs.declared.Word.the-variants.{Claimi}
 use Rattle.domain_region.specs.Region.{wordAt}
@@ -27,7 +28,6 @@ use Rattle.source_target.specs.Target.{hartOf, guestOf, numberOf}
 use Rattle.domain.specs.Domain.{genmsiOf}
 use Rattle.domain.specs.Slot.{sourceAt}
 use Rattle.wired_state.specs.Wires.{domainIn}
-use Rattle.board_move_steps.specs.Names.{namesFile}
 use Rattle.board_block.specs.Block.{boardOf}
 use Rattle.board_call.specs.declared.Call.{Call}
 use Rattle.board_call.specs.declared.Call.the-variants.{Reset, Wire, DomainRead, DomainWrite, PageRead}
@@ -36,7 +36,7 @@ use Rattle.board_call.specs.Change.{signalsTo}
 use Rattle.board_call.specs.Outcome.{step, outcome}
 use Rattle.board_call.specs.Refusal.{nameRefusal, refusalOf}
 use Rattle.board_call_laws.specs.Small.{Small}
-use Rattle.board_runs.specs.Runs.{Made, leftBy, saidOf, saidWhere, Lent, after}
+use Rattle.board_runs.specs.Runs.{Made, leftBy, saidWhere, Lent, after}
 use Rattle.board_runs.specs.Handed.{isAccess, savedBy, HandedOn, Makes}
 use Rattle.board_runs.specs.Ready.{boardIn, Ready}
 use Rattle.board_runs.specs.Reading.{onlyReads, storing}
@@ -110,8 +110,8 @@ Claim-107 =
     → member (newIn m (boardOf (leftBy ms l)) .pending) i ≡ true)
 
 -- none is doubled or made up: what is pending in the new file is pending with no move; and a claim
--- afterwards, with any log of 63 words, answers the lowest identity that qualifies, or 0, as it would have,
--- that identity is then gone, and the file is again the one that there would have been
+-- afterwards, with any log of 63 words, answers the top of the new file, as it would have with no move; the
+-- identity that it answers is then gone, and the file is again the one that there would have been
 unfoldable pub Claim-108 : Type 0
 Claim-108 =
     MovedWhere (λ m l s ms ns. ((i : ℕ) → member (newIn m (boardOf (leftBy ms l)) .pending) i ≡ true
@@ -119,9 +119,10 @@ Claim-108 =
     × ((g g′ t t′ : List ℕ) → length g ≡ 63 → length g′ ≡ 63
     → let o = outcome (Claim (m .newHart) (m .newFile)) (leftBy ms l) g t in
     let o′ = outcome (Claim (m .oldHart) (m .oldFile)) (leftBy ns l) g′ t′ in
-    let i = topIdentity 255 (newIn m (boardOf (leftBy ms l))) in
-    (saidOf o ≡ record { number = 0; value = i * 65536 + i; count = 0 }) × (saidOf o ≡ saidOf o′)
-    × (i ≢ 0 → member (newIn m (boardOf (o .block)) .pending) i ≡ false)
+    let v = topOf 255 (newIn m (boardOf (leftBy ms l))) in
+    (o .number ≡ 0) × (o .value ≡ v) × (o .count ≡ 0)
+    × (o′ .number ≡ 0) × (o′ .value ≡ v) × (o′ .count ≡ 0)
+    × (v ≢ 0 → member (newIn m (boardOf (o .block)) .pending) (v / 65536) ≡ false)
     × (newIn m (boardOf (o .block)) ≡ oldIn m (boardOf (o′ .block)))))
 
 -- none is handed to another station: every file but old and new has the same pending bits. A corollary of
@@ -151,7 +152,6 @@ Claim-110 =
 
 -- the other stations go on: a call on a file that is neither old nor new, anywhere between the accesses, and
 -- the signals of a hart that has neither, answer what they would have answered with no move
--- [01 V24]
 unfoldable pub Claim-185 : Type 0
 Claim-185 = MovedWhere (λ m l s ms ns. saidWhere (elsewhere m) ms l ≡ saidWhere (elsewhere m) ns l)
 
@@ -186,7 +186,7 @@ Claim-180 =
     let r = savedBy s ms l in
     (old .delivery ≡ 0) × (hasBit (signalsTo b (m .oldHart) 5) (m .oldFile) ≡ false)
     × ((i : ℕ) → 1 ≤ i → i ≤ 63
-    → namesFile (sourceAt (b .wired .child) i .target) (m .oldHart) (m .oldFile) ≡ false)
+    → let t = sourceAt (b .wired .child) i .target in hartOf t ≡ m .oldHart → guestOf t + 1 ≡ m .oldFile → ⊥)
     × ((i level : ℕ) (g t : List ℕ) → length g ≡ 63
     → oldIn m (boardOf (outcome (Wire i level) (leftBy ms l) g t .block)) ≡ old)
     × ((i : ℕ) → 1 ≤ i → i ≤ 255 → member (old .pending) i ≡ hasBit (getD r (2 + i / 64) 0) (i % 64))

@@ -25,19 +25,29 @@ use Rattle.move_laws.specs.Shift.{Stations, Event, elsewhere, withMove, without
 use Rattle.move_laws.specs.Shift.Event.{wire, page, access, call}
 use Rattle.move_laws.specs.Premises.{Started, TwoGuests, ByMessages, NoneNamesNew}
 use Rattle.move_laws.specs.Premises.{AllAccesses, PagesKept, CallsKept, Premises}
-use Rattle.move_laws.specs.Moved.{Moved}
+use Rattle.move_laws.specs.Moved.{oldNumber, newNumber, oldIn, newIn, Moved}
 use Rattle.move_laws.specs.After.{FileCall, callOn, Later, thenHere, thenThere, LaterKept}
 use Rattle.move_laws.specs.After.FileCall.{pageRead, pageWrite, register, top, claim}
 use Rattle.move_cases.specs.Needed.{PagesWithin, LogLong, AnyState, AnyOld, AnyNew, Besides, onOld}
 use Rattle.move_cases.specs.Needed.{stationThere, TooWeak, Letting, NeedsHandedOn}
 
--- a call is elsewhere exactly if it is a call on one file, old nor new, or asks for the signals of a hart
--- that has neither; a call on a file is the one that it is named after; `Moved`, which the shifts of claims
--- 111, 112 and 186 end with or do not, says what Claim-105 does; and the premises that these weaken say this
--- and no more
+-- a file has the number 5 × hart + file, and old and new are the files of theirs; what happens in a shift
+-- is a wire, a page write, an access or a call, and nothing else; a call is elsewhere exactly if it is a
+-- call on one file, neither old nor new, or asks for the signals of a hart that has neither; a call on a
+-- file is the one that it is named after; `Moved`, which the shifts of claims 112 and 186 do not end with,
+-- says what Claim-105 does; and the premises that these weaken say this and no more
 unfoldable pub Claim-187 : Type 0
 Claim-187 =
-    ((m : Stations) (a d f h k level n nf nh of oh s v w : ℕ)
+    ((m : Stations) (b : Board) (h f : ℕ)
+    → let old = 5 * m .oldHart + m .oldFile in
+    let new = 5 * m .newHart + m .newFile in
+    (fileNumber h f ≡ 5 * h + f) × (oldNumber m ≡ old) × (newNumber m ≡ new)
+    × (oldIn m b ≡ theFile (b .files) old) × (newIn m b ≡ theFile (b .files) new))
+    × ((e : Event)
+    → ((i : ℕ) × (level : ℕ) × (e ≡ wire i level))
+    ⊎ ((h : ℕ) × (f : ℕ) × (a : ℕ) × (v : ℕ) × (e ≡ page h f a v)) ⊎ (e ≡ access)
+    ⊎ ((c : Call) × (e ≡ call c)))
+    × ((m : Stations) (a d f h k level n nf nh of oh s v w : ℕ)
     → let Neither = (h ≡ m .oldHart → f ≡ m .oldFile → ⊥) × (h ≡ m .newHart → f ≡ m .newFile → ⊥) in
     ((elsewhere m (PageRead h f a) ≡ true) ↔ Neither) × ((elsewhere m (PageWrite h f a v) ≡ true) ↔ Neither)
     × ((elsewhere m (Register h f k s v) ≡ true) ↔ Neither) × ((elsewhere m (Top h f) ≡ true) ↔ Neither)

@@ -1,16 +1,20 @@
 -- The shift of specs/Example.antt, computed: its premises, what arrives where, and how it ends. No contract
 -- cites this file. Assumes nothing.
-use mathlib.Core.Path.{_≡_, refl, sym, ap, subst, _∙_}
+use mathlib.Core.Path.{_≡_, refl, sym, ap, _∙_}
 use mathlib.Core.Bool.{true, false, false≢true}
 use mathlib.Core.List.{List, _++_}
 use native.Mathlib.Omega.{arith}
 use lib.ListN.{getD}
+use Rattle.words.specs.Bits.{putBit}
 use Rattle.file.specs.Top.{signals}
+use Rattle.domain_delivery.specs.Delivery.{structureSignals}
+use Rattle.domain_direct.specs.Direct.{signalOf}
 use Rattle.domain_sending.specs.Sending.{logged}
 use Rattle.board_block.specs.Block.{Board}
 use Rattle.board_call.specs.declared.Call.{Call}
-use Rattle.board_call.specs.declared.Call.the-variants.{Claim}
+use Rattle.board_call.specs.declared.Call.the-variants.{Top, Claim, Signals}
 use Rattle.board_call.specs.Move as call
+use Rattle.board_call.specs.Change.{signalAt, signalsTo}
 use Rattle.board_call.specs.Calls.{rowOf}
 use Rattle.board_call.specs.Outcome.{Stepped, step, Outcome, doneAs}
 use Rattle.board_call.specs.Refusal.{nameRefusal}
@@ -23,8 +27,8 @@ use Rattle.board_runs.specs.Reading.{onlyReads}
 use Rattle.board_runs.proofs.RunsEffects.{ready-refusal, ready-ran, after-board}
 use Rattle.move_laws.specs.Shift.{Event, elsewhere, withMove, withoutMove}
 use Rattle.move_laws.specs.Premises.{TwoGuests, accessesIn, AllAccesses, PagesKept, CallsKept, Premises}
-use Rattle.move_laws.specs.Moved.{oldIn, newIn, Moved}
-use Rattle.move_laws.proofs.ShiftEffects.{lentFrom, move-keeps, move-done}
+use Rattle.move_laws.specs.Moved.{oldIn, newIn}
+use Rattle.move_laws.proofs.ShiftEffects.{lentFrom, move-done}
 use Rattle.move_laws.proofs.EndEffects.{EventsSmall, small-with, small-without}
 use Rattle.move_cases.specs.Board.{stations, stale, wiredTo, boardWith, lent}
 use Rattle.move_cases.specs.Example.{start, early, edgeOver, levelOver, lookedOn, late, shift, soFar}
@@ -158,8 +162,8 @@ begins = refl
 
 -- each equation that ends in refl computes
 pub example : Example
-unfolding early edgeOver levelOver lookedOn oldEnd stationEnd logged withMove rowOf blockTests boardRun
-    signals
+unfolding shift early edgeOver levelOver lookedOn late oldEnd stationEnd logged withMove rowOf blockTests
+    boardRun signalsTo signalAt signalOf structureSignals signals putBit
 example =
     record {
       premises = example-premises;
@@ -186,12 +190,7 @@ example =
           ∙ move-done stations (start .block) (start .saved) shift example-premises;
       ends = seen shift shift-small (λ b. b) ∙ ran-with;
       unmoved = ap (λ (y : call.Acted). y .board) without ∙ ran-without;
-      moved =
-          subst (λ (x : Lent). Moved stations (boardIn (ran (withMove stations 0 shift) x))
-          (boardIn (ran (withoutMove stations shift) x))) begins
-          (move-keeps stations (start .block) (start .saved) shift example-premises);
-      top = refl;
-      barred = refl;
-      heard = refl;
-      silent = refl;
+      top = ap (λ (o : Outcome). o .value) (next-outcome shift shift-small (Top 1 3) tt refl) ∙ refl;
+      heard = ap (λ (o : Outcome). o .value) (next-outcome shift shift-small (Signals 1) tt refl) ∙ refl;
+      silent = ap (λ (o : Outcome). o .value) (next-outcome shift shift-small (Signals 0) tt refl) ∙ refl;
     }

@@ -4,7 +4,7 @@ use Prim.Native.Nat.{ℕ, suc}
 use mathlib.Core.Path.{_≡_, refl, sym, ap, _∙_}
 use mathlib.Core.Bool.{not, false≢true}
 use mathlib.Core.List.{List, [], _∷_, _++_}
-use mathlib.Core.Logic.{_≢_}
+use mathlib.Core.Logic.{_≢_, _↔_}
 use native.Mathlib.Omega.{arith}
 use lib.Dec.{eqb}
 use lib.ListN.{length, replicate}
@@ -26,7 +26,7 @@ use Rattle.move_laws.specs.Premises.{CallsKept}
 use Rattle.move_laws.specs.Moved.{oldIn, newIn}
 use Rattle.move_laws.proofs.EndEffects.{EventsSmall}
 use Rattle.move_cases.specs.Board.{stations, wiredTo, boardWith, lent}
-use Rattle.move_cases.specs.Needed.{LogLong, PagesWithin, PagesAre, NeedsAll, NeedsPagesNew}
+use Rattle.move_cases.specs.Needed.{LogLong, PagesWithin, NeedsAll, NeedsPagesNew}
 use Rattle.move_cases.specs.Needed.{NeedsPagesOld, NeedsFresh, NeedsMessages, NeedsGuestOld}
 use Rattle.move_cases.specs.Needed.{NeedsGuestNew, NeedsLogLong}
 use Rattle.move_cases.proofs.BoardRun.{boardRun}
@@ -37,8 +37,8 @@ use Rattle.move_cases.proofs.ExampleShift.{board, other, two-guests}
 
 -- ---- the bounds of the pages are 8 and 72
 
-pub pages-are : PagesAre
-unfolding PagesAre PagesWithin PagesKept
+pub pages-are : (m : Stations) (n : ℕ) (es : List Event) → PagesKept m n es ↔ PagesWithin 8 72 m n es
+unfolding PagesWithin PagesKept
 pages-are m n es = (to n es, back n es)
   where
     to : (n : ℕ) (es : List Event) → PagesKept m n es → PagesWithin 8 72 m n es

@@ -25,25 +25,23 @@
 --                 has 6 enabled, and claimed, and all else is as at the start
 --   Example       the premises hold, the messages arrive as said, and the shift ends as it should: with the
 --                 move new is stationEnd, whatever it held before, and without it old is
-use Prim.Native.Nat.{ℕ, _+_, _*_}
+use Prim.Native.Nat.{ℕ, _+_, _*_, _^_}
 use mathlib.Core.Path.{_≡_}
-use mathlib.Core.Bool.{true, false}
 use mathlib.Core.List.{List, [], _∷_, _++_}
 use lib.ListN.{getD, replicate}
 use Rattle.file.specs.declared.File.{File}
-use Rattle.file.specs.Top.{qualifies, topOf, signals}
 use Rattle.files.specs.Files.{withFile}
 use Rattle.wired_state.specs.Wires.{Wired}
 use Rattle.board_block.specs.Block.{Board, withFiles}
 use Rattle.board_call.specs.declared.Call.{Call}
-use Rattle.board_call.specs.declared.Call.the-variants.{Wire, Register, Top, Claim}
+use Rattle.board_call.specs.declared.Call.the-variants.{Wire, Register, Top, Claim, Signals}
 use Rattle.board_runs.specs.Runs.{saidWhere, Lent, outcomeOn, after, ran, handing}
 use Rattle.board_runs.specs.Handed.{isAccess}
 use Rattle.board_runs.specs.Ready.{boardIn}
 use Rattle.move_laws.specs.Shift.{Event, withMove, withoutMove}
 use Rattle.move_laws.specs.Shift.Event.{wire, page, access, call}
 use Rattle.move_laws.specs.Premises.{Premises}
-use Rattle.move_laws.specs.Moved.{oldIn, newIn, Moved}
+use Rattle.move_laws.specs.Moved.{oldIn, newIn}
 use Rattle.move_cases.specs.Board.{stations, fileWith, enabled, staleBits, stale, wiredTo}
 use Rattle.move_cases.specs.Board.{boardHaving, boardWith, lent}
 
@@ -125,9 +123,7 @@ pub record Example : Type 0 where
       ≡ replicate 89 (record { number = 0; value = 0; count = 0 })
   pub ends : boardIn (soFar shift) ≡ boardEnd oldEnd stationEnd (wiredTo 1 3)
   pub unmoved : boardIn (ran (withoutMove stations shift) start) ≡ boardEnd stationEnd stale (wiredTo 0 2)
-  pub moved : Moved stations (boardIn (soFar shift)) (boardIn (ran (withoutMove stations shift) start))
   -- 3 and 4 are not enabled, and 250 is not below the threshold; new signals, and old does not
-  pub top : topOf 255 stationEnd ≡ 0x00050005
-  pub barred : qualifies stationEnd 250 ≡ false
-  pub heard : signals 255 stationEnd ≡ true
-  pub silent : signals 255 oldEnd ≡ false
+  pub top : outcomeOn (Top 1 3) (soFar shift) .value ≡ 0x00050005
+  pub heard : outcomeOn (Signals 1) (soFar shift) .value ≡ 2 ^ 3
+  pub silent : outcomeOn (Signals 0) (soFar shift) .value ≡ 0

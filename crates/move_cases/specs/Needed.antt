@@ -2,8 +2,8 @@
 -- shift that does not end as it should. So is what has to be held back during a move: calls of the moved
 -- station, on old and on new, writes to the child domain, and a reset. 01, "The move, with its premises".
 -- Assumes nothing.
---   PagesWithin a z m n es   no page write to new before access a, and none to old from access z on
---   PagesAre                 PagesKept m n es is this with 8 and 72
+--   PagesWithin a z m n es   no page write to new before access a, and none to old from access z on:
+--                            PagesKept m n es is this with 8 and 72
 --   LogLong x                the log has 63 words
 --   AnyOld m, AnyNew m       TwoGuests, but that old, or new, may be any file that is there
 --   AnyState l s             Started, but that the state may break the rules
@@ -52,11 +52,6 @@ PagesWithin a z m n (Event.page h f o v ∷ es) =
     (isNew m h f ≡ true → a ≤ n) × (isOld m h f ≡ true → n < z) × PagesWithin a z m n es
 PagesWithin a z m n (Event.access ∷ es) = PagesWithin a z m (suc n) es
 PagesWithin a z m n (Event.call c ∷ es) = PagesWithin a z m n es
-
-unfoldable pub PagesAre : Type 0
-PagesAre =
-    (m : Stations) (n : ℕ) (es : List Event)
-    → (PagesKept m n es → PagesWithin 8 72 m n es) × (PagesWithin 8 72 m n es → PagesKept m n es)
 
 unfoldable pub LogLong : Lent → Type 0
 LogLong x = length (x .log) ≡ logSize
