@@ -1,7 +1,7 @@
 -- Each premise of a move is needed: with one of them dropped or weakened, and all the others, there is a
--- shift that does not end as it should. So is what has to be held back during a move: calls of the moved
--- station, on old and on new, writes to the child domain, and a reset. 01, "The move, with its premises".
--- Assumes nothing.
+-- shift that does not end as it should. So is that these are held back during a move: claims and register
+-- writes of the moved station, on old and on new, a write to a target of the child, a reset. 01, "The move,
+-- with its premises". Assumes nothing.
 --   PagesWithin a z m n es   no page write to new before access a, and none to old from access z on:
 --                            PagesKept m n es is this with 8 and 72
 --   LogLong x                the log has 63 words

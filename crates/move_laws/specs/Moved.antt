@@ -2,9 +2,9 @@
 -- without it. 01, "The move, with its premises". Assumes nothing.
 --   oldIn, newIn           the file old, and the file new, of a board
 --   Moved m b b′           b, after the shift with the move, and b′, after the one without it: the file new
---                          of b is the file old of b′; every file but these two, every wire, and every
---                          pending and enable bit of both domains is the same; and a target of the child
---                          that names old in b′ names new in b, with the same identity
+--                          of b is the file old of b′; every file but these two, every wire and both domains
+--                          are the same, but that a target of the child that names old in b′ names new in b,
+--                          with the same identity
 -- Not claimed: what new held before the move is lost; old is left with what it held at access 72, silent, as
 -- Claim-180 says; and the logs are not compared, since their words name the files.
 use Prim.Native.Nat.{ℕ, _≤_, _<_}

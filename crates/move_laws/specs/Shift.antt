@@ -6,6 +6,8 @@
 --                      for another station or to look on
 --   accessOf m n       the call that makes access n
 --   isOld, isNew       file f of hart h is old, or new
+--   isNeither          it is neither
+--   hasNeither m h     hart h has neither
 --   elsewhere m c      c is a call on one file, which is neither old nor new, or asks for the signals of a
 --                      hart that has neither
 --   withMove m n es    the calls of the shift es, n accesses having been made: each access makes the next one
