@@ -20,16 +20,16 @@ STEPS = [
 DESCRIBED = (
     'The 89 accesses of a move in six steps on a time line. Wires change and devices write to pages '
     'anywhere between them; each device changes over from the page of the old file to that of the new '
-    'one once, after access 8 and before access 72; the other stations go on, and the moved one makes no call. '
-    'Below it the same shift with no move. At the end the new file is the one that the station would have had: no scan is dropped, '
-    'doubled or handed to another station.')
+    'one once, after access 8 and before access 72; the other stations go on, and the moved one claims and '
+    'writes nothing. Below it the same shift with no move. At the end the new file is the one that the station '
+    'would have had: no scan is dropped, doubled or handed to another station.')
 CONDITIONS = (
-    '*At the start* the blocks have their lengths and the state keeps its rules (`Started`), old and new '
-    'are two different guest files (`TwoGuests`), the supervisor’s domain is by messages (`ByMessages`), '
-    'and no active source’s target names new (`NoneNamesNew`). *Then* the accesses are made once each, '
-    'in order (`withMove`, `AllAccesses`), each with the saved numbers that the last one gave (`HandedOn`), pages '
-    'are written and calls made as shown (`PagesKept`, `CallsKept`). In plain numbers: Claims #175, #184; they can '
-    'be met: #111; each is needed: #112.')
+    '*At the start* the state has its length and keeps its rules (`Started`), old and new are two different '
+    'guest files (`TwoGuests`), the supervisor’s domain is by messages (`ByMessages`), and no active source’s '
+    'target names new (`NoneNamesNew`). *Then* the accesses are made once each, in order (`withMove`, '
+    '`AllAccesses`), each with the saved numbers that the last one gave (`HandedOn`), and every call with a log '
+    'of 63 words (`Makes`); pages are written and calls made as shown (`PagesKept`, `CallsKept`). In plain '
+    'numbers: Claims #175, #184; they can be met: #111; each is needed: #112, #186.')
 ENDS = [
     '*the same file:* Claim #105\nnumber for number; and every other file, every wire, and both domains '
     'but for the targets of old',
@@ -38,14 +38,16 @@ ENDS = [
     '*none doubled:* Claim #108\nwhat is pending in new would be pending with no move; claimed once, it '
     'is gone',
     '*none to another station:* Claim #109\nevery file but old and new has the same pending bits',
-    '*the shift goes on:* Claim #110\nevery call then answers, and new signals, as with no move',
+    '*the shift goes on:* Claim #110\nevery call on a file then answers, and new signals, as with no move, '
+    'while old is left alone (`LaterKept`)',
 ]
 NOT_SAID = ('*Not compared:* the logs, whose words name the files; time. A target of the supervisor’s domain that '
             'names old with no move names new: Claim #105. What new held before is lost; what is still pending in old is '
             'pending in new: Claim #180.')
 ANYWHERE = 'anywhere: before, after, and between any two accesses, also of one step'
 GOES_ON = 'anywhere, and they answer as with no move: Claim #185; what only reads, of any file: Claim #181'
-HELD_BACK = 'the moved station’s claims and writes, writes to the domains, a reset (Claim #186), another move'
+HELD_BACK = ('the moved station’s claims and register writes, writes to the domains, reads of a claimi, other moves, '
+             'a reset: `CallsKept`')
 CHANGED_OVER = 'each device changes over in here, once, from old’s page to new’s'
 COMPARED = 'the same wires, page writes and calls, page writes to new going to old, and no access: `withoutMove`'
 
