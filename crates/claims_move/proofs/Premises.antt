@@ -75,6 +75,12 @@ pub or-split : (p q : Bool) → ((p || q) ≡ true) ↔ ((p ≡ true) ⊎ (q ≡
 or-split true q = ((λ e. inl refl), (λ e. refl))
 or-split false q = ((λ e. inr e), ⊎-elim (λ e. absurd (false≢true e)) (λ e. e))
 
+-- every four numbers are the places of a station
+any-stations : (oh of nh nf : ℕ)
+    → (x : Stations) × (x .oldHart ≡ oh) × (x .oldFile ≡ of) × (x .newHart ≡ nh) × (x .newFile ≡ nf)
+any-stations oh of nh nf =
+    (record { oldHart = oh; oldFile = of; newHart = nh; newFile = nf }, refl, refl, refl, refl)
+
 pub claim-175 : Claim-175
 unfolding Claim-175 NoneNamesNew ByMessages WordsFit accessesIn AllAccesses PagesKept CallsKept withMove
     withoutMove
@@ -85,7 +91,7 @@ claim-175 m l s es c n j level h f a v =
     let of = m .oldFile in
     let next : suc n ≡ n + 1 = omega arith in
     let either = or-split (onlyReads c) (elsewhere m c) in (
-      (λ oh of nh nf. (refl, refl, refl, refl)),
+      any-stations,
       two-guests m,
       (
         (λ none i o u z t p q. let x = sourceAt (boardOf l .wired .child) i .target in

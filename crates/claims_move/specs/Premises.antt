@@ -45,8 +45,7 @@ Claim-175 =
     (m : Stations) (l s : List ℕ) (es : List Event) (c : Call) (n j level h f a v : ℕ)
     -- any four numbers, and of these two different guest files
     → ((oh of nh nf : ℕ)
-    → let x : Stations = record { oldHart = oh; oldFile = of; newHart = nh; newFile = nf } in
-    (x .oldHart ≡ oh) × (x .oldFile ≡ of) × (x .newHart ≡ nh) × (x .newFile ≡ nf))
+    → (x : Stations) × (x .oldHart ≡ oh) × (x .oldFile ≡ of) × (x .newHart ≡ nh) × (x .newFile ≡ nf))
     × (TwoGuests m
     ↔ ((m .oldHart < 4) × (2 ≤ m .oldFile) × (m .oldFile ≤ 4) × (m .newHart < 4) × (2 ≤ m .newFile)
     × (m .newFile ≤ 4) × (m .oldHart ≡ m .newHart → m .oldFile ≡ m .newFile → ⊥)))
