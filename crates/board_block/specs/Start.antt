@@ -1,5 +1,5 @@
--- The board after a reset: wires low, delivery 0x40000000 in files 0 and 1 of each hart, everything else 0.
--- 01, "State rules". Assumes nothing.
+-- The board as a reset leaves it: files 0 and 1 of every hart have delivery 0x40000000, no wire is high, and
+-- all other numbers are 0. 01, "State rules". Assumes nothing.
 --   startFile k          file number k
 --   startFilesFrom k n   n files from number k on
 --   startDomain          either domain

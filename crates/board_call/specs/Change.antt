@@ -2,7 +2,7 @@
 -- board; the standard, chapters 3 and 4. Assumes nothing.
 --   Changed               the board, the value answered, the messages sent at once, which genmsi's are, and
 --                         the saved numbers of a move
---   kindOf k              the kind of a register access: 0 read, 1 write, 2 set bits, 3 clear bits
+--   kindOf k              how a register is accessed: read (0), written (1), bits set (2), bits cleared (3)
 --   signalAt b h f        file f of hart h signals: by itself with delivery 1; by its domain, the machine
 --                         domain for file 0 and the child for file 1, with delivery 0x40000000
 --   signalsTo b h n       the lowest n bits of the signals of hart h: bit f for file f

@@ -46,7 +46,7 @@ pub fn is_page_address(address: u64) -> bool
     (address % 4 == 0) & (address < 4096)
 }
 
-// 0 read, 1 write, 2 set bits, 3 clear bits.
+// Reading is 0, writing 1, setting bits 2 and clearing them 3.
 pub fn kind_of(kind: u64) -> Access
     ensures { λ r. ⌜ r ≡ kindOf kind ⌝ }
 {

@@ -39,22 +39,22 @@ enableAt k = 6 + k
 -- [01 V5 V6 V7 V15 V16 V19 V20 V21 V30 M3 M4]
 unfoldable pub actOf : ℕ → Act
 actOf n =
-    -- 1. save old delivery and threshold, set old delivery 0
+    -- step 1: the delivery and the threshold of old are saved, and its delivery becomes 0
     cond (eqb n 1) (Save eidelivery deliveryAt)
     (cond (eqb n 2) (Save eithreshold thresholdAt)
     (cond (eqb n 3) (Zero false eidelivery)
-    -- 2. set new delivery 0, clear new pending
+    -- step 2: the delivery and the pending words of new become 0
     (cond (eqb n 4) (Zero true eidelivery)
     (cond (leb n 8) (Zero true (eip0 + 2 * (n - 5)))
-    -- 3. rewrite each child target that names old to name new
+    -- step 3: a target of the child that named old names new instead
     (cond (leb n 71) (Target (n - 8))
-    -- 4. read old pending and enable
+    -- step 4: the pending and the enable words of old are saved
     (cond (leb n 75) (Save (eip0 + 2 * (n - 72)) (pendingAt (n - 72)))
     (cond (leb n 79) (Save (eie0 + 2 * (n - 76)) (enableAt (n - 76)))
-    -- 5. set the pending bits in new, write the enables
+    -- step 5: what was pending is set in new, and what was enabled is written there
     (cond (leb n 83) (Put Set (eip0 + 2 * (n - 80)) (pendingAt (n - 80)))
     (cond (leb n 87) (Put Write (eie0 + 2 * (n - 84)) (enableAt (n - 84)))
-    -- 6. write threshold and delivery to new
+    -- step 6: new gets the saved threshold, then the saved delivery
     (cond (eqb n 88) (Put Write eithreshold thresholdAt) (Put Write eidelivery deliveryAt)))))))))))
 
 unfoldable pub actWithin : Act → Bool

@@ -57,7 +57,7 @@ use Rattle.claims_move.specs.GivenUp.{Claim-189}
 use Rattle.claims_cases.specs.Runs.{Claim-163}
 use Rattle.claims_cases.specs.Table.{Claim-170}
 
--- demand 1: every call, with any numbers and any lent block, ends with its answer or with one of the numbered
+-- demand 1: every call, with any numbers and any lent block, ends with its answer or one of the numbered
 -- refusals, each given exactly when the paper says; a refused call answers value 0 and count 0 and changes
 -- nothing in the state block or the message log
 unfoldable pub Demand-1 : Type 2

@@ -27,7 +27,7 @@ use Rattle.board_call.specs.Outcome.{Stepped, step}
 use Rattle.claims_registers.specs.Rules.{Sound}
 
 -- a wire is set, and wire i stays at its level: source i stays as it was, and in a domain that sends it is
--- not to be sent. So a level source that was sent is not sent again by itself while its wire stays high
+-- not to be sent. So a level source that was sent does not go out once more because its wire is still high
 -- [01 M5]
 unfoldable pub Claim-96 : Type 0
 Claim-96 =

@@ -174,8 +174,9 @@ Claim-88 =
 
 -- ---- the signals
 
--- bit f of the answer is up exactly if file f signals: with delivery 1 if its top is not 0, and file 0 or 1
--- with delivery 0x40000000 if its domain has DM = 0, IE = 1, idelivery = 1, and iforce or topi that is not 0
+-- bit f of the answer is up exactly if file f signals: with delivery 1 by a top that is not 0, and file 0
+-- or 1 with delivery 0x40000000 by its domain, if DM is 0, IE and idelivery are 1, and iforce and topi are
+-- not both 0
 -- [01 B6 S16 S17 S19 S20]
 unfoldable pub Claim-89 : Type 0
 Claim-89 =

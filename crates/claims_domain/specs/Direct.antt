@@ -53,7 +53,7 @@ Claim-46 =
     (d : Domain) (h : ℕ) → byMessages d ≡ false → topiOf d h ≡ 0
     → hartClaimed d h ≡ withStructure d h (withoutForce (structureAt d h))
 
--- a domain signals a hart exactly if DM = 0, IE = 1, idelivery = 1, and iforce or topi not 0
+-- a domain signals a hart exactly if DM is 0, IE and idelivery are 1, and iforce and topi are not both 0
 -- [01 S18]
 unfoldable pub Claim-47 : Type 0
 Claim-47 =

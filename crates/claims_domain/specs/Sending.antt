@@ -1,6 +1,7 @@
 -- Claims 50 to 54 and 147, on what a domain sends: which messages, in which order, and what is left. 01,
--- "The wired controller": each domain with DM = 1 and IE = 1 sends for each source that is active, pending
--- and enabled, lowest source first, and clears its pending bit. c says that the domain is the child.
+-- "The wired controller": where DM and IE are both 1, a message goes out for every active source that has its
+-- pending and its enable bit up, by ascending number, and the pending bit falls. c says that the domain is
+-- the child.
 -- Premises: none but IE and DM, as each line says. No axioms.
 use Prim.Native.Nat.{ℕ, _+_, _*_, _/_, _%_, _≤_, _<_}
 use mathlib.Core.Path.{_≡_}

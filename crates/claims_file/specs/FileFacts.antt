@@ -30,7 +30,7 @@ use Rattle.file.specs.Rules.{fileSound}
 use Rattle.file.specs.Register.{held, written, accessed}
 use Rattle.file_words.specs.Stored.{fileAt, putFile}
 
--- identity i is pending and enabled, and below the threshold if that is not 0
+-- identity i is pending, it is enabled, and it passes the threshold: that is 0, or greater than i
 pub record Stands (f : File) (i : ℕ) : Type 0 where
   pub pending : member (f .pending) i ≡ true
   pub enabled : member (f .enable) i ≡ true
@@ -139,8 +139,8 @@ pub record KeepsRules (g : Bool) (f : File) : Type 0 where
 unfoldable pub Claim-32 : Type 0
 Claim-32 = (g : Bool) (f : File) → Shaped f → fileSound 255 g f ≡ true → KeepsRules g f
 
--- a file signals by itself exactly if its delivery is 1 and its top is not 0; a file 0 or 1 with delivery
--- 0x40000000 may also signal for the wired controller: Claim 89
+-- a file signals by itself exactly if its delivery is 1 and its top is not 0; how files 0 and 1 signal for
+-- the wired controller, with delivery 0x40000000, is in Claim 89
 -- [01 S16]
 unfoldable pub Claim-33 : Type 0
 Claim-33 = (n : ℕ) (f : File) → (signals n f ≡ true) ↔ ((f .delivery ≡ 1) × (topOf n f ≢ 0))

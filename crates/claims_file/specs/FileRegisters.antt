@@ -136,7 +136,7 @@ pub record SetOrCleared (g : Bool) (f : File) (j v : ℕ) : Type 0 where
   pub setEnableRest : EnableAlone f (accessed 255 g f Set (0xC0 + 2 * j) v .file)
   pub clearEnableRest : EnableAlone f (accessed 255 g f Clear (0xC0 + 2 * j) v .file)
 
--- a set or clear answers the old value and writes old-or-value, or old without value, bit by bit
+-- a set and a clear answer what a read would, and write that with the value's bits added, or without them
 -- [01 C5 C6]
 unfoldable pub Claim-124 : Type 0
 Claim-124 =

@@ -57,7 +57,7 @@ Claim-126 =
 
 -- ---- the state rules
 
--- 0 off, 1 on, and for files 0 and 1 also 0x40000000
+-- 0 is off and 1 is on; a file that is no guest's may have 0x40000000, too
 abbrev pub LegalDelivery : Bool → ℕ → Type 0
 LegalDelivery g d = (d ≡ 0) ⊎ ((d ≡ 1) ⊎ ((g ≡ false) × (d ≡ 0x40000000)))
 

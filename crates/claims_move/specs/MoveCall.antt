@@ -107,24 +107,24 @@ Claim-102 =
     let f = theFile (b .files) (fileNumber nh nf) in
     let o′ = theFile (x .board .files) (fileNumber oh of) in
     let f′ = theFile (x .board .files) (fileNumber nh nf) in
-    -- 1. save old delivery and threshold, set old delivery 0
+    -- step 1: the delivery and the threshold of old are saved, and its delivery becomes 0
     (n ≡ 1 → (o′ ≡ o) × (f′ ≡ f) × (x .saved ≡ set s 0 (o .delivery)))
     × (n ≡ 2 → (o′ ≡ o) × (f′ ≡ f) × (x .saved ≡ set s 1 (o .threshold)))
     × (n ≡ 3 → (o′ ≡ withDelivery o 0) × (f′ ≡ f) × (x .saved ≡ s))
-    -- 2. set new delivery 0, clear new pending
+    -- step 2: the delivery and the pending words of new become 0
     × (n ≡ 4 → (o′ ≡ o) × (f′ ≡ withDelivery f 0) × (x .saved ≡ s))
     × ((k : ℕ) → k < 4 → n ≡ 5 + k
     → (o′ ≡ o) × PendingBecame f f′ (λ i. member (f .pending) i && not (eqb (i / 64) k)) × (x .saved ≡ s))
-    -- 3. rewrite the target of source i, which concerns no file: Claim-103
+    -- step 3: the target of source i, which concerns no file: Claim-103
     × ((i : ℕ) → 1 ≤ i → i ≤ 63 → n ≡ 8 + i → (o′ ≡ o) × (f′ ≡ f) × (x .saved ≡ s))
-    -- 4. read old pending and enable
+    -- step 4: the pending and the enable words of old are saved
     × ((k : ℕ) → k < 4 → n ≡ 72 + k
     → let w = doubleword (o .pending) k in
     WordOf (o .pending) k w × (o′ ≡ o) × (f′ ≡ f) × (x .saved ≡ set s (2 + k) w))
     × ((k : ℕ) → k < 4 → n ≡ 76 + k
     → let w = doubleword (o .enable) k in
     WordOf (o .enable) k w × (o′ ≡ o) × (f′ ≡ f) × (x .saved ≡ set s (6 + k) w))
-    -- 5. set the pending bits in new, write the enables
+    -- step 5: what was pending is set in new, and what was enabled is written there
     × ((k : ℕ) → k < 4 → n ≡ 80 + k
     → let w = getD s (2 + k) 0 in
     (o′ ≡ o)

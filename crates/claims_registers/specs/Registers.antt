@@ -49,8 +49,8 @@ Claim-133 =
     × (word / 2 ^ 24 ≡ 0x80) × Bit word 8 (isEnabled d) × Bit word 2 (byMessages d) × (word % 2 ≡ 0)
 
 -- the modes: 0, and 1024 with which a source is delegated, are not active; 6 and 7 are the level modes;
--- the rectified value is the wire for 4 (Edge1) and 6 (Level1), its opposite for 5 (Edge0) and 7 (Level0),
--- and low for every other
+-- the rectified value is high with a high wire for 4 (Edge1) and 6 (Level1), with a low one for 5 (Edge0)
+-- and 7 (Level0), and never for another mode
 -- [01 W14 W15 W21 W25 W26]
 unfoldable pub Claim-139 : Type 0
 Claim-139 =

@@ -70,10 +70,10 @@ pub record SourceRules (c m sends wire : Bool) (s : Source) : Type 0 where
   pub target : isActive (s .mode) ≡ true → TargetStored c m (s .target)
   -- inactive sources have zeros
   pub inactive : isActive (s .mode) ≡ false → (s .target ≡ 0) × (s .pending ≡ false) × (s .enabled ≡ false)
-  -- a level source is pending only if its rectified value is high, and in direct mode exactly then
+  -- a level source whose rectified value is low is not pending; in direct mode, one whose value is high is
   pub level : isLevel (s .mode) ≡ true → s .pending ≡ true → isRectified (s .mode) wire ≡ true
   pub direct : isLevel (s .mode) ≡ true → m ≡ false → isRectified (s .mode) wire ≡ true → s .pending ≡ true
-  -- with DM and IE no active source is both pending and enabled
+  -- where the domain sends, an active source that is pending is not enabled
   pub sent : sends ≡ true → isActive (s .mode) ≡ true → s .pending ≡ true → s .enabled ≡ false
 
 pub record DomainRules (c : Bool) (wires : List ℕ) (d : Domain) : Type 0 where

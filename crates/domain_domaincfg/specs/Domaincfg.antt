@@ -4,7 +4,7 @@
 --   redeliveredFrom d ws i n    the same for the n sources from i on
 --   modeSettled d e ws          what d becomes with the new word, e, once every source is settled
 --   domaincfgWritten d ws v     d after v was written to domaincfg
--- A change of DM sets genmsi to 0 and each active source's target to its start value in the new mode.
+-- When DM changes, genmsi becomes 0, and active sources get the targets that the new mode starts with.
 use Prim.Native.Nat.{ℕ, zero, suc}
 use mathlib.Core.Bool.{Bool·beq, cond}
 use mathlib.Core.List.{List}

@@ -1,5 +1,5 @@
--- What in_clrip reads: the wire levels of active sources, 0 for the others. 01, "The wired controller"; the
--- standard 4.5.7 has rectified values in their place. Assumes nothing.
+-- What in_clrip reads: 1 where an active source has a high wire, and else 0. 01, "The wired controller"; the
+-- standard 4.5.7 has the rectified value in the wire's place. Assumes nothing.
 --   inputBit d ws i      source i reads as 1: it is active in d and its wire is high; ws are the wires
 --   inputsTo d ws k n    the lowest n bits of word k
 --   inputWord d ws k     word k

@@ -1,4 +1,4 @@
-// Access to a file's registers by select number: read, write, set bits, clear bits.
+// A file's registers by their select numbers: one is read or written, or bits of it are set or cleared.
 ghost use mathlib.Core.Path.{_≡_};
 ghost use Rattle.file.specs.Register.{held, written, accessed};
 ghost use Rattle.sizes.specs.Sizes.{identities};

@@ -5,7 +5,8 @@
 --                         the modes that read the wire, by the names of the standard
 --   isActive m            the domain has the source, with a mode other than 0; 1024 says that it is delegated
 --   isLevel m             Level1 or Level0
---   isRectified m wire    the wire for Edge1 and Level1, its opposite for Edge0 and Level0, low for the rest
+--   isRectified m wire    the rectified value is high: in Edge1 or Level1 with a high wire, in Edge0 or
+--                         Level0 with a low one, and in no other mode
 --   keptMode v            the mode that a written v has: bits 2:0, of which 2 and 3 become 0
 --   sourceWord c has v    what a write of v stores in the child domain (c) or in the machine domain; has says
 --                         that the child has the source

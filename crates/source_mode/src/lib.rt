@@ -34,7 +34,7 @@ pub fn level(mode: u32) -> bool
     mode == LEVEL0
 }
 
-// The wire for Edge1 and Level1, its opposite for Edge0 and Level0, low for the rest.
+// Edge1 and Level1 are high with the wire, Edge0 and Level0 while it is low, and no other mode ever is.
 pub fn rectified(mode: u32, wire: bool) -> bool
     ensures { λ r. ⌜ r ≡ isRectified mode wire ⌝ }
 {

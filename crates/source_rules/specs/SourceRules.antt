@@ -3,13 +3,13 @@
 --                                source
 --   targetRange c m s            an active source's target is one that a write stores
 --   inactiveRule s               an inactive source has zeros: target, pending and enable
---   levelRule m wire s           a level source is pending only if its rectified value is high, and in direct
---                                mode exactly then
+--   levelRule m wire s           a level source whose rectified value is low is not pending; in direct mode,
+--                                one whose value is high is
 --   sourceSteady c m wire s      these four: they hold also in the middle of a call, before anything is sent
 --   sentRule sends s             where the domain sends, s is not to be sent: it is no candidate
 --   sourceSound c m sends wire s all of these
 -- c says that the domain is the child, m is the delivery mode, true for messages; sends says that it has IE
--- and DM. "Stored numbers lie in the ranges above" is said so: to write the number would store it as it is.
+-- and DM. That a stored number is in its range is said so: to write it would store it as it is.
 use mathlib.Core.Bool.{Bool, true, not, _&&_, _||_}
 use lib.Dec.{eqb}
 use Rattle.source_mode.specs.Mode.{isActive, isLevel, isRectified, sourceWord}
