@@ -1,6 +1,6 @@
 /* One domain: its registers by address, its delivery structures, what it sends. A part of plain.c. */
 
-/* The hart's top in direct mode: the least priority number, the lowest source among equals. */
+/* The hart's top in direct mode: the source with the least priority number, of several the lowest. */
 static uint32_t topi(const struct domain *d, uint32_t hart)
 {
     uint32_t threshold = d->structure[hart].ithreshold;

@@ -100,8 +100,8 @@ extern "C" {
 
 /* What a call answers. If it sent messages, count is their number and they are the first words of the log, in
  * the order sent, by ascending source; the other words of the log stay as they were. Only vsk_wire and
- * vsk_domain_write send, at most VSK_LOG_WORDS in one call (Claim-86, Claim-171). A message is in its file
- * when the call returns. */
+ * vsk_domain_write send, at most VSK_LOG_WORDS in one call (Claim-86, Claim-171). By the time a call returns,
+ * its messages are in their files. */
 typedef struct vsk_answer {
     uint64_t value;   /* 0 unless the function's comment says more */
     uint32_t count;   /* messages sent */
@@ -244,7 +244,7 @@ static inline const char *vsk_refusal_name(uint32_t refusal)
  * ones. */
 
 /* domaincfg. It reads 0x80 in its top byte, whatever is written: 0x80000104 with IE and DM.
- * A write that changes DM sets genmsi to 0, and the target of each active source to its start value: hart 0
+ * Where a write changes DM, genmsi becomes 0, and the target of each active source its start value: hart 0
  * with priority 1 for direct delivery, hart 0 with identity 0 for messages. Pending and enable bits stay, but
  * that a level source in direct mode is pending exactly while its level stands. If a write that changes DM
  * leaves IE set, what is pending and enabled goes out in the same call to these start values: directly to
@@ -318,7 +318,7 @@ static inline const char *vsk_refusal_name(uint32_t refusal)
 
 /* The registers of a file by their select numbers: j is 0 to 3, for identities 64 j to 64 j + 63; there is no
  * identity 0, and its bit is always 0. Too large a j gives a register that reads 0, or another one, or an
- * illegal number. 0x71 and 0x73 to 0x7F read 0 and ignore writes. */
+ * illegal number. The numbers 0x71 and 0x73 to 0x7F read 0 and store nothing. */
 #define VSK_EIDELIVERY UINT64_C(0x70)
 #define VSK_EITHRESHOLD UINT64_C(0x72)
 #define VSK_EIP(j) (UINT64_C(0x80) + UINT64_C(2) * (uint64_t)(j))
@@ -448,9 +448,9 @@ vsk_answer vsk_register(uint32_t *VSK_RESTRICT state, size_t state_len,
                         const uint32_t *VSK_RESTRICT log, size_t log_len,
                         uint64_t hart, uint64_t file, uint64_t kind, uint64_t select, uint64_t value);
 
-/* Reads a file's top: i x 65536 + i, where i is the lowest identity that is pending and enabled, and below
- * the threshold if that is not 0; or 0 if there is none. Delivery plays no part. It is what mtopei, stopei or
- * vstopei reads (3.9).
+/* Reads a file's top: i x 65536 + i for the lowest identity i that is pending, enabled and let through by the
+ * threshold, which has to be 0 or greater than i; or 0 if no identity is. Delivery plays no part. It is what
+ * mtopei, stopei or vstopei reads (3.9).
  * Refuses 4: no such hart, no such file.
  * Claims 20 to 22, 91, 128 and 172. */
 VSK_CALL(read_only, none)
@@ -506,7 +506,7 @@ vsk_answer vsk_signals(const uint32_t *VSK_RESTRICT state, size_t state_len,
  * (Claim-181). What the monitor has to hold back from the first access to the last: what the moved station
  * would claim, or write to a register, on either file; writes to the domains, reads of a claimi, another
  * move, a reset. With some of these it goes wrong (Claim-186), and of the others nothing is known.
- * What it asks for besides: at the start no active source's target names new, and new is nobody's, for what
+ * What it asks for besides: when it begins no active source's target names new, and new is nobody's, for what
  * it holds is lost; nobody writes to new's page until access 8 is made, nor to old's once access 72 is. A
  * device's write counts when vsk_page_write is called: one on its way to old has to have arrived by then
  * (6.1.2, step 3), or it is lost. Old is left silent and keeps its threshold and its pending and enable bits,

@@ -259,7 +259,7 @@ static void genmsi(void)
     EQUAL(word(M, VSK_GENMSI), 0);
 }
 
-/* Words that are not named read 0 and ignore writes: sources and harts that are not there among them. */
+/* A word with no name reads 0 and stores nothing, those of sources and harts that are not there included. */
 static void unnamed(void)
 {
     start();
