@@ -7,7 +7,7 @@ use crate::movement::{self, Place, Saved};
 use crate::source::Name;
 use crate::wired::Wired;
 
-/// "A file's page has 4,096 bytes; a domain's region has 20,480 (0x5000)."
+/// How long a file's page is, and how long a domain's region.
 const PAGE_BYTES: u64 = 4096;
 const REGION_BYTES: u64 = 20480;
 
@@ -35,7 +35,7 @@ fn bad_address(address: u64, bytes: u64) -> bool {
 }
 
 impl Board {
-    /// "Reset: wires low, delivery 0x40000000 in files 0 and 1, everything else 0"
+    /// After a reset no wire is high, and every number is 0 but for delivery, 0x40000000 in files 0 and 1.
     pub fn at_reset() -> Board {
         let hart: Vec<MessageFile> = (0..5).map(|file| MessageFile::at_reset(file > 1)).collect();
         Board { files: vec![hart; 4], wired: Wired::at_reset() }
@@ -49,8 +49,8 @@ impl Board {
         &mut self.files[hart as usize][file as usize]
     }
 
-    /// Refusal 4: "no such hart, file, domain, wire, wire level or kind of access, or a move access barred".
-    /// The numbers count in all 64 bits.
+    /// Refusal 4: a number of the call is no hart, file, domain, wire, level or kind that there is, or the
+    /// access is barred. The numbers count in all 64 bits.
     fn no_such(&self, call: &Call) -> bool {
         match *call {
             Call::Reset => false,
@@ -72,7 +72,7 @@ impl Board {
         }
     }
 
-    /// Refusal 5: "address not a multiple of 4, or outside the region".
+    /// Refusal 5: at the address begins no word of the page or region.
     fn outside(&self, call: &Call) -> bool {
         match *call {
             Call::DomainRead { address, .. } | Call::DomainWrite { address, .. } => {
@@ -85,12 +85,12 @@ impl Board {
         }
     }
 
-    /// Refusal 6: "select number is illegal".
+    /// Refusal 6: the select number names no register.
     fn illegal(&self, call: &Call) -> bool {
         matches!(*call, Call::Register { select, .. } if register_of(select).is_none())
     }
 
-    /// "The lowest number that applies is given." Refusals 1 to 3 are tested before.
+    /// Of several refusals the least is answered. Refusals 1 to 3 are tested before.
     pub fn refusal(&self, call: &Call) -> Option<u32> {
         let tests = [(4, self.no_such(call)), (5, self.outside(call)), (6, self.illegal(call))];
         tests.iter().find(|(_, applies)| *applies).map(|(number, _)| *number)
@@ -100,7 +100,7 @@ impl Board {
     pub fn perform(&mut self, call: &Call, saved: &mut Saved) -> (u64, Vec<Message>) {
         let mut sent = Vec::new();
         let value = self.change(call, saved, &mut sent);
-        // "After every call that changed something, each domain .. sends".
+        // Whatever the call was, both domains then send; if nothing changed there is nothing to send.
         sent.extend(self.wired.send());
         for message in &sent {
             self.file_at(message.hart.into(), message.file.into()).arrive(message.identity);
@@ -108,7 +108,7 @@ impl Board {
         (value, sent)
     }
 
-    /// The call's own change and value. "Writes, wires, reset and moves answer value 0."
+    /// The call's own change and value, which is 0 for a write, a wire, a reset and an access of a move.
     fn change(&mut self, call: &Call, saved: &mut Saved, sent: &mut Vec<Message>) -> u64 {
         match *call {
             Call::Reset => *self = Board::at_reset(),
@@ -117,7 +117,7 @@ impl Board {
             Call::DomainWrite { domain, address, value } => {
                 sent.extend(self.wired.write(name_of(domain), address, value));
             }
-            // "All reads give 0."
+            // A page has nothing to read but 0.
             Call::PageRead { .. } => {}
             Call::PageWrite { hart, file, address, value } => {
                 self.file_at(hart, file).page_write(address, value)
@@ -139,12 +139,13 @@ impl Board {
         0
     }
 
-    /// "The signals answer has bit f for file f."
+    /// Each file of the hart is the bit of its own number.
     fn signals(&self, hart: usize) -> u64 {
         (0..5).filter(|file| self.file_signals(hart, *file)).fold(0, |bits, file| bits | 1 << file)
     }
 
-    /// "A file 0 or 1 with delivery 0x40000000 takes its domain's signal .. Else it is low."
+    /// With delivery 0x40000000 file 0 signals for the machine domain and file 1 for the child. Any other
+    /// signal is the file's own.
     fn file_signals(&self, hart: usize, number: usize) -> bool {
         let file = &self.files[hart][number];
         match file.delivery {

@@ -21,7 +21,7 @@ pub enum Word {
     Claimi,
 }
 
-/// "only 0 and 1 are stored and other writes keep the old value"
+/// 0 or 1 is stored; with any other value the old one stays.
 fn zero_or_one(value: u32, old: bool) -> bool {
     match value {
         0 => false,
@@ -39,8 +39,8 @@ impl Domain {
         (active.pending && active.enabled && to as usize == hart && passes).then_some(priority)
     }
 
-    /// "the pending and enabled source for that hart with the least priority number, the lowest source among
-    /// equals, below ithreshold if that is not 0": the source and its priority. None in message mode.
+    /// Of the candidates the one with the smallest priority, by ascending source where several have it: the
+    /// source and its priority. None in message mode.
     pub fn top(&self, hart: usize) -> Option<(u32, u32)> {
         let mut best: Option<(u32, u32)> = None;
         for (source, active) in self.active_sources() {
@@ -52,12 +52,13 @@ impl Domain {
         best
     }
 
-    /// "value source x 65536 + priority"
+    /// The source in the upper half, its priority in the lower; 0 if there is no top.
     pub fn topi(&self, hart: usize) -> u32 {
         self.top(hart).map_or(0, |(source, priority)| source * 65536 + priority)
     }
 
-    /// "claimi answers topi and clears the pending bit as section 4.7 allows; a claimi of 0 clears iforce."
+    /// A read of claimi gives what topi reads. The source there loses its pending bit where 4.7 lets it; with
+    /// no source there iforce falls.
     fn claimi(&mut self, hart: usize) -> u32 {
         let answer = self.topi(hart);
         let way = self.way;
@@ -72,7 +73,7 @@ impl Domain {
         answer
     }
 
-    /// "In message mode the whole structure reads 0, ignores writes, and keeps its stored numbers."
+    /// While a domain sends messages nothing of its structures can be read or written; what is stored stays.
     pub fn structure_read(&mut self, hart: usize, word: Word) -> u32 {
         if self.way == Way::Messages {
             return 0;
@@ -95,14 +96,14 @@ impl Domain {
         match word {
             Word::Idelivery => structure.idelivery = zero_or_one(value, structure.idelivery),
             Word::Iforce => structure.iforce = zero_or_one(value, structure.iforce),
-            // "low 8 bits"
+            // Bits 7:0.
             Word::Ithreshold => structure.ithreshold = value & 0xFF,
-            // "Writes to topi are ignored." "Writes to claimi are ignored." (4.8.1)
+            // Neither can be written (4.8.1).
             Word::Topi | Word::Claimi => {}
         }
     }
 
-    /// "its domain's signal: DM = 0, IE = 1, idelivery = 1, and iforce or topi not 0"
+    /// The signal to a hart: with direct delivery, IE and idelivery it is high if iforce or topi is not 0.
     pub fn signals(&self, hart: usize) -> bool {
         let structure = &self.structures[hart];
         let direct = self.way == Way::Direct;

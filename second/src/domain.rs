@@ -27,7 +27,7 @@ pub struct Message {
 }
 
 impl Message {
-    /// "logged as hart x 2048 + file x 256 + identity"
+    /// The word of the log: the identity, above it the file from bit 8 on and the hart from bit 11 on.
     pub fn logged(self) -> u32 {
         self.hart * 2048 + self.file * 256 + self.identity
     }
@@ -61,7 +61,7 @@ pub enum Register {
     Genmsi,
     Target(u32),
     Structure(usize, Word),
-    /// "Words not named below read 0 and ignore writes."
+    /// A word with no name: it reads 0 and stores nothing.
     Zero,
 }
 
@@ -94,7 +94,7 @@ pub fn register_at(address: u64) -> Register {
         0x1DDC => Register::Clripnum,
         0x1EDC => Register::Setienum,
         0x1FDC => Register::Clrienum,
-        // With BE = 0 setipnum_le "acts identically to setipnum" (4.5.13).
+        // With BE = 0 setipnum_le does what setipnum does (4.5.13).
         0x2000 => Register::Setipnum,
         0x2004 => Register::SetipnumBe,
         0x3000 => Register::Genmsi,
@@ -137,14 +137,14 @@ impl Domain {
         self.source_mut(number).active_mut()
     }
 
-    /// "IE is bit 8, DM bit 2 (0 direct, 1 messages), bits 31:24 read 0x80"
+    /// What is read: 0x80 in the top byte, IE in bit 8, and in bit 2 DM, which is 1 for messages.
     pub fn domaincfg(&self) -> u32 {
         let dm = u32::from(self.way == Way::Messages);
         0x8000_0000 | u32::from(self.ie) << 8 | dm << 2
     }
 
-    /// "A write that changes DM sets genmsi to 0 and each active source's target to its start value in the
-    /// new mode." In direct mode the pending bit of a level source is a copy of its rectified value (4.7).
+    /// Another DM empties genmsi, and every active source begins again with the first target of that mode. In
+    /// direct mode the pending bit of a level source is a copy of its rectified value (4.7).
     pub fn write_domaincfg(&mut self, value: u32, wire: impl Fn(u32) -> bool) {
         let way = if value >> 2 & 1 == 1 { Way::Messages } else { Way::Direct };
         self.ie = value >> 8 & 1 == 1;
@@ -161,13 +161,14 @@ impl Domain {
         }
     }
 
-    /// "a write keeps hart 19:18 and identity 7:0 and sends at once, whatever IE is"; message mode only.
+    /// In message mode alone: bits 19:18, the hart, and 7:0, the identity, are stored, and their message goes
+    /// out with IE or without.
     pub fn write_genmsi(&mut self, value: u32) -> Option<Message> {
         if self.way == Way::Direct {
             return None;
         }
         self.genmsi = Genmsi { hart: value >> 18 & 3, identity: value & 0xFF };
-        // "to the machine file or the supervisor file"
+        // From the machine domain to file 0, from the child to file 1.
         let file = if self.name == Name::Machine { 0 } else { 1 };
         Some(Message { hart: self.genmsi.hart, file, identity: self.genmsi.identity })
     }
@@ -186,16 +187,16 @@ impl Domain {
         chosen.fold(0, |word, (i, _)| word | 1 << (i % 32))
     }
 
-    /// The message of a source in message mode. "The machine domain sends to file 0." In the child guest
-    /// index 0 "is the supervisor file", and guest files 1 to 3 are files 2 to 4.
+    /// The message of a source in message mode: from the machine domain to file 0; from the child with guest
+    /// index 0 to file 1, the supervisor's, and else to guest files 1 to 3, which are files 2 to 4.
     fn message(&self, target: Target) -> Option<Message> {
         let Target::Message { hart, guest, identity } = target else { return None };
         let file = if self.name == Name::Machine { 0 } else { 1 + guest };
         Some(Message { hart, file, identity })
     }
 
-    /// "each domain with DM = 1 and IE = 1 sends for each source that is active, pending and enabled, lowest
-    /// source first, and clears its pending bit"
+    /// With DM and IE at 1, a message for every source that is pending and enabled, by ascending number; none
+    /// of them is pending afterwards.
     pub fn send(&mut self) -> Vec<Message> {
         let mut sent = Vec::new();
         if self.way == Way::Direct || !self.ie {

@@ -20,7 +20,7 @@ impl Delivery {
         }
     }
 
-    /// "0 off, 1 on, and for files 0 and 1 also 0x40000000"; all 64 bits count.
+    /// The numbers 0 and 1 are off and on; 0x40000000 is for files 0 and 1 and no guest's. All 64 bits count.
     pub fn named(number: u64, guest: bool) -> Option<Delivery> {
         match number {
             0 => Some(Delivery::Off),
@@ -49,15 +49,15 @@ pub fn register_of(select: u64) -> Option<Register> {
     match select {
         0x70 => Some(Register::Delivery),
         0x72 => Some(Register::Threshold),
-        // "0x71 and 0x73 to 0x7F read 0 and ignore writes."
+        // Legal, though nothing is stored there.
         0x71 | 0x73..=0x7F => Some(Register::Zero),
-        // "Odd numbers are illegal."
+        // Of the words only the even numbers are legal.
         0x80..=0xFF if select % 2 == 1 => None,
         0x80..=0x86 => Some(Register::Pending(word(0x80))),
         0xC0..=0xC6 => Some(Register::Enable(word(0xC0))),
-        // "Higher even ones read 0."
+        // Words of identities that the file has not.
         0x80..=0xFF => Some(Register::Zero),
-        // "Below 0x70 and above 0xFF are illegal."
+        // Before 0x70 and after 0xFF there is nothing.
         _ => None,
     }
 }
@@ -108,14 +108,13 @@ fn put_word(set: &mut BTreeSet<u32>, j: u32, number: u64) {
 }
 
 impl MessageFile {
-    /// "Reset: .. delivery 0x40000000 in files 0 and 1, everything else 0".
+    /// A file after a reset: it is empty, and signals for the wired controller unless it is a guest file.
     pub fn at_reset(guest: bool) -> MessageFile {
         let delivery = if guest { Delivery::Off } else { Delivery::Wired };
         MessageFile { guest, delivery, threshold: 0, pending: BTreeSet::new(), enabled: BTreeSet::new() }
     }
 
-    /// "writing i sets pending bit i if 1 <= i <= 255, else nothing happens".
-    /// "Arrival does not depend on delivery."
+    /// An identity, 1 to 255, becomes pending, whatever the delivery is; any other number is lost.
     pub fn arrive(&mut self, number: u32) {
         if (1..=255).contains(&number) {
             self.pending.insert(number);
@@ -131,18 +130,19 @@ impl MessageFile {
         }
     }
 
-    /// "The lowest identity i that is pending and enabled, and below the threshold if that is not 0".
+    /// Of the identities that are pending, enabled and less than the threshold, the lowest. With threshold 0
+    /// it is the lowest of those that are pending and enabled.
     pub fn top_identity(&self) -> Option<u32> {
         let passes = |i: u32| self.threshold == 0 || u64::from(i) < self.threshold;
         self.pending.iter().copied().find(|i| self.enabled.contains(i) && passes(*i))
     }
 
-    /// "value i x 65536 + i, or 0 if there is none. It does not depend on delivery."
+    /// That identity in both halves of a word, or 0; delivery plays no part.
     pub fn top(&self) -> u64 {
         self.top_identity().map_or(0, |i| u64::from(i) * 65536 + u64::from(i))
     }
 
-    /// "A claim answers it and clears that one pending bit; with top 0 it changes nothing."
+    /// Answers the top, whose identity is then pending no more; where there is no top, nothing changes.
     pub fn claim(&mut self) -> u64 {
         let answer = self.top();
         if let Some(i) = self.top_identity() {
@@ -163,9 +163,9 @@ impl MessageFile {
 
     pub fn put(&mut self, register: Register, value: u64) {
         match register {
-            // "A write of any other value keeps the old one."
+            // A value that is no delivery of this file changes nothing.
             Register::Delivery => self.delivery = Delivery::named(value, self.guest).unwrap_or(self.delivery),
-            // "a write keeps the low 8 bits"
+            // Bits 7:0.
             Register::Threshold => self.threshold = value % 256,
             Register::Pending(j) => put_word(&mut self.pending, j, value),
             Register::Enable(j) => put_word(&mut self.enabled, j, value),
@@ -173,7 +173,7 @@ impl MessageFile {
         }
     }
 
-    /// "A set or clear answers the old value and writes old-or-value, or old without value."
+    /// Set adds the bits of the value to the old number, clear takes them out of it; both answer that number.
     pub fn access(&mut self, kind: Kind, register: Register, value: u64) -> u64 {
         let old = self.get(register);
         match kind {
@@ -182,14 +182,14 @@ impl MessageFile {
             Kind::Set => self.put(register, old | value),
             Kind::Clear => self.put(register, old & !value),
         }
-        // "Writes, wires, reset and moves answer value 0."
+        // Only a write does not tell what was there.
         match kind {
             Kind::Write => 0,
             _ => old,
         }
     }
 
-    /// "A file with delivery 1 signals exactly if its top is not 0."
+    /// The file's own signal: its delivery is on, and it has a top.
     pub fn signals(&self) -> bool {
         self.delivery == Delivery::On && self.top() != 0
     }

@@ -115,14 +115,14 @@ fn board_before(items: &[Item]) -> Option<Board> {
     block::decode(&words).ok()
 }
 
-/// "at the start, no active source's target names the new file", and the child sends messages.
+/// Before the first call no target of an active source names new, and the child sends messages.
 fn start_fits(board: &Board, journey: &Journey) -> bool {
     let child = &board.wired.supervisor;
     child.way == Way::Messages && child.active_sources().all(|(_, a)| !journey.new.is_named_by(a.target))
 }
 
-/// "accesses 1 to 89 are made once each in order"; page writes to new not before access 8 is made, to old not
-/// once access 72 is made; "No other calls are made."
+/// All 89 accesses are there, by ascending number, and besides them only wires and page writes; a page write
+/// to new comes after access 8, and one to old before access 72.
 fn calls_fit(items: &[Item], journey: &Journey) -> bool {
     let mut made = 0;
     for item in items {
@@ -149,7 +149,7 @@ pub fn premises_hold(items: &[Item], journey: &Journey) -> bool {
     board_before(items).is_some_and(|board| start_fits(&board, journey)) && calls_fit(items, journey)
 }
 
-/// "The compared run has the same wire changes and page writes, with those to the new page going to old."
+/// The run without the move: the same events, but that a page write to new is one to old.
 fn compared_run(items: &[Item], journey: &Journey) -> Option<Board> {
     let mut board = board_before(items)?;
     for item in items {

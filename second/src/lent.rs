@@ -90,13 +90,13 @@ impl Model {
         }
         let call = self.lent.prepare(item)?;
         Some(match self.refusal(&call) {
-            // "Refusals change neither block", and answer 0, 0.
+            // Both blocks stay as they were, and value and count are 0.
             Some(refusal) => Answer { refusal, value: 0, count: 0 },
             None => self.perform(&call),
         })
     }
 
-    /// "The lowest number that applies is given." "Reset tests only 1 and 2."
+    /// Of several refusals the least is answered; a reset can have the first two alone.
     fn refusal(&mut self, call: &Call) -> Option<u32> {
         if self.lent.state_len != STATE_WORDS {
             return Some(1);
@@ -122,7 +122,7 @@ impl Model {
         let Ok(board) = self.board() else { unreachable!("a broken block is refused") };
         let (value, sent) = board.perform(call, &mut saved);
         self.store(&saved);
-        // "the count is their number and later log words stay"
+        // One word for each message; what stands in the log after them stays.
         for (word, message) in self.lent.log.iter_mut().zip(&sent) {
             *word = message.logged();
         }

@@ -27,13 +27,14 @@ impl Place {
 /// Delivery, threshold, four pending words, four enable words.
 pub type Saved = [u64; 10];
 
-/// "Barred: another number, old and new not two different guest files, the child domain in direct mode."
+/// An access is barred if its number is none of 1 to 89, if old or new is no guest file or both are one, and
+/// while the child delivers directly.
 pub fn barred(board: &Board, old: Place, new: Place, access: u64) -> bool {
     let two_guest_files = old.is_guest_file() && new.is_guest_file() && old != new;
     !(1..=89).contains(&access) || !two_guest_files || board.wired.supervisor.way == Way::Direct
 }
 
-/// Step 3 for one source: "does nothing where its target does not name old".
+/// Step 3 for one source. A target that names another file than old stays.
 fn retarget(board: &mut Board, source: u32, old: Place, new: Place) {
     let Some(active) = board.wired.supervisor.active_mut(source) else { return };
     if let Target::Message { identity, .. } = active.target {
@@ -43,27 +44,27 @@ fn retarget(board: &mut Board, source: u32, old: Place, new: Place) {
     }
 }
 
-/// One access that is not barred: 3, 5, 63, 8, 8 and 2 for the six steps, words ascending.
+/// One access that is not barred. The steps have 3, 5, 63, 8, 8 and 2, and take words from the lowest up.
 pub fn access(board: &mut Board, old: Place, new: Place, number: u64, saved: &mut Saved) {
     let word = |first: u64| (number - first) as u32;
     let place = |first: u64, base: usize| (number - first) as usize + base;
     match number {
-        // 1. Save old delivery and threshold, set old delivery 0.
+        // Step 1: delivery and threshold of old are kept, and old falls silent.
         1 => saved[0] = board.file(old).get(Register::Delivery),
         2 => saved[1] = board.file(old).get(Register::Threshold),
         3 => board.file(old).put(Register::Delivery, 0),
-        // 2. Set new delivery 0, clear new pending.
+        // Step 2: new falls silent, and nothing stays pending in it.
         4 => board.file(new).put(Register::Delivery, 0),
         5..=8 => board.file(new).put(Register::Pending(word(5)), 0),
-        // 3. Rewrite each child target that names old to name new, same identity.
+        // Step 3: the child's targets are turned from old to new and keep their identities.
         9..=71 => retarget(board, word(8), old, new),
-        // 4. Read old pending and enable.
+        // Step 4: the words of old are kept, pending ones first.
         72..=75 => saved[place(72, 2)] = board.file(old).get(Register::Pending(word(72))),
         76..=79 => saved[place(76, 6)] = board.file(old).get(Register::Enable(word(76))),
-        // 5. Set the pending bits in new, write the enables.
+        // Step 5: kept pending bits join those of new; kept enable words take the place of its own.
         80..=83 => _ = board.file(new).access(Kind::Set, Register::Pending(word(80)), saved[place(80, 2)]),
         84..=87 => _ = board.file(new).access(Kind::Write, Register::Enable(word(84)), saved[place(84, 6)]),
-        // 6. Write threshold and delivery to new.
+        // Step 6: new gets the kept threshold, and last the kept delivery.
         88 => board.file(new).put(Register::Threshold, saved[1]),
         _ => board.file(new).put(Register::Delivery, saved[0]),
     }

@@ -97,7 +97,7 @@ fn target_fits(domain: &DomainView, number: u32) -> bool {
     domain.mode(number).is_none() || only(HART | guest | LOW, domain.target(number))
 }
 
-/// "a written 0 becoming 1": in direct mode no active source has priority 0.
+/// In direct mode no active source has priority 0, because no write stores it.
 fn priority_fits(domain: &DomainView, number: u32) -> bool {
     domain.mode(number).is_none() || domain.messages() || domain.target(number) & LOW != 0
 }
@@ -114,7 +114,7 @@ fn delivery_fits(number: usize, delivery: u32) -> bool {
     delivery <= 1 || delivery == 0x4000_0000 && number % 5 < 2
 }
 
-/// "a level source is pending only if its rectified value is high"
+/// A level source is not pending while its rectified value is low.
 fn level_allows(view: &View, domain: &DomainView, number: u32) -> bool {
     match domain.mode(number) {
         Some(mode) if mode.is_level() => !domain.pending(number) || mode.rectified(view.wire(number)),
@@ -122,7 +122,7 @@ fn level_allows(view: &View, domain: &DomainView, number: u32) -> bool {
     }
 }
 
-/// "and in direct mode exactly then"
+/// In direct mode a level source is pending while its rectified value is high.
 fn level_demands(view: &View, domain: &DomainView, number: u32) -> bool {
     match domain.mode(number) {
         Some(mode) if mode.is_level() && !domain.messages() => {

@@ -34,7 +34,7 @@ impl Mode {
         }
     }
 
-    /// "0 inactive, 1 detached, 4 Edge1, 5 Edge0, 6 Level1, 7 Level0; 2 and 3 are stored as 0".
+    /// The mode of a number. Numbers 2 and 3 are no modes and make a source inactive, as 0 does.
     pub fn named(number: u32) -> Option<Mode> {
         match number {
             1 => Some(Mode::Detached),
@@ -50,7 +50,7 @@ impl Mode {
         matches!(self, Mode::Level1 | Mode::Level0)
     }
 
-    /// "the wire for Edge1 and Level1, its opposite for Edge0 and Level0, low for the rest"
+    /// Edge1 and Level1 take the wire as it is, Edge0 and Level0 turn it round, and Detached is low.
     pub fn rectified(self, wire: bool) -> bool {
         match self {
             Mode::Detached => false,
@@ -68,7 +68,7 @@ pub enum Target {
 }
 
 impl Target {
-    /// "start value 1" in direct mode, "start value 0" in message mode.
+    /// The target of a source that has just become active: as a number 1 in direct mode, 0 in message mode.
     pub fn start(way: Way) -> Target {
         match way {
             Way::Direct => Target::Direct { hart: 0, priority: 1 },
@@ -81,9 +81,9 @@ impl Target {
         let hart = value >> 18 & 3;
         let low = value & 0xFF;
         match way {
-            // "a written 0 becoming 1"
+            // There is no priority 0: 1 takes its place.
             Way::Direct => Target::Direct { hart, priority: low.max(1) },
-            // "and, in the child only, guest index in 13:12"
+            // Bits 13:12 are the guest index, which the machine domain does not have.
             Way::Messages => {
                 let guest = if name == Name::Supervisor { value >> 12 & 3 } else { 0 };
                 Target::Message { hart, guest, identity: low }
@@ -109,7 +109,7 @@ pub struct Active {
 }
 
 impl Active {
-    /// "On becoming active, enable is 0 and target has its start value."
+    /// A source that was not active before: it is not enabled, and its target is the one to start with.
     pub fn new(mode: Mode, way: Way) -> Active {
         Active { mode, pending: false, enabled: false, target: Target::start(way) }
     }
@@ -132,8 +132,8 @@ impl Active {
         }
     }
 
-    /// "the pending bit for a level-sensitive source is always just a copy of the rectified input value" in
-    /// direct mode; "even in MSI delivery mode, .. never set when the rectified input value is low" (4.7).
+    /// What 4.7 says of a level source at any time: in direct mode pending is the rectified value itself; in
+    /// message mode it falls with that value.
     pub fn follow_level(&mut self, way: Way, wire: bool) {
         let high = self.mode.rectified(wire);
         match (self.mode.is_level(), way) {
@@ -152,8 +152,8 @@ impl Active {
         self.follow_level(way, after);
     }
 
-    /// "Between active modes both are kept" (enable and target). "If a sourcecfg write takes it from low to
-    /// high, pending is set. Pending then and always follows section 4.7."
+    /// Another mode by a sourcecfg write: enable and target stay. If the rectified value rises with it, the
+    /// source becomes pending; the rest is as 4.7 has it.
     pub fn change_mode(&mut self, mode: Mode, was_high: bool, way: Way, wire: bool) {
         self.mode = mode;
         if !was_high && mode.rectified(wire) {
@@ -187,7 +187,7 @@ impl Source {
         }
     }
 
-    /// What sourcecfg reads: bit 10 for a delegated source, "the child index is kept as 0".
+    /// What sourcecfg reads: for a delegated source bit 10, and 0 as the child index.
     pub fn configuration(&self) -> u32 {
         match self {
             Source::Inactive => 0,
@@ -202,7 +202,7 @@ impl Source {
             *self = Source::Inactive;
             return;
         };
-        // "its rectified value before (low if inactive, detached or delegated away)"
+        // Before the write only a source that is active in this domain can have been high.
         let was_high = self.active().is_some_and(|active| active.mode.rectified(wire));
         let mut active = self.active().copied().unwrap_or(Active::new(mode, way));
         active.change_mode(mode, was_high, way, wire);

@@ -62,8 +62,8 @@ impl Wired {
         }
     }
 
-    /// sourcecfg in the machine domain. "bit 10 delegates .. When newly delegated or taken back, the child's
-    /// sourcecfg is 0. Delegating again what is delegated changes nothing."
+    /// sourcecfg in the machine domain. Bit 10 hands the source to the child, and a write without it takes it
+    /// back: either way the child starts with 0. A source that the child has already is left there as it is.
     fn write_machine_sourcecfg(&mut self, number: u32, value: u32) {
         let delegate = value >> 10 & 1 == 1;
         let delegated = *self.machine.source(number) == Source::Delegated;
@@ -78,7 +78,7 @@ impl Wired {
         self.machine.source_mut(number).take_mode(Mode::named(value & 7), way, wire);
     }
 
-    /// "In the child a write with bit 10 set stores 0, and an undelegated source's register stays 0."
+    /// sourcecfg in the child: bit 10 makes a source inactive. What was not delegated stays 0.
     fn write_supervisor_sourcecfg(&mut self, number: u32, value: u32) {
         if *self.machine.source(number) != Source::Delegated {
             return;
@@ -88,7 +88,7 @@ impl Wired {
         self.supervisor.source_mut(number).take_mode(mode, way, wire);
     }
 
-    /// "a number outside the active sources is ignored"; all 32 bits of the number count.
+    /// Only the number of an active source does anything, and all 32 bits of it count.
     fn set_pending(&mut self, name: Name, number: u32) {
         let wire = self.wire(number);
         let domain = self.domain_mut(name);
@@ -122,14 +122,14 @@ impl Wired {
         match register {
             Register::Domaincfg => domain.domaincfg(),
             Register::Sourcecfg(number) => domain.source(number).configuration(),
-            // "setip and setie read their bits."
+            // These two read what they set.
             Register::Setip(k) => domain.bits(k, |_, active| active.pending),
             Register::Setie(k) => domain.bits(k, |_, active| active.enabled),
-            // "in_clrip reads the wire levels of active sources, 0 for the others."
+            // The wire of a source, if it is active.
             Register::InClrip(k) => domain.bits(k, |number, _| self.wire(number)),
             Register::Genmsi => domain.genmsi.number(),
             Register::Target(number) => domain.source(number).active().map_or(0, |a| a.target.number()),
-            // "clrie and all the number registers read 0"
+            // The others can only be written.
             _ => 0,
         }
     }
@@ -150,7 +150,7 @@ impl Wired {
             Register::Setie(k) => in_mask(k, value).for_each(|number| self.put_enable(name, number, true)),
             Register::Clrie(k) => in_mask(k, value).for_each(|number| self.put_enable(name, number, false)),
             Register::Setipnum => self.set_pending(name, value),
-            // "setipnum_be takes the value's four bytes reversed."
+            // The bytes of the number come the other way round.
             Register::SetipnumBe => self.set_pending(name, value.swap_bytes()),
             Register::Clripnum => self.clear_pending(name, value),
             Register::Setienum => self.put_enable(name, value, true),
