@@ -1,5 +1,5 @@
-//! Random calls, biased so that sends, delegations, mode changes, level sources, claims and moves happen all
-//! the time.
+//! Random calls, drawn so that what seldom comes by chance comes often: sends, delegations, changes of mode,
+//! level sources, claims, whole moves.
 
 use crate::calls::Call;
 use crate::random::Random;
