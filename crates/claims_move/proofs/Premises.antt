@@ -175,7 +175,7 @@ unfolding Claim-178 WordsFit rowOf
 claim-178 = (
   (λ x long words rules log saved. let fit = fit-block (x .block) long words rules in
       (record { long = long; full = log; fit = fit; saved = saved }, fit, fit .shaped)),
-  small-call,
+  (λ c. ((λ small h f k s v e. subst Small e small), small-call c)),
   tt,
   (λ c cs. ((λ p. p), (λ p. p))),
 )

@@ -148,6 +148,7 @@ claim-184 = (
     refl,
     refl,
     refl,
+    refl,
     left-handing cs x,
     saved-handing cs x,
     handed-handing cs x,

@@ -1,8 +1,9 @@
 -- Claim-189: a move that is given up before access 9, and the write that undoes it. 01, "The move, with its
 -- premises".
 --   NoneToNew m es     no page write of the shift es goes to new: no device has changed over
--- Premises: those of the claims on whole moves in Station, but 1 to 8 accesses for all 89 and `NoneToNew` for
--- `PagesKept`, which asks for less only if there are 8; and a log of 63 words for the write. No axioms.
+-- Premises: those of the claims on whole moves in Station, but 1 to 8 accesses for all 89, and `NoneToNew`
+-- for `PagesKept`: up to 7 accesses the two are the same, and after 8 `PagesKept` lets devices write to
+-- new; and a log of 63 words for the write. No axioms.
 use Prim.Native.Nat.{ℕ, _≤_, _<_}
 use mathlib.Core.Path.{_≡_}
 use mathlib.Core.List.{List, [], _∷_}

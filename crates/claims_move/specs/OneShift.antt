@@ -84,11 +84,12 @@ heldBefore = 0x40 ∷ 0 ∷ 4 ∷ 0 ∷ 8 ∷ 0 ∷ 0 ∷ 0x80000000 ∷ []
 -- words of 64 and its threshold of 200, and has nothing of what it held before
 unfoldable pub Claim-111 : Type 0
 Claim-111 =
+    -- a file with no bit; the other station's, which has 6 enabled; and new before the move
     let none : List ℕ = replicate 8 0 in
     let idle = fileHaving 0 0 none none in
     let other = fileHaving 0 0 none (0x40 ∷ replicate 7 0) in
     let before = fileHaving 1 9 heldBefore heldBefore in
-    -- after the first k events
+    -- after the first k events: access 8 is the 11th, 9 the 14th and 48 the 58th
     let soFar : ℕ → Lent = λ k. ran (withMove stations 0 (take k shift)) start in
     let old : ℕ → File = λ k. theFile (boardIn (soFar k) .files) (5 * 0 + 2) in
     let new : ℕ → File = λ k. theFile (boardIn (soFar k) .files) (5 * 1 + 3) in

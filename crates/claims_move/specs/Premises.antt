@@ -5,8 +5,9 @@
 --   Small c          what they ask of a call, and AllSmall cs of several
 --   Fit b            what the claims on one call ask of a board
 --   BoardShaped b    the lists of a board have their lengths
--- A premise that asked for more than 01 does would make the claims on the move say less; so each is said in
--- both directions.
+-- A premise that asked for more than 01 does would make the claims on the move say less, and in claims 112
+-- and 186 one that asked for less would; so each is said in both directions. `Ready` and `Fit` are premises
+-- alone, and Claim-178 says what is enough for them.
 -- Premises: of the first part of Claim-178 the lengths of the block and of the log, words of 32 bits that
 -- keep the rules and saved numbers of 64 bits. The rest of it and Claim-175 have none. No axioms.
 use Prim.Native.Nat.{ℕ, _+_, _-_, _^_, _≤_, _<_}
@@ -101,12 +102,12 @@ Claim-175 =
 -- what is lent is ready for calls, its board fit and its lists of their lengths, if it has a block of 650
 -- words of 32 bits that keep the rules, a log of 63 words, and saved numbers of 64 bits: so what claims 102
 -- to 104, 150, 152, 154, 156 and 171 ask of a board holds of every block of such words that is not refused.
--- `Small`, where they ask it of a call, is no more than that the value of a register access has 64 bits;
--- and `AllSmall` is that of each of several
+-- `Small`, where they ask it of a call, is that the value of a register access has 64 bits; and `AllSmall`
+-- is that of each of several
 unfoldable pub Claim-178 : Type 0
 Claim-178 =
     ((x : Lent) → length (x .block) ≡ 650 → ((k : ℕ) → getD (x .block) k 0 < 2 ^ 32)
     → boardSound (boardIn x) ≡ true → length (x .log) ≡ 63 → ((k : ℕ) → getD (x .saved) k 0 < 2 ^ 64)
     → Ready x × Fit (boardIn x) × BoardShaped (boardIn x))
-    × ((c : Call) → ((h f k s v : ℕ) → c ≡ Register h f k s v → v < 2 ^ 64) → Small c)
+    × ((c : Call) → Small c ↔ ((h f k s v : ℕ) → c ≡ Register h f k s v → v < 2 ^ 64))
     × AllSmall [] × ((c : Call) (cs : List Call) → AllSmall (c ∷ cs) ↔ (Small c × AllSmall cs))

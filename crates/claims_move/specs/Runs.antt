@@ -4,6 +4,7 @@
 --   leftBy ms l    the block that the calls ms leave of l; saidWhere p ms l, what those of them answer that p
 --                  picks; savedBy s ms l, the saved numbers that the accesses of a move among them leave of s
 --   handing cs x   the calls cs, each with the log and the saved numbers that the last one left
+--   boardIn x      the board that the block of x has
 -- Premises: of Claim-183 that both logs have one length; of the last part of Claim-184 `Ready x` and
 -- `AllSmall cs`, which Claim-178 has in plain numbers. The rest has none. No axioms.
 use Prim.Native.Nat.{ℕ}
@@ -12,13 +13,14 @@ use mathlib.Core.Bool.{Bool, true, false}
 use mathlib.Core.List.{List, [], _∷_, map}
 use mathlib.Core.Logic.{_↔_}
 use lib.ListN.{length, take, drop}
+use Rattle.board_block.specs.Block.{boardOf}
 use Rattle.board_call.specs.declared.Call.{Call}
 use Rattle.board_call.specs.declared.Call.the-variants.{Reset, Wire, DomainRead, DomainWrite, PageRead}
 use Rattle.board_call.specs.declared.Call.the-variants.{PageWrite, Register, Top, Claim, Signals, Move}
 use Rattle.board_call.specs.Outcome.{outcome}
 use Rattle.board_runs.specs.Runs.{Made, leftBy, saidWhere, Lent, after, ran, handing}
 use Rattle.board_runs.specs.Handed.{isAccess, savedBy, HandedOn, LogsLong, Makes}
-use Rattle.board_runs.specs.Ready.{Ready, AllSmall}
+use Rattle.board_runs.specs.Ready.{boardIn, Ready, AllSmall}
 
 -- what a call answers, and what it leaves but for the log, does not hang on what the log holds, only on its
 -- length; it writes the same words at the start of the log, as many as it counts, and leaves the others. And
@@ -71,6 +73,7 @@ Claim-184 =
     → (after c x .block ≡ outcome c (x .block) (x .log) (x .saved) .block)
     × (after c x .log ≡ outcome c (x .block) (x .log) (x .saved) .log)
     × (after c x .saved ≡ outcome c (x .block) (x .log) (x .saved) .saved)
+    × (boardIn x ≡ boardOf (x .block))
     × (ran [] x ≡ x) × (ran (c ∷ cs) x ≡ ran cs (after c x))
     × (handing [] x ≡ [])
     × (handing (c ∷ cs) x

@@ -150,7 +150,7 @@ Claim-110 =
     × ((k : ℕ) → k < 20 → k ≢ oldNumber m → k ≢ newNumber m → theFile (b .files) k ≡ theFile (b′ .files) k)
     × (hasBit (signalsTo b (m .newHart) 5) (m .newFile) ≡ hasBit (signalsTo b′ (m .oldHart) 5) (m .oldFile)))
 
--- the other stations go on: a call on a file that is neither old nor new, anywhere between the accesses, and
+-- the other stations go on: a call on a file that is neither old nor new, anywhere in the shift, and
 -- the signals of a hart that has neither, answer what they would have answered with no move
 unfoldable pub Claim-185 : Type 0
 Claim-185 = MovedWhere (λ m l s ms ns. saidWhere (elsewhere m) ms l ≡ saidWhere (elsewhere m) ns l)
