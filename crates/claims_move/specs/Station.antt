@@ -4,6 +4,7 @@
 --   MovedWhere P     P holds of every shift with a move, ms, beside the same shift without it, ns, both from
 --                    the block l on, where the premises are met: s is the saved numbers that the first access
 --                    brings. Each is a definition of Rattle.move_laws, Premises, or of Rattle.board_runs
+--   EndsAs m b b′    how such a shift ends
 -- Premises: of Claim-104 `Ready x`, 650 words of a board that keeps the rules and whose files have words of
 -- 32 bits, 63 words of log and saved numbers of 64 bits, and `Small c`, a value of 64 bits; of claims 105 to
 -- 110, 180 and 185 the six of 01, `Started`, `TwoGuests`, `ByMessages`, `NoneNamesNew`, `AllAccesses` and
@@ -28,7 +29,7 @@ use Rattle.source_target.specs.Target.{hartOf, guestOf, numberOf}
 use Rattle.domain.specs.Domain.{genmsiOf}
 use Rattle.domain.specs.Slot.{sourceAt}
 use Rattle.wired_state.specs.Wires.{domainIn}
-use Rattle.board_block.specs.Block.{boardOf}
+use Rattle.board_block.specs.Block.{Board, boardOf}
 use Rattle.board_call.specs.declared.Call.{Call}
 use Rattle.board_call.specs.declared.Call.the-variants.{Reset, Wire, DomainRead, DomainWrite, PageRead}
 use Rattle.board_call.specs.declared.Call.the-variants.{PageWrite, Register, Top, Claim, Signals, Move}
@@ -67,16 +68,9 @@ MovedWhere P =
     → CallsKept m es → Makes (withMove m 0 es) ms → HandedOn s ms l → Makes (withoutMove m es) ns
     → P m l s ms ns
 
--- demand 3: the new file is the one that the station would have had with no move; every file but old and
--- new, every wire, and every pending and enable bit of both domains is the same as with no move; and so is
--- all else of the machine domain, and of the child all but that a target that names old with no move names
--- new, with the same identity. Every call brings a log of its own, and between the accesses the other
--- stations go on: 01's theorem is the case of shifts with no call besides
--- [01 V22 V23 V30 M4 X8 X9]
-unfoldable pub Claim-105 : Type 0
-Claim-105 =
-    MovedWhere (λ m l s ms ns. let b = boardOf (leftBy ms l) in
-    let b′ = boardOf (leftBy ns l) in
+-- b, after the shift with the move, and b′, after the one without it: what Claim-105 says of them
+abbrev pub EndsAs : Stations → Board → Board → Type 0
+EndsAs m b b′ =
     (theFile (b .files) (fileNumber (m .newHart) (m .newFile))
     ≡ theFile (b′ .files) (fileNumber (m .oldHart) (m .oldFile)))
     × ((k : ℕ) → k < 20 → k ≢ fileNumber (m .oldHart) (m .oldFile) → k ≢ fileNumber (m .newHart) (m .newFile)
@@ -92,7 +86,16 @@ Claim-105 =
     let t′ = sourceAt (b .wired .child) i .target in
     (hartOf t ≡ m .oldHart → guestOf t + 1 ≡ m .oldFile
     → t′ ≡ m .newHart * 2 ^ 18 + (m .newFile - 1) * 2 ^ 12 + numberOf t)
-    × ((hartOf t ≡ m .oldHart → guestOf t + 1 ≡ m .oldFile → ⊥) → t′ ≡ t)))
+    × ((hartOf t ≡ m .oldHart → guestOf t + 1 ≡ m .oldFile → ⊥) → t′ ≡ t))
+
+-- demand 3: the new file is the one that the station would have had with no move; every file but old and
+-- new, every wire, and every pending and enable bit of both domains is the same as with no move; and so is
+-- all else of the machine domain, and of the child all but that a target that names old with no move names
+-- new, with the same identity. Every call brings a log of its own, and between the accesses the other
+-- stations go on: 01's theorem is the case of shifts with no call besides
+-- [01 V22 V23 V30 M4 X8 X9]
+unfoldable pub Claim-105 : Type 0
+Claim-105 = MovedWhere (λ m l s ms ns. EndsAs m (boardOf (leftBy ms l)) (boardOf (leftBy ns l)))
 
 -- with the premises of a move every one of the 89 accesses is done, and none is refused: each answers 0 and 0
 -- [01 V13]

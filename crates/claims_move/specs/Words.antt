@@ -3,15 +3,11 @@
 -- move, with its premises". Premises: none. No axioms.
 use Prim.Native.Nat.{ℕ, _+_, _-_, _*_, _^_, _≤_, _<_}
 use mathlib.Core.Path.{_≡_}
-use mathlib.Core.Bool.{Bool, true, false}
+use mathlib.Core.Bool.{true, false}
 use mathlib.Core.List.{List, [], _∷_}
 use mathlib.Core.Logic.{_≢_, _⊎_, _↔_}
 use lib.ListN.{length, getD}
-use Rattle.source_target.specs.Target.{hartOf, guestOf, numberOf}
 use Rattle.files.specs.Files.{fileNumber, theFile}
-use Rattle.domain.specs.Domain.{genmsiOf}
-use Rattle.domain.specs.Slot.{sourceAt}
-use Rattle.wired_state.specs.Wires.{domainIn}
 use Rattle.board_block.specs.Block.{Board, boardOf}
 use Rattle.board_call.specs.declared.Call.{Call}
 use Rattle.board_call.specs.declared.Call.the-variants.{Reset, Wire, DomainRead, DomainWrite, PageRead}
@@ -30,6 +26,7 @@ use Rattle.move_laws.specs.After.{FileCall, callOn, Later, thenHere, thenThere,
 use Rattle.move_laws.specs.After.FileCall.{pageRead, pageWrite, register, top, claim}
 use Rattle.move_cases.specs.Needed.{PagesWithin, LogLong, AnyState, AnyOld, AnyNew, Besides, onOld}
 use Rattle.move_cases.specs.Needed.{stationThere, TooWeak, Letting, NeedsHandedOn}
+use Rattle.claims_move.specs.Station.{EndsAs}
 
 -- a file has the number 5 × hart + file, and old and new are the files of theirs; what happens in a shift
 -- is a wire, a page write, an access or a call, and nothing else; a call is elsewhere exactly if it is a
@@ -59,24 +56,7 @@ Claim-187 =
     × (callOn h f (pageRead a) ≡ PageRead h f a) × (callOn h f (pageWrite a v) ≡ PageWrite h f a v)
     × (callOn h f (register k s v) ≡ Register h f k s v) × (callOn h f top ≡ Top h f)
     × (callOn h f claim ≡ Claim h f))
-    × ((m : Stations) (b b′ : Board)
-    → Moved m b b′
-    ↔ ((theFile (b .files) (fileNumber (m .newHart) (m .newFile))
-    ≡ theFile (b′ .files) (fileNumber (m .oldHart) (m .oldFile)))
-    × ((k : ℕ) → k < 20 → k ≢ fileNumber (m .oldHart) (m .oldFile) → k ≢ fileNumber (m .newHart) (m .newFile)
-    → theFile (b .files) k ≡ theFile (b′ .files) k)
-    × (b .wired .wires ≡ b′ .wired .wires)
-    × ((c : Bool) → domainIn (b .wired) c .pending ≡ domainIn (b′ .wired) c .pending)
-    × ((c : Bool) → domainIn (b .wired) c .enable ≡ domainIn (b′ .wired) c .enable)
-    × (b .wired .machine ≡ b′ .wired .machine) × (b .wired .child .source ≡ b′ .wired .child .source)
-    × (b .wired .child .delivery ≡ b′ .wired .child .delivery)
-    × (genmsiOf (b .wired .child) ≡ genmsiOf (b′ .wired .child))
-    × ((i : ℕ) → 1 ≤ i → i ≤ 63
-    → let t = sourceAt (b′ .wired .child) i .target in
-    let t′ = sourceAt (b .wired .child) i .target in
-    (hartOf t ≡ m .oldHart → guestOf t + 1 ≡ m .oldFile
-    → t′ ≡ m .newHart * 2 ^ 18 + (m .newFile - 1) * 2 ^ 12 + numberOf t)
-    × ((hartOf t ≡ m .oldHart → guestOf t + 1 ≡ m .oldFile → ⊥) → t′ ≡ t))))
+    × ((m : Stations) (b b′ : Board) → Moved m b b′ ↔ EndsAs m b b′)
     × ((m : Stations) (l s : List ℕ) (es : List Event)
     → Premises m l s es
     ↔ (Started l s × TwoGuests m × ByMessages l × NoneNamesNew m l × AllAccesses es × PagesKept m 0 es
