@@ -6,7 +6,8 @@ use Rattle.move_cases.proofs.NeededShifts.{needs-fresh, needs-messages, needs-g
 use Rattle.move_cases.proofs.NeededShifts.{needs-log-long}
 use Rattle.move_cases.proofs.HandedShifts.{needs-rules, needs-handed-on}
 use Rattle.move_cases.proofs.BesidesShifts.{needs-no-claim-old, needs-no-claim-new, needs-no-write-old}
-use Rattle.move_cases.proofs.BesidesShifts.{needs-no-write-new, needs-no-target, needs-no-reset}
+use Rattle.move_cases.proofs.BesidesShifts.{needs-no-write-new, needs-no-target, needs-no-domaincfg}
+use Rattle.move_cases.proofs.BesidesShifts.{needs-no-other-move, needs-no-reset}
 use Rattle.board_runs.specs.Runs.{handing}
 use Rattle.board_runs.proofs.MadeEffects.{calls-handing, logs-handing, handed-handing}
 use Rattle.move_laws.proofs.EndEffects.{small-with, small-without}
@@ -15,7 +16,7 @@ use Rattle.move_cases.specs.Example.{start, shift}
 use Rattle.move_cases.specs.Needed.{NeedsAll, NeedsPagesNew, NeedsPagesOld, NeedsFresh, NeedsMessages}
 use Rattle.move_cases.specs.Needed.{NeedsGuestOld, NeedsGuestNew, NeedsRules, NeedsLogLong, NeedsNoClaimOld}
 use Rattle.move_cases.specs.Needed.{NeedsNoClaimNew, NeedsNoWriteOld, NeedsNoWriteNew, NeedsNoTarget}
-use Rattle.move_cases.specs.Needed.{NeedsNoReset}
+use Rattle.move_cases.specs.Needed.{NeedsNoDomaincfg, NeedsNoOtherMove, NeedsNoReset}
 use Rattle.move_cases.proofs.ExampleShift.{shift-small, start-ready}
 use Rattle.claims_move.specs.Conditions.{Claim-112, Claim-186, Claim-191}
 
@@ -37,13 +38,16 @@ claim-112 = (
 )
 
 pub claim-186 : Claim-186
-unfolding Claim-186 NeedsNoClaimOld NeedsNoClaimNew NeedsNoWriteOld NeedsNoWriteNew NeedsNoTarget NeedsNoReset
+unfolding Claim-186 NeedsNoClaimOld NeedsNoClaimNew NeedsNoWriteOld NeedsNoWriteNew NeedsNoTarget
+    NeedsNoDomaincfg NeedsNoOtherMove NeedsNoReset
 claim-186 = (
   needs-no-claim-old,
   needs-no-claim-new,
   needs-no-write-old,
   needs-no-write-new,
   needs-no-target,
+  needs-no-domaincfg,
+  needs-no-other-move,
   needs-no-reset,
 )
 

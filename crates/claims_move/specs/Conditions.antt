@@ -9,7 +9,7 @@ use Prim.Native.Nat.{ℕ}
 use mathlib.Core.Path.{_≡_}
 use mathlib.Core.List.{List}
 use mathlib.Core.Logic.{_↔_}
-use Rattle.board_call.specs.declared.Call.the-variants.{Reset, DomainWrite, Register, Claim}
+use Rattle.board_call.specs.declared.Call.the-variants.{Reset, DomainWrite, Register, Claim, Move}
 use Rattle.board_runs.specs.Runs.{Made, handing}
 use Rattle.board_runs.specs.Handed.{HandedOn, Makes}
 use Rattle.move_laws.specs.Shift.{Stations, Event, withMove, withoutMove}
@@ -57,16 +57,17 @@ Claim-112 =
     × NeedsHandedOn
 
 -- and so is that other calls are held back: with a claim of the moved station from old, or from new, a write
--- to a register of old, or of new, one to a target of the child, or a reset between the first access and the
--- last, there is a start and a shift whose end differs from that of the shift in which the station is not
--- moved and makes the same calls on its own file
+-- to a register of old, or of new, one to a target of the child or to its domaincfg, an access of another
+-- move to new, or a reset between the first access and the last, there is a start and a shift whose end
+-- differs from that of the shift in which the station is not moved and makes the same calls on its own file
 -- [01 V24]
 unfoldable pub Claim-186 : Type 0
 Claim-186 =
     Letting (λ m. Claim (m .oldHart) (m .oldFile)) × Letting (λ m. Claim (m .newHart) (m .newFile))
     × Letting (λ m. Register (m .oldHart) (m .oldFile) 1 0xC0 0)
     × Letting (λ m. Register (m .newHart) (m .newFile) 1 0xC0 0)
-    × Letting (λ m. DomainWrite 1 0x3004 0x1007) × Letting (λ m. Reset)
+    × Letting (λ m. DomainWrite 1 0x3004 0x1007) × Letting (λ m. DomainWrite 1 0x0000 0)
+    × Letting (λ m. Move 2 2 (m .newHart) (m .newFile) 5) × Letting (λ m. Reset)
 
 -- what the claims on the move ask is `Premises`, and what each call brings; and the shift of Claim-111 meets
 -- it

@@ -1,7 +1,7 @@
 -- Each premise of a move is needed: with one of them dropped or weakened, and all the others, there is a
 -- shift that does not end as it should. So is that these are held back during a move: claims and register
--- writes of the moved station, on old and on new, a write to a target of the child, a reset. 01, "The move,
--- with its premises". Assumes nothing.
+-- writes of the moved station, on old and on new, writes to a target and to domaincfg of the child, another
+-- move to new, a reset. 01, "The move, with its premises". Assumes nothing.
 --   PagesWithin a z m n es   no page write to new before access a, and none to old from access z on:
 --                            PagesKept m n es is this with 8 and 72
 --   LogLong x                the log has 63 words
@@ -17,7 +17,7 @@
 --   Letting d, NeedsNo..     so it is if the call d may be made too
 -- Not claimed: that each field of Started is needed; nor that old and new have to be different, for otherwise
 -- every access is refused, and both shifts are the same. Not known: whether other writes to a domain, a
--- claimi, or an access of another station's move could be let in.
+-- claimi, or an access of a move between two other files could be let in.
 use Prim.Native.Nat.{ℕ, suc, _≤_, _<_}
 use mathlib.Core.Path.{_≡_}
 use mathlib.Core.Bool.{true, false, cond, _||_}
@@ -222,6 +222,14 @@ NeedsNoWriteNew = Letting (λ m. Register (m .newHart) (m .newFile) 1 0xC0 0)
 -- the target of source 1 of the child is written: identity 7 of file 2 of hart 0
 unfoldable pub NeedsNoTarget : Type 0
 NeedsNoTarget = Letting (λ m. DomainWrite 1 0x3004 0x1007)
+
+-- the child is put in direct mode
+unfoldable pub NeedsNoDomaincfg : Type 0
+NeedsNoDomaincfg = Letting (λ m. DomainWrite 1 0 0)
+
+-- another station, file 2 of hart 2, is moved to new: the access that clears identities 0 to 63 there
+unfoldable pub NeedsNoOtherMove : Type 0
+NeedsNoOtherMove = Letting (λ m. Move 2 2 (m .newHart) (m .newFile) 5)
 
 -- the board is reset
 unfoldable pub NeedsNoReset : Type 0
