@@ -13,7 +13,6 @@ use Rattle.domain_region.specs.declared.role.Role.the-variants.{Claims, Configu
 use Rattle.domain_region.specs.Region.{wordAt}
 use Rattle.domain_region.specs.Role.{roleOf}
 use Rattle.domain_region.proofs.RoleLaws.{claims-only}
-use Rattle.board_call.specs.declared.Call.{Call}
 use Rattle.board_call.specs.declared.Call.the-variants.{DomainRead, Register, Move}
 use Rattle.board_call.specs.Calls.{newAccess, rowOf}
 use Rattle.board_runs.specs.Reading.{claimsBy, onlyReads}

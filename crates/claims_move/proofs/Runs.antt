@@ -2,10 +2,11 @@
 use Prim.Native.Nat.{ℕ}
 use mathlib.Core.Path.{_≡_, refl, sym, ap, subst, _∙_}
 use mathlib.Core.Bool.{true, false, cond}
-use mathlib.Core.List.{List, [], _∷_, _++_}
+use mathlib.Core.List.{List, _∷_}
 use mathlib.Core.Logic.{_↔_}
 use native.Mathlib.Decide.{ℕ-discrete}
 use lib.ListN.{length, take, drop}
+use lib.Seq.{take-append-seam, drop-append-seam}
 use Rattle.words.proofs.TestsLaws.{not-same}
 use Rattle.domain_sending.specs.Sending.{logged}
 use Rattle.board_block.specs.Block.{boardOf}
@@ -22,15 +23,6 @@ use Rattle.board_runs.specs.Runs.{handing}
 use Rattle.claims_move.specs.Runs.{Claim-183, Claim-184}
 
 -- ---- the log
-
--- the messages come first, and then what stood there
-take-first : (ms g : List ℕ) → take (length ms) (ms ++ g) ≡ ms
-take-first [] g = refl
-take-first (w ∷ ms) g = ap (λ (r : List ℕ). w ∷ r) (take-first ms g)
-
-drop-first : (ms g : List ℕ) → drop (length ms) (ms ++ g) ≡ g
-drop-first [] g = refl
-drop-first (w ∷ ms) g = drop-first ms g
 
 module _ (c : Call) (l g g′ s : List ℕ) (same : length g ≡ length g′) where
   abbrev o : Outcome
@@ -53,8 +45,8 @@ module _ (c : Call) (l g g′ s : List ℕ) (same : length g ≡ length g′) wh
           let ms = step c (boardOf l) s .messages in
           unfold logged in
           rw (outcome-done c l g s e, outcome-done c l g′ s (again ∙ e)) (
-            take-first ms (drop (length ms) g) ∙ sym (take-first ms (drop (length ms) g′)),
-            drop-first ms (drop (length ms) g),
+            take-append-seam ms (drop (length ms) g) ∙ sym (take-append-seam ms (drop (length ms) g′)),
+            drop-append-seam ms (drop (length ms) g),
           )
       at (no n) = rw (outcome-refused c l g s _ refl n) (refl, refl)
 

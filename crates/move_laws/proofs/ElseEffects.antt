@@ -22,7 +22,6 @@ use Rattle.move_laws.specs.After.{FileCall, callOn}
 use Rattle.move_laws.proofs.OnFileEffects.{answers, refusal-apart, there-on}
 use Rattle.move_laws.proofs.OnFileEffects.{said-done, said-refused}
 use Rattle.move_laws.proofs.Invariant.{is-new, is-old}
-use Rattle.move_laws.proofs.BesideEffects.{both}
 use Rattle.board_runs.specs.Ready.{Ready}
 
 module _ (m : Stations) (g : TwoGuests m) (x y : Lent) (ready : Ready x) (ready′ : Ready y)
