@@ -195,8 +195,8 @@ impl Domain {
         Some(Message { hart, file, identity })
     }
 
-    /// With DM and IE at 1, a message for every source that is pending and enabled, by ascending number; none
-    /// of them is pending afterwards.
+    /// With DM and IE at 1, a message for every active source that is pending and enabled, by ascending
+    /// number; none of them is pending afterwards.
     pub fn send(&mut self) -> Vec<Message> {
         let mut sent = Vec::new();
         if self.way == Way::Direct || !self.ie {

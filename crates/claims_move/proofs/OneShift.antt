@@ -24,8 +24,8 @@ use Rattle.move_cases.specs.Example.{start, early, edgeOver, levelOver, lookedO
 use Rattle.move_cases.specs.Example.{claiming, over, stationEnd, oldEnd, boardEnd}
 use Rattle.move_cases.proofs.Starts.{lent-board, good-old}
 use Rattle.move_cases.proofs.ExampleShift.{board, example}
-use Rattle.claims_move.specs.OneShift.{fileHaving, Stands, atStart, atEnd, leftOld, heldBefore}
-use Rattle.claims_move.specs.OneShift.{Claim-111}
+use Rattle.claims_move.specs.OneShift.{fileHaving, Arranged, stationBefore, stationAfter}
+use Rattle.claims_move.specs.OneShift.{leftOld, heldBefore, Claim-111}
 
 -- ---- a board of the shift, in plain numbers
 
@@ -43,7 +43,7 @@ module _ (f g : File) (h i : ℕ) where
   abbrev fs : List File
   fs = startBoard .files
 
-  stands-first : Stands (boardHaving f g (wiredTo h i)) f idle g (renamed 7 h i) (renamed 70 h i)
+  stands-first : Arranged (boardHaving f g (wiredTo h i)) f idle g (renamed 7 h i) (renamed 70 h i)
   unfolding fileNumber isGuest theFile withFile startBoard startFilesFrom startFile startDomain boardHaving
       wiredTo machineDomain childTo
   stands-first =
@@ -58,7 +58,7 @@ module _ (f g : File) (h i : ℕ) where
         child = refl;
       }
 
-  stands-last : Stands (boardEnd f g (wiredTo h i)) f other g (renamed 7 h i) (renamed 70 h i)
+  stands-last : Arranged (boardEnd f g (wiredTo h i)) f other g (renamed 7 h i) (renamed 70 h i)
   unfolding fileNumber isGuest theFile withFile startBoard startFilesFrom startFile startDomain boardHaving
       boardEnd wiredTo machineDomain childTo holding insert withBit hasBit bitOf
   stands-last =
@@ -99,15 +99,15 @@ unfolding Claim-111 fileNumber station stale oldEnd stationEnd boardWith renamed
     holding insert withBit hasBit bitOf
 claim-111 = (
   refl,
-  subst (λ (b : Board). Stands b atStart idle before 0x1007 0x1046) (sym begins)
+  subst (λ (b : Board). Arranged b stationBefore idle before 0x1007 0x1046) (sym begins)
       (stands-first station stale 0 2),
   (unfold start lent in refl),
   (unfold start lent in refl),
   (unfold shift early edgeOver levelOver lookedOn late in refl),
   example .premises,
-  subst (λ (b : Board). Stands b leftOld other atEnd 0x42007 0x42046) (sym (example .ends))
+  subst (λ (b : Board). Arranged b leftOld other stationAfter 0x42007 0x42046) (sym (example .ends))
       (stands-last oldEnd stationEnd 1 3),
-  subst (λ (b : Board). Stands b atEnd other before 0x1007 0x1046) (sym (example .unmoved))
+  subst (λ (b : Board). Arranged b stationAfter other before 0x1007 0x1046) (sym (example .unmoved))
       (stands-last stationEnd stale 0 2),
   example .done,
   seen (λ x. oldIn stations (boardIn x)) (parts .0) ∙ example .early-old,

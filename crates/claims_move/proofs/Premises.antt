@@ -2,14 +2,15 @@
 -- the board of a block that keeps the rules is fit. Assumes nothing.
 use Prim.Native.Nat.{ℕ, suc, _+_, _-_, _^_, _≤_, _<_}
 use mathlib.Core.Path.{_≡_, refl, sym, ap, subst}
-use mathlib.Core.Bool.{Bool, true, false, _&&_, _||_, false≢true}
+use mathlib.Core.Bool.{Bool, true, false, _&&_, _||_}
 use mathlib.Core.List.{_∷_}
-use mathlib.Core.Logic.{_≢_, _⊎_, inl, inr, ⊎-elim, _↔_}
+use mathlib.Core.Logic.{_⊎_, ⊎-elim, _↔_}
 use native.Mathlib.Omega.{arith}
 use lib.Dec.{eqb}
 use borrow.Author.Tests.{eqb-true, eq-eqb}
 use Rattle.words.specs.Sets.{WordsFit}
-use Rattle.words.proofs.TestsLaws.{tested, and-first, and-second, and-both, not-same}
+use Rattle.words.proofs.TestsLaws.{tested, and-first, and-second, and-both, or-cases, or-left, or-right}
+use Rattle.words.proofs.TestsLaws.{not-same}
 use Rattle.domain.specs.Slot.{sourceAt}
 use Rattle.board_move_steps.specs.Names.{namesFile}
 use Rattle.board_move_wired_laws.proofs.TargetNames.{names-number, number-names}
@@ -22,7 +23,7 @@ use Rattle.board_call_laws.specs.Small.{Small}
 use Rattle.board_call_laws.proofs.FitEffects.{fit-block}
 use Rattle.board_move_laws.proofs.MoveEffects.{guest-hart, guest-low, guest-high}
 use Rattle.board_runs.specs.Reading.{onlyReads}
-use Rattle.move_laws.specs.Shift.{Stations, elsewhere, withMove, withoutMove}
+use Rattle.move_laws.specs.Shift.{Stations, isOld, isNew, elsewhere, withMove, withoutMove}
 use Rattle.move_laws.specs.Premises.{TwoGuests, ByMessages, NoneNamesNew, accessesIn}
 use Rattle.move_laws.specs.Premises.{AllAccesses, PagesKept, CallsKept}
 use Rattle.claims_registers.proofs.Registers.{active-iff}
@@ -70,10 +71,29 @@ two-guests m =
       }),
     )
 
--- what is true of one of two tests is true of one, and back
 pub or-split : (p q : Bool) → ((p || q) ≡ true) ↔ ((p ≡ true) ⊎ (q ≡ true))
-or-split true q = ((λ e. inl refl), (λ e. refl))
-or-split false q = ((λ e. inr e), ⊎-elim (λ e. absurd (false≢true e)) (λ e. e))
+or-split p q = (or-cases p q, ⊎-elim (or-left p q) (or-right p q))
+
+-- what is asked of a page write to new, and of one to old, by their numbers
+pub page-asked : (m : Stations) (h f : ℕ) (A B C : Type 0)
+    → ((isNew m h f ≡ true → A) × (isOld m h f ≡ true → B) × C)
+    ↔ ((h ≡ m .newHart → f ≡ m .newFile → A) × (h ≡ m .oldHart → f ≡ m .oldFile → B) × C)
+page-asked m h f A B C =
+    let nh = m .newHart in
+    let nf = m .newFile in
+    let oh = m .oldHart in
+    let of = m .oldFile in (
+      (λ k. (
+        (λ p q. k .0 (file-same h f nh nf p q)),
+        (λ p q. k .1 (file-same h f oh of p q)),
+        k .2,
+      )),
+      (λ k. (
+        (λ e. let x = same-file h f nh nf e in k .0 (x .0) (x .1)),
+        (λ e. let x = same-file h f oh of e in k .1 (x .0) (x .1)),
+        k .2,
+      )),
+    )
 
 -- every four numbers are the places of a station
 any-stations : (oh of nh nf : ℕ)
@@ -122,18 +142,7 @@ claim-175 m l s es c n j level h f a v =
       refl,
       tt,
       ((λ p. p), (λ p. p)),
-      (
-        (λ k. (
-          (λ p q. k .0 (file-same h f nh nf p q)),
-          (λ p q. k .1 (file-same h f oh of p q)),
-          k .2,
-        )),
-        (λ k. (
-          (λ e. let x = same-file h f nh nf e in k .0 (x .0) (x .1)),
-          (λ e. let x = same-file h f oh of e in k .1 (x .0) (x .1)),
-          k .2,
-        )),
-      ),
+      page-asked m h f (8 ≤ n) (n < 72) (PagesKept m n es),
       (subst (λ (k : ℕ). PagesKept m k es) next, subst (λ (k : ℕ). PagesKept m k es) (sym next)),
       ((λ p. p), (λ p. p)),
       tt,

@@ -25,7 +25,7 @@ use Rattle.move_cases.specs.Needed.{PagesWithin, LogLong, AnyOld, AnyNew, Besid
 use Rattle.move_cases.specs.Needed.{stationThere}
 use Rattle.claims_move.specs.Words.{Claim-187, Claim-188}
 use Rattle.claims_move.proofs.MoveCall.{guest-joined}
-use Rattle.claims_move.proofs.Premises.{same-file, file-same, file-other, or-split}
+use Rattle.claims_move.proofs.Premises.{file-same, file-other, or-split, page-asked}
 
 -- ---- calls on other files
 
@@ -262,18 +262,7 @@ claim-187 = (
       let ways = three-ways (onlyReads c) (elsewhere m c) ((c ≡ d) × (1 ≤ n) × (n < 89)) in (
         tt,
         ((λ p. p), (λ p. p)),
-        (
-          (λ k. (
-            (λ p q. k .0 (file-same h f nh nf p q)),
-            (λ p q. k .1 (file-same h f oh of p q)),
-            k .2,
-          )),
-          (λ k. (
-            (λ e. let x = same-file h f nh nf e in k .0 (x .0) (x .1)),
-            (λ e. let x = same-file h f oh of e in k .1 (x .0) (x .1)),
-            k .2,
-          )),
-        ),
+        page-asked m h f (y ≤ n) (n < z) (PagesWithin y z m n es),
         (
           subst (λ (k : ℕ). PagesWithin y z m k es) next,
           subst (λ (k : ℕ). PagesWithin y z m k es) (sym next),

@@ -2,7 +2,7 @@
 -- premises".
 --   fileHaving d t p e   the file with delivery d, threshold t, p as the words of its pending bits and e of
 --                        its enable bits: identity i is bit i mod 32 of word i div 32
---   Stands b old other new t u   b is the board after a reset, but that file 2 of hart 0 is old, file 3 of
+--   Arranged b old other new t u   b is the board after a reset, but that file 2 of hart 0 is old, file 3 of
 --                        hart 0 is other, and file 3 of hart 1 is new; wire 40 is high, and no other; sources
 --                        1 and 40 are delegated to the child, which has IE and DM, and there they are Edge1
 --                        with target t and Level1 with target u, both enabled and neither pending
@@ -34,7 +34,7 @@ fileHaving d t p e = record { delivery = d; threshold = t; pending = p; enable =
 abbrev pub wordsAt : ℕ → ℕ → ℕ → List ℕ
 wordsAt a b c = a ∷ b ∷ (replicate 38 0 ++ (c ∷ replicate 23 0))
 
-pub record Stands (b : Board) (old other new : File) (t u : ℕ) : Type 0 where
+pub record Arranged (b : Board) (old other new : File) (t u : ℕ) : Type 0 where
   pub old-file : theFile (b .files) (5 * 0 + 2) ≡ old
   pub other-file : theFile (b .files) (5 * 0 + 3) ≡ other
   pub new-file : theFile (b .files) (5 * 1 + 3) ≡ new
@@ -59,20 +59,20 @@ pub record Stands (b : Board) (old other new : File) (t u : ℕ) : Type 0 where
       }
 
 -- the files of the shift. The station's enable bits are 5, 7, 8, 9, 70, 100, 130, 201 and 250
-abbrev pub enabled : List ℕ
-enabled = 0x3A0 ∷ 0 ∷ 0x40 ∷ 0x10 ∷ 4 ∷ 0 ∷ 0x200 ∷ 0x4000000 ∷ []
+abbrev pub enabledWords : List ℕ
+enabledWords = 0x3A0 ∷ 0 ∷ 0x40 ∷ 0x10 ∷ 4 ∷ 0 ∷ 0x200 ∷ 0x4000000 ∷ []
 
 -- before the shift 5, 130 and 250 are pending for it
-abbrev pub atStart : File
-atStart = fileHaving 1 200 (0x20 ∷ 0 ∷ 0 ∷ 0 ∷ 4 ∷ 0 ∷ 0 ∷ 0x4000000 ∷ []) enabled
+abbrev pub stationBefore : File
+stationBefore = fileHaving 1 200 (0x20 ∷ 0 ∷ 0 ∷ 0 ∷ 4 ∷ 0 ∷ 0 ∷ 0x4000000 ∷ []) enabledWords
 
 -- after it 3, 4, 5, 7, 8, 9, 10, 70, 100, 130, 201 and 250
-abbrev pub atEnd : File
-atEnd = fileHaving 1 200 (0x7B8 ∷ 0 ∷ 0x40 ∷ 0x10 ∷ 4 ∷ 0 ∷ 0x200 ∷ 0x4000000 ∷ []) enabled
+abbrev pub stationAfter : File
+stationAfter = fileHaving 1 200 (0x7B8 ∷ 0 ∷ 0x40 ∷ 0x10 ∷ 4 ∷ 0 ∷ 0x200 ∷ 0x4000000 ∷ []) enabledWords
 
 -- what is left as old has 3, 5, 7, 8, 70, 130 and 250
 abbrev pub leftOld : File
-leftOld = fileHaving 0 200 (0x1A8 ∷ 0 ∷ 0x40 ∷ 0 ∷ 4 ∷ 0 ∷ 0 ∷ 0x4000000 ∷ []) enabled
+leftOld = fileHaving 0 200 (0x1A8 ∷ 0 ∷ 0x40 ∷ 0 ∷ 4 ∷ 0 ∷ 0 ∷ 0x4000000 ∷ []) enabledWords
 
 -- new holds 6, 66, 131 and 255 before, pending and enabled
 abbrev pub heldBefore : List ℕ
@@ -95,7 +95,7 @@ Claim-111 =
     let new : ℕ → File = λ k. theFile (boardIn (soFar k) .files) (5 * 1 + 3) in
     -- from file 2 of hart 0 to file 3 of hart 1; both sources send to old, identities 7 and 70
     (stations ≡ record { oldHart = 0; oldFile = 2; newHart = 1; newFile = 3 })
-    × Stands (boardIn start) atStart idle before 0x1007 0x1046
+    × Arranged (boardIn start) stationBefore idle before 0x1007 0x1046
     × (start .log ≡ replicate 63 0) × (start .saved ≡ replicate 10 0)
     × (shift
     ≡ access ∷ access ∷ wire 1 1 ∷ access ∷ access ∷ access ∷ access ∷ page 0 2 0 3 ∷ wire 40 0
@@ -107,12 +107,12 @@ Claim-111 =
     ++ (page 1 3 4 0x64000000 ∷ access ∷ page 1 3 0 10 ∷ wire 1 0 ∷ [])))))))))
     × Premises stations (start .block) (start .saved) shift
     -- its end: both sources send to new; without the move old is the station's file, and new is as before
-    × Stands (boardIn (ran (withMove stations 0 shift) start)) leftOld other atEnd 0x42007 0x42046
-    × Stands (boardIn (ran (withoutMove stations shift) start)) atEnd other before 0x1007 0x1046
+    × Arranged (boardIn (ran (withMove stations 0 shift) start)) leftOld other stationAfter 0x42007 0x42046
+    × Arranged (boardIn (ran (withoutMove stations shift) start)) stationAfter other before 0x1007 0x1046
     × (saidWhere isAccess (handing (withMove stations 0 shift) start) (start .block)
     ≡ replicate 89 (record { number = 0; value = 0; count = 0 }))
     -- after access 8 old has 3 and 7 besides, and nothing is pending in new
-    × (old 11 ≡ fileHaving 0 200 (0xA8 ∷ 0 ∷ 0 ∷ 0 ∷ 4 ∷ 0 ∷ 0 ∷ 0x4000000 ∷ []) enabled)
+    × (old 11 ≡ fileHaving 0 200 (0xA8 ∷ 0 ∷ 0 ∷ 0 ∷ 4 ∷ 0 ∷ 0 ∷ 0x4000000 ∷ []) enabledWords)
     × (new 11 ≡ fileHaving 0 9 none heldBefore)
     -- after access 9 the rise of wire 1 sends one message, 7 to new
     × (let o = outcome (Wire 1 1) (soFar 14 .block) (soFar 14 .log) (soFar 14 .saved) in
