@@ -5,6 +5,7 @@ mod block;
 mod board;
 mod calls;
 mod compare;
+mod damage;
 mod delivery;
 mod domain;
 mod draw;
@@ -17,9 +18,12 @@ mod movement;
 mod options;
 mod progress;
 mod random;
+mod reader;
 mod record;
+mod replay;
 mod rules;
 mod run;
+mod shift;
 mod shrink;
 mod sound;
 mod source;
@@ -28,6 +32,7 @@ mod table;
 mod taste;
 mod wired;
 
+use std::io::{self, Read, Write};
 use std::process::ExitCode;
 
 use compare::Counts;
@@ -99,6 +104,35 @@ fn record(calls: u64, options: &Options) -> Result<(), String> {
     Ok(())
 }
 
+/// Writes a record on standard output.
+fn shift(lines: u64, options: &Options) -> Result<(), String> {
+    let record = shift::record(lines, options.seed, options.damaged.unwrap_or(0));
+    let mut to = io::stdout().lock();
+    to.write_all(&record).and_then(|()| to.flush()).map_err(|fault| format!("standard output: {fault}"))
+}
+
+/// Writes the answers to a record on standard output.
+fn replay(name: &str) -> Result<(), String> {
+    let mut record = Vec::new();
+    let read = match name {
+        "-" => io::stdin().read_to_end(&mut record),
+        _ => std::fs::File::open(name).and_then(|mut file| file.read_to_end(&mut record)),
+    };
+    read.map_err(|fault| format!("{name}: {fault}"))?;
+    let to = io::BufWriter::new(io::stdout().lock());
+    replay::run(&record, to).map_err(|fault| format!("standard output: {fault}"))
+}
+
+/// What is asked for, if it is not the comparison.
+fn asked(options: &Options) -> Option<Result<(), String>> {
+    match (options.record, options.shift, &options.replay) {
+        (Some(calls), ..) => Some(record(calls, options)),
+        (_, Some(lines), _) => Some(shift(lines, options)),
+        (.., Some(name)) => Some(replay(name)),
+        _ => None,
+    }
+}
+
 fn main() -> ExitCode {
     let options = match Options::read(std::env::args().skip(1)) {
         Ok(options) => options,
@@ -111,10 +145,10 @@ fn main() -> ExitCode {
         println!("{USAGE}");
         return ExitCode::SUCCESS;
     }
-    let Some(calls) = options.record else { return compare(&options) };
-    match record(calls, &options) {
-        Ok(()) => ExitCode::SUCCESS,
-        Err(fault) => {
+    match asked(&options) {
+        None => compare(&options),
+        Some(Ok(())) => ExitCode::SUCCESS,
+        Some(Err(fault)) => {
             eprintln!("second: {fault}");
             ExitCode::from(2)
         }
