@@ -1,7 +1,7 @@
 # make proves and builds what there is and runs the tests and examples in C; make test is the whole gate; see
 # make help.
 .DEFAULT_GOAL := all
-.PHONY: all test near check compare ctest archives boards audit cases mutants together bench example tools fmt style
+.PHONY: all test near check compare ctest archives boards audit records mutants together bench example tools fmt style
 .PHONY: numbers layers pages change clean help toolchain
 
 # rt check runs each program once it is proved, and compares what it wrote
@@ -42,11 +42,13 @@ boards: toolchain
 audit: archives
 	@scripts/audit $(if $(LOG),--log $(LOG))
 
-# recorded calls and the second program's answers, which crates/cases is run on
-cases: toolchain
+# what the programs cases and replay are run on, and the second program's answers to it
+records: toolchain
 	@scripts/native target/compare
 	@second/build target/compare/libmonitor.a target/compare/second
 	@target/compare/second --record 4000 --seed 1 --cases crates/cases/stdin --answers crates/cases/stdout
+	@target/compare/second --shift 4000 --seed 2 --damaged 20 >crates/replay/stdin
+	@target/compare/second --replay crates/replay/stdin >crates/replay/stdout
 
 # wrong models that the comparison has to tell apart; to be kept: make mutants >second/mutants/seen.txt
 mutants: toolchain
@@ -106,7 +108,7 @@ help:
 	@echo "make boards   run the examples and the recorded cases on these archives, where they can be run"
 	@echo "make audit    write target/audit: pages, claims, sources and pictures for a browser, versions, sums, the verdict;"
 	@echo "              LOG=FILE, the output of a gate, adds what each crate cost"
-	@echo "make cases    have the second program write anew what the program cases is run on"
+	@echo "make records  have the second program write anew what the programs cases and replay are run on"
 	@echo "make mutants  try wrong models: the comparison has to see each"
 	@echo "make together try definitions that are wrong together with their code: a claim has to refuse each; half an hour"
 	@echo "make bench    time every call, and count its instructions, beside plain C with the same promises"

@@ -148,7 +148,7 @@ static void take_line(const char *line, size_t length, uint64_t number)
         show(number, a);
     } else if (!read || !prepare(&f)) {
         print(number, 0);
-        port_write("\t?\n", 3);
+        port_write("\n", 1);
     }
 }
 
