@@ -47,7 +47,7 @@ records: toolchain
 	@scripts/native target/compare
 	@second/build target/compare/libmonitor.a target/compare/second
 	@target/compare/second --record 4000 --seed 1 --cases crates/cases/stdin --answers crates/cases/stdout
-	@target/compare/second --shift 4000 --seed 2 --damaged 20 >crates/replay/stdin
+	@target/compare/second --shift 4000 --seed 2 --damaged 7 >crates/replay/stdin
 	@target/compare/second --replay crates/replay/stdin >crates/replay/stdout
 
 # wrong models that the comparison has to tell apart; to be kept: make mutants >second/mutants/seen.txt

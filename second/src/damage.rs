@@ -146,17 +146,18 @@ fn prefixed(random: &mut Random, mut line: Line, by: &str) -> Vec<u8> {
     line.text()
 }
 
-const NUMBERS: [(Needs, Damage); 11] = [
-    (Needs::Number, |random, line| {
-        let sign = random.pick(&["+", "-"]);
-        prefixed(random, line, sign)
-    }),
+const NUMBERS: [(Needs, Damage); 14] = [
+    (Needs::Number, |random, line| prefixed(random, line, "+")),
+    (Needs::Number, |random, line| prefixed(random, line, "-")),
     (Needs::Number, |random, line| {
         let hex = random.pick(&["0x", "0X", "x", "$", "a"]);
         prefixed(random, line, hex)
     }),
+    // The bytes before and after the digits.
+    (Needs::Number, |random, line| prefixed(random, line, "/")),
+    (Needs::Number, |random, line| prefixed(random, line, ":")),
     (Needs::Number, |random, line| {
-        let odd = ["5/", ":", "1.0", "1e1", "1_0", "1,0", "1u", "1f", "\u{663}", "\u{FF13}", "0b1", "one"];
+        let odd = ["1.0", "1e1", "1_0", "1,0", "1u", "1f", "\u{663}", "\u{FF13}", "0b1", "one"];
         let text = random.pick(&odd);
         renumbered(random, line, text)
     }),
@@ -236,22 +237,31 @@ const NAMES: [(Needs, Damage); 8] = [
     }),
 ];
 
-/// The damages in turn, in another order each time round, so that none is missing.
+/// The names of the calls.
+const CALLS: [&str; 11] = [
+    "reset", "wire", "domain_read", "domain_write", "page_read", "page_write", "register", "top", "claim",
+    "signals", "move",
+];
+
+/// The damages in rounds, each in an order of its own. A round has every damage once, and eleven rounds have it
+/// with every call that fits.
 pub struct Damages {
-    left: Vec<(Needs, Damage)>,
-    rounds: u64,
+    damages: Vec<(Needs, Damage)>,
+    left: Vec<usize>,
+    rounds: usize,
 }
 
 impl Damages {
     pub fn new() -> Damages {
-        Damages { left: Vec::new(), rounds: 0 }
+        let damages = [&LENGTHS[..], &BYTES, &NUMBERS, &NAMES, &[HUGE]].concat();
+        Damages { damages, left: Vec::new(), rounds: 0 }
     }
 
-    /// A round has each damage once; the longest line is in one round of sixteen only.
+    /// The longest line, which is the last damage, is in one round of sixteen only.
     fn refill(&mut self) {
-        self.left = [&LENGTHS[..], &BYTES, &NUMBERS, &NAMES].concat();
-        if self.rounds % 16 == 0 {
-            self.left.push(HUGE);
+        self.left = (0..self.damages.len()).collect();
+        if self.rounds % 16 > 0 {
+            self.left.pop();
         }
         self.rounds += 1;
     }
@@ -262,25 +272,30 @@ impl Damages {
             self.refill();
         }
         let place = random.below(self.left.len() as u64) as usize;
-        let (needs, damage) = self.left.swap_remove(place);
-        let line = Line::of(&fitting(random, taste, needs));
+        let number = self.left.swap_remove(place);
+        let (needs, damage) = self.damages[number];
+        let name = CALLS[(number + self.rounds) % CALLS.len()];
+        let line = Line::of(&fitting(random, taste, needs, name));
         damage(random, line)
     }
 }
 
-/// A call that has what the damage needs. A reset that is read though it cannot be would be seen at once.
-fn fitting(random: &mut Random, taste: &Taste, needs: Needs) -> Call {
-    if needs == Needs::Nothing && random.percent(25) {
-        return Call::Reset;
+/// Whether a call of this name has what a damage needs.
+fn has(name: &str, needs: Needs) -> bool {
+    match needs {
+        Needs::Nothing => true,
+        Needs::Number => name != "reset",
+        Needs::Word => matches!(name, "domain_write" | "page_write"),
     }
+}
+
+/// A call of this name, or of another if it does not have what the damage needs.
+fn fitting(random: &mut Random, taste: &Taste, needs: Needs, name: &str) -> Call {
+    let fits = has(name, needs);
     loop {
         let call = draw::any(random, taste);
-        let fits = match needs {
-            Needs::Nothing => true,
-            Needs::Number => call != Call::Reset,
-            Needs::Word => matches!(call, Call::DomainWrite { .. } | Call::PageWrite { .. }),
-        };
-        if fits {
+        let (drawn, _) = call.fields();
+        if has(drawn, needs) && (drawn == name) == fits {
             return call;
         }
     }

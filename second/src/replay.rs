@@ -29,7 +29,7 @@ impl Replay {
 /// Writes the answers to a record, a line for each of its lines. One that cannot be read changes nothing.
 pub fn run(record: &[u8], mut to: impl Write) -> io::Result<()> {
     let mut replay = Replay { board: Board::at_reset(), saved: Saved::default() };
-    let mut number = 0;
+    let mut number: u64 = 0;
     for line in reader::lines(record) {
         number += 1;
         let fields = match reader::call(line) {
