@@ -144,7 +144,7 @@ static int differs(void)
 
 static void report(const struct call *c, unsigned long n)
 {
-    printf("agree: call %lu differs: ", n);
+    printf("agree: call %lu differs:\n", n);
     print_call(c);
     printf("proved: value 0x%" PRIX64 ", count %" PRIu32 ", refusal %" PRIu32 "\n", answer.value,
            answer.count, answer.refusal);

@@ -211,7 +211,8 @@ static int count(const char *what, const char *side_name, unsigned long n)
 
 static int usage(void)
 {
-    fprintf(stderr, "usage: bench [--quick] [--markdown] | --list | --count WHAT proved|plain|nothing N\n"
+    fprintf(stderr, "usage: bench [--quick] [--markdown] | --list | --count WHAT proved|plain|nothing N |"
+                    " --write-shift\n"
                     "WHAT is a name of --list, or all for each but mixed\n");
     return 2;
 }
@@ -221,6 +222,14 @@ static int list(void)
     for (unsigned k = 0; k < item_count; k++)
         printf("%s\n", items[k].name);
     printf("mixed\n");
+    return 0;
+}
+
+static int write_shift(void)
+{
+    build_record(shift);
+    for (unsigned k = 0; k < RECORD_LINES; k++)
+        print_call(&shift[k]);
     return 0;
 }
 
@@ -255,6 +264,8 @@ int main(int argc, char **argv)
         return 1;
     if (argc == 2 && strcmp(argv[1], "--list") == 0)
         return list();
+    if (argc == 2 && strcmp(argv[1], "--write-shift") == 0)
+        return write_shift();
     if (argc == 5 && strcmp(argv[1], "--count") == 0)
         return count(argv[2], argv[3], strtoul(argv[4], NULL, 10)) ? 0 : usage();
     if (!read_options(argc, argv))

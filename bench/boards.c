@@ -6,24 +6,28 @@
 #include <stdlib.h>
 #include <string.h>
 
-#define BLOCKS l->state, l->state_len, l->log, l->log_len
+/* Where the calls that build a board are noted, if anywhere. */
+static struct call *noted;
 
-static void accepted(vsk_answer a)
+static void build(struct lent *l, struct call c)
 {
+    vsk_answer a = make_proved(l, &c);
     if (a.refusal != VSK_DONE) {
         fprintf(stderr, "bench: a call that builds a board is refused with %u\n", (unsigned)a.refusal);
         exit(1);
     }
+    if (noted)
+        *noted++ = c;
 }
 
 static void put(struct lent *l, uint64_t domain, uint64_t address, uint32_t value)
 {
-    accepted(vsk_domain_write(BLOCKS, domain, address, value));
+    build(l, (struct call){{domain, address, value}, DOMAIN_WRITE});
 }
 
 static void put_file(struct lent *l, uint64_t hart, uint64_t file, uint64_t select, uint64_t value)
 {
-    accepted(vsk_register(BLOCKS, hart, file, VSK_WRITE, select, value));
+    build(l, (struct call){{hart, file, VSK_WRITE, select, value}, REGISTER});
 }
 
 /* Odd sources stay with the machine domain, even ones go to the child. */
@@ -38,7 +42,7 @@ static void add_source(struct lent *l, unsigned i)
     put(l, child, VSK_TARGET(i),
         child ? VSK_TARGET_MESSAGE(hart, i / 8 % 4, 10 + i) : VSK_TARGET_DIRECT(hart, 1 + i % 7));
     put(l, child, VSK_SETIENUM, i);
-    accepted(vsk_wire(BLOCKS, i, i % 5 == 0));
+    build(l, (struct call){{i, i % 5 == 0}, WIRE});
     if (!child)
         put(l, child, VSK_SETIPNUM, i);
 }
@@ -81,7 +85,7 @@ static void use_all_files(struct lent *l)
                 put_file(l, h, f, VSK_EIE(j), UINT64_C(0x5555555555555555));
             }
             if (h != 0)
-                accepted(vsk_page_write(BLOCKS, h, f, VSK_SETEIPNUM_LE, f % 2 == 0 ? 202 : 34));
+                build(l, (struct call){{h, f, VSK_SETEIPNUM_LE, f % 2 == 0 ? 202 : 34}, PAGE_WRITE});
         }
     }
 }
@@ -92,14 +96,38 @@ static void fill_record(struct lent *l)
         l->saved[k] = k < 2 ? 1 : UINT64_C(0x0101010101010101) * k;
 }
 
+static void build_half(struct lent *l)
+{
+    add_sources(l, 20);
+    use_some_files(l);
+}
+
+/* Answers the number of the calls. */
+static unsigned long note_half(struct call *calls)
+{
+    static struct lent l;
+    noted = calls;
+    start_board(&l);
+    build(&l, (struct call){{0}, RESET});
+    build_half(&l);
+    unsigned long n = (unsigned long)(noted - calls);
+    noted = NULL;
+    return n;
+}
+
+void build_record(struct call record[RECORD_LINES])
+{
+    unsigned long n = note_half(record);
+    build_shift(&record[n], RECORD_LINES - n);
+}
+
 void build_boards(struct lent board[BOARDS])
 {
     for (unsigned k = 0; k < BOARDS; k++) {
         start_board(&board[k]);
         fill_record(&board[k]);
     }
-    add_sources(&board[1], 20);
-    use_some_files(&board[1]);
+    build_half(&board[1]);
     add_sources(&board[2], VSK_SOURCES);
     use_all_files(&board[2]);
 }

@@ -49,11 +49,15 @@ void start_board(struct lent *l)
 
 void print_call(const struct call *c)
 {
-    static const char *const name[] = {"reset", "wire", "domain_read", "domain_write", "page_read",
-                                       "page_write", "register", "top", "claim", "signals", "move"};
-    printf("%s", name[c->kind]);
-    for (int k = 0; k < 5; k++)
-        printf(" 0x%" PRIX64, c->number[k]);
+    static const struct {
+        const char *name;
+        int numbers;
+    } call[] = {{"reset", 0},      {"wire", 2},     {"domain_read", 2}, {"domain_write", 3}, {"page_read", 3},
+                {"page_write", 4}, {"register", 5}, {"top", 2},         {"claim", 2},        {"signals", 1},
+                {"move", 5}};
+    printf("%s", call[c->kind].name);
+    for (int k = 0; k < call[c->kind].numbers; k++)
+        printf("\t%" PRIu64, c->number[k]);
     printf("\n");
 }
 

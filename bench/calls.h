@@ -30,7 +30,7 @@ made make_proved, make_plain, make_nothing;
 /* A lent board after a reset, with right lengths and a record of zeros. */
 void start_board(struct lent *l);
 
-/* The line that tells a call. */
+/* The line that tells a call, as in a record: its name and its numbers in decimal, tabs between. */
 void print_call(const struct call *c);
 
 /* The next number of a seeded generator, and one below an end. */
