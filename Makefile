@@ -2,7 +2,7 @@
 # make help.
 .DEFAULT_GOAL := all
 .PHONY: all test near check compare ctest archives boards audit records mutants together bench example tools fmt style
-.PHONY: numbers layers pages change clean help toolchain
+.PHONY: replay numbers layers pages change clean help toolchain
 
 # rt check runs each program once it is proved, and compares what it wrote
 all: check
@@ -62,6 +62,11 @@ together: check
 bench: toolchain
 	@scripts/bench
 
+# the program that scripts/replay runs, for the machine at hand
+replay: toolchain
+	@scripts/native --program replay
+	@echo target/native/replay
+
 # the header against the compiled library, for the machine at hand; without gcc it is skipped, and says so
 ctest: toolchain
 	@scripts/ctest
@@ -112,6 +117,7 @@ help:
 	@echo "make mutants  try wrong models: the comparison has to see each"
 	@echo "make together try definitions that are wrong together with their code: a claim has to refuse each; half an hour"
 	@echo "make bench    time every call, and count its instructions, beside plain C with the same promises"
+	@echo "make replay   compile the program that scripts/replay runs a record of calls by, and print its path"
 	@echo "make ctest    hold the C header to the compiled library: prototypes, tests, programs to be refused"
 	@echo "make example  build the examples in C for this machine, run them, print and compare what they print"
 	@echo "make tools    install what boards needs (Debian, as root): C compilers for RISC-V and the other desk, an emulator"
