@@ -29,8 +29,8 @@ unsigned build_items(const struct lent board[BOARDS], struct item *items);
 void build_shift(struct call *shift, unsigned long calls);
 
 /* The calls of bench/shift.record: a reset, those that build the half board, and the first of the shift, so
- * many that there are RECORD_LINES in all. Left out is what the half board has and no call made, its record of
- * a move: the shift's moves save before they restore. */
+ * many that there are RECORD_LINES in all. Left out is what the half board has and no call made, its record
+ * of a move: the shift's moves save before they restore. */
 void build_record(struct call record[RECORD_LINES]);
 
 #endif
