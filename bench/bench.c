@@ -1,12 +1,11 @@
 /* What do the promises cost: the proved library and plain.c side by side in one run, round after round, with
  * the median of nanoseconds a call. What the loop takes with an empty call is measured too and taken off. */
-#define _POSIX_C_SOURCE 200809L
 #include "boards.h"
+#include "clock.h"
 
 #include <stdio.h>
 #include <stdlib.h>
 #include <string.h>
-#include <time.h>
 
 /* valgrind brings this header; without it bench/count has nothing to read. */
 #if defined(__has_include)
@@ -34,14 +33,6 @@ static volatile uint64_t sink;
 
 /* Nanoseconds a call: of each round and side for an item, and for the shift. */
 static double taken[MAX_ITEMS + 1][SIDES][MAX_ROUNDS];
-
-/* The processor's time of this program: what others run meanwhile does not count. */
-static double now(void)
-{
-    struct timespec t;
-    clock_gettime(CLOCK_PROCESS_CPUTIME_ID, &t);
-    return (double)t.tv_sec * 1e9 + (double)t.tv_nsec;
-}
 
 static void make_calls(int side, const struct item *it, unsigned long n)
 {
@@ -129,18 +120,6 @@ static void measure(void)
         shift_round(r);
 }
 
-static int by_size(const void *a, const void *b)
-{
-    double x = *(const double *)a, y = *(const double *)b;
-    return (x > y) - (x < y);
-}
-
-static double median(double *of, int n)
-{
-    qsort(of, (size_t)n, sizeof *of, by_size);
-    return n % 2 ? of[n / 2] : (of[n / 2 - 1] + of[n / 2]) / 2;
-}
-
 /* Prints a line of the table and answers its ratio. */
 static double print_line(const char *name, double of[SIDES][MAX_ROUNDS], int n)
 {
@@ -189,31 +168,43 @@ static void count_shift(int side, unsigned long n)
     CALLGRIND_DUMP_STATS_AT("mixed");
 }
 
+/* The calls of bench/shift.record, all of them, on a board after a reset. */
+static void count_record(int side)
+{
+    build_record(shift);
+    start_board(&at_work[side]);
+    CALLGRIND_ZERO_STATS;
+    make_shift(side, shift, RECORD_LINES);
+    CALLGRIND_DUMP_STATS_AT("record");
+}
+
 /* Makes N calls of what is named, and answers whether there is such a thing and such a side. */
 static int count(const char *what, const char *side_name, unsigned long n)
 {
     static const char *const names[SIDES] = {"proved", "plain", "nothing"};
-    int side = 0, found = strcmp(what, "mixed") == 0;
+    int side = 0, mixed = strcmp(what, "mixed") == 0, record = strcmp(what, "record") == 0, found = 0;
     while (side < SIDES && strcmp(side_name, names[side]) != 0)
         side++;
     if (side == SIDES)
         return 0;
-    if (found)
+    if (mixed)
         count_shift(side, n);
+    if (record)
+        count_record(side);
     for (unsigned k = 0; k < item_count; k++) {
         if (strcmp(what, "all") != 0 && strcmp(what, items[k].name) != 0)
             continue;
         count_item(side, &items[k], n);
         found = 1;
     }
-    return found;
+    return found || mixed || record;
 }
 
 static int usage(void)
 {
     fprintf(stderr, "usage: bench [--quick] [--markdown] | --list | --count WHAT proved|plain|nothing N |"
                     " --write-shift\n"
-                    "WHAT is a name of --list, or all for each but mixed\n");
+                    "WHAT is a name of --list, all for each but mixed, or record for what --write-shift writes\n");
     return 2;
 }
 
