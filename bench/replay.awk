@@ -14,7 +14,7 @@ function head(    form) {
     form = markdown ? "| %s | %s | %s | %s | %s | %s | %s |\n" : "%-28s %9s %9s %7s %9s %9s %7s\n"
     if (markdown) printf form, "a line", "ns", "plain", "ratio", "instructions", "plain", "ratio"
     else printf form, "a line", "proved ns", "plain ns", "ratio", "proved", "plain", "ratio"
-    if (markdown) printf form, "---", "---:", "---:", "---:", "---:", "---:", "---:"
+    if (markdown) print "|---|---:|---:|---:|---:|---:|---:|"
 }
 END {
     head()
