@@ -1,0 +1,2 @@
+-- Numbers as a line of text. Assumes nothing.
+pub mod Shown

@@ -1,0 +1,2 @@
+-- What a line says. Assumes nothing.
+pub mod Table

@@ -1,0 +1,2 @@
+-- The fields of a line. Assumes nothing.
+pub mod Fields

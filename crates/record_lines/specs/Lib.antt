@@ -1,0 +1,3 @@
+-- Lines out of bytes. Assumes nothing.
+pub mod Parted
+pub mod Lines

@@ -1,0 +1,2 @@
+-- Decimal numbers. Assumes nothing.
+pub mod Decimal

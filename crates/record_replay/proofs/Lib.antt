@@ -1,0 +1,2 @@
+-- The laws of pieces, and the proofs of the functions. Assumes nothing.
+pub mod PiecesLaws

@@ -1,0 +1,2 @@
+-- A run by pieces. Assumes nothing.
+pub mod Pieces

@@ -1,0 +1,2 @@
+-- A record that is run. Assumes nothing.
+pub mod Replay

@@ -1,0 +1,1 @@
+// No code: what a record does, run line by line and by pieces.
