@@ -1,5 +1,5 @@
 // The lines of a piece of bytes, run and answered.
-ghost use Prim.Native.Nat.{_+_, _≤_, _<_, _^_};
+ghost use Prim.Native.Nat.{_+_, _-_, _≤_, _<_, _^_};
 ghost use mathlib.Core.Path.{_≡_};
 ghost use mathlib.Core.List.{[]};
 ghost use lib.ListN.{length, take};
@@ -76,7 +76,7 @@ pub fn some(
     from: Run,
 ) -> Run
     requires { ⌜ (Roomy (now log) (now line) (from .held)) × (answerRoom ≤ length (now out))
-        × (from .at ≤ length (now chunk)) × (from .number + length (now chunk) < 2 ^ 64) ⌝ }
+        × (from .at ≤ length (now chunk)) × (from .number + (length (now chunk) - from .at) < 2 ^ 64) ⌝ }
     ensures { λ r. ⌜ Went (now (chunk .entry)) (from .at)
         (heldAt (now (state .entry)) (now (log .entry)) (now (saved .entry)) (now (line .entry)) (from .held)
         (from .number))

@@ -1,18 +1,21 @@
 -- A run by pieces: two pieces do what both together do. Assumes nothing.
 use Prim.Native.Nat.{ℕ, suc, _+_}
 use mathlib.Core.Path.{_≡_, refl, sym, ap, ap₂, _∙_}
-use mathlib.Core.List.{List, [], _∷_, _++_}
+use mathlib.Core.Logic.{_≢_}
+use mathlib.Core.List.{List, [], _∷_, _++_, map}
 use native.Mathlib.Omega.{arith}
 use native.Mathlib.Nat.{suc-add, add-zero}
 use lib.ListN.{length, length-append}
 use Rattle.record_lines.specs.Parted.{endedBy, restBy}
-use Rattle.record_lines.specs.Lines.{lineFeed, kept}
+use Rattle.record_lines.specs.Lines.{lineFeed, kept, lastOf}
 use Rattle.record_lines.proofs.PartedLaws.{rest-append}
 use Rattle.record_call.specs.declared.Line.{Line}
+use Rattle.record_call.specs.Table.{lineOf}
 use Rattle.board_runs.specs.Runs.{Lent, ran}
 use Rattle.board_runs.proofs.RunsEffects.{ran-append}
-use Rattle.record_runs.specs.Replay.{Held, saidAfter, callsIn, answersFrom, goneOn, printedBy}
+use Rattle.record_runs.specs.Replay.{Held, saidAfter, callsIn, answersFrom, passedOn, goneOn, printedBy}
 use Rattle.record_runs.proofs.SaidLaws.{said-append, said-same, rest-same, calls-append, answers-append}
+use Rattle.record_runs.proofs.SaidLaws.{ran-line}
 use Rattle.record_lines.proofs.LinesLaws.{kept-kept}
 
 pub held-same : {l l′ : List ℕ} {n n′ : ℕ} {x x′ : Lent} → l ≡ l′ → n ≡ n′ → x ≡ x′ →
@@ -71,3 +74,16 @@ gone-none h whole = held-same whole (add-zero (h .number)) refl
 pub printed-none : (h : Held) → printedBy [] h ≡ []
 unfolding printedBy saidAfter endedBy answersFrom
 printed-none h = refl
+
+-- ---- the last line, which has no end
+
+pub last-none : (l : List ℕ) (x : Lent) → length l ≡ 0 → x ≡ ran (callsIn (map lineOf (lastOf l))) x
+unfolding lastOf callsIn ran
+last-none [] x e = refl
+last-none (b ∷ bs) x e = absurd (omega (arith, e))
+
+pub last-some : (l : List ℕ) (x : Lent) → length l ≢ 0 →
+    passedOn (lineOf l) x ≡ ran (callsIn (map lineOf (lastOf l))) x
+unfolding lastOf callsIn ran
+last-some [] x n = absurd (n refl)
+last-some (b ∷ bs) x n = sym (ran-line (lineOf (b ∷ bs)) [] x)

@@ -1,0 +1,2 @@
+-- The proofs of the functions of the program. Assumes nothing.
+pub mod TurnLaws
