@@ -3,3 +3,4 @@ pub mod KeptEffects
 pub mod RunsEffects
 pub mod ReadingEffects
 pub mod MadeEffects
+pub mod StartEffects

@@ -3,11 +3,14 @@
 --   Ready x          650 words of a board that is Fit, a log of 63 words, and saved numbers of 64 bits
 --   boardIn x        that board
 --   AllSmall cs      each of the calls cs has a value of 64 bits at most
+--   atReset          what a run from reset is lent first: the block of a reset, a log of zeros, saved numbers of
+--                    zeros
 use mathlib.Core.Path.{_≡_}
 use mathlib.Core.List.{List, [], _∷_}
-use lib.ListN.{length}
-use Rattle.sizes.specs.Sizes.{blockSize, logSize}
-use Rattle.board_block.specs.Block.{Board, boardOf}
+use lib.ListN.{length, replicate}
+use Rattle.sizes.specs.Sizes.{blockSize, logSize, savedSize}
+use Rattle.board_block.specs.Block.{Board, boardOf, blockOf}
+use Rattle.board_block.specs.Start.{startBoard}
 use Rattle.board_call.specs.declared.Call.{Call}
 use Rattle.board_call_laws.specs.Fit.{Fit, SavedFit}
 use Rattle.board_call_laws.specs.Small.{Small}
@@ -25,3 +28,6 @@ pub record Ready (x : Lent) : Type 0 where
 abbrev pub AllSmall : List Call → Type 0
 AllSmall [] = Unit {0}
 AllSmall (c ∷ cs) = Small c × AllSmall cs
+
+abbrev pub atReset : Lent
+atReset = record { block = blockOf startBoard; log = replicate logSize 0; saved = replicate savedSize 0 }

@@ -34,6 +34,7 @@ use Rattle.board_call.proofs.RefusalLaws.{blocks-sound, blocks-untested, refuse
 use Rattle.board_call.specs.Outcome.{Outcome, outcome}
 use Rattle.board_call_laws.proofs.OutcomeEffects.{outcome-done}
 use Rattle.board_call_laws.proofs.StepEffects.{step-reset, step-domainRead}
+use Rattle.board_runs.proofs.StartEffects.{reset-left}
 use Rattle.claims_board.specs.Start.{FileAtStart, DomainAtStart, Claim-160}
 
 -- ---- a list of zeros
@@ -99,18 +100,6 @@ domaincfg-reads false = refl
 -- ---- the call
 
 module _ (l g s : List ℕ) (long : length l ≡ 650) (full : length g ≡ 63) where
-  reset-done : refusalOf Reset l g ≡ 0
-  unfolding rowOf
-  reset-done =
-      refused-numbers (rowOf Reset .tests) l g (blocks-untested (testsRules Reset) l g long full refl)
-      ∙ numbers-name (rowOf Reset .tests) (boardOf l) refl refl refl
-
-  abbrev left : Outcome
-  left = record { number = 0; value = 0; count = 0; block = blockOf startBoard; log = g; saved = s }
-
-  reset-left : outcome Reset l g s ≡ left
-  reset-left = outcome-done Reset l g s reset-done ∙ rw (step-reset (boardOf l) s, logged-none g)
-
   next-refusal : (c : Call) → refusalOf c (blockOf startBoard) g ≡ nameRefusal c startBoard
   next-refusal c =
       let back = board-back startBoard start-shaped in

@@ -63,10 +63,11 @@ use Rattle.board_call_laws.specs.Small.{Small}
 use Rattle.board_call_laws.proofs.FitEffects.{fit-start}
 use Rattle.board_call_laws.proofs.OutcomeEffects.{outcome-refused, outcome-done}
 use Rattle.board_runs.specs.Runs.{Lent, outcomeOn, after, ran}
-use Rattle.board_runs.specs.Ready.{boardIn, Ready, AllSmall}
+use Rattle.board_runs.specs.Ready.{boardIn, Ready, AllSmall, atReset}
+use Rattle.board_runs.proofs.StartEffects.{ready-reset}
 use Rattle.board_runs.proofs.RunsEffects.{after-refused, ready-refusal, after-done, after-board, after-saved}
 use Rattle.board_runs.proofs.RunsEffects.{ready-after, ready-ran}
-use Rattle.claims_cases.specs.Runs.{atStart, answered, fiveAndNineAt, detached, delegated, Claim-163}
+use Rattle.claims_cases.specs.Runs.{answered, fiveAndNineAt, detached, delegated, Claim-163}
 
 pub record Held : Type 0 where
   pub board : Board
@@ -150,30 +151,17 @@ board-run (c ∷ cs) x ready small =
 
 -- ---- from the start
 
-start-ready : Ready atStart
-start-ready =
-    record {
-      long = length-blockOf startBoard start-shaped;
-      full = refl;
-      fit = subst Fit (sym (board-back startBoard start-shaped)) fit-start;
-      saved = λ k. at k (decLt k 10);
-    }
-  where
-    at : (k : ℕ) → Dec (k < 10) → getD {A = ℕ} (replicate 10 0) k 0 < 2 ^ 64
-    at k (yes l) = rw (getD-replicate {A = ℕ} 10 k 0 0 l) (omega arith)
-    at k (no l) = rw (List·getD-eq-default {A = ℕ} (replicate 10 0) 0 {n = k} (omega arith)) (omega arith)
-
 abbrev fresh : Held
 fresh = record { board = startBoard; log = replicate 63 0; saved = replicate 10 0 }
 
-start-held : heldBy atStart ≡ fresh
+start-held : heldBy atReset ≡ fresh
 start-held = ap (λ (b : Board). record { board = b; log = replicate 63 0; saved = replicate 10 0 })
     (board-back startBoard start-shaped)
 
 answers : (cs : List Call) (c : Call) → AllSmall cs → answered cs c ≡ answersOn c (boardRun cs fresh)
 answers cs c small =
-    answers-on c (ran cs atStart) (ready-ran cs atStart start-ready small)
-    ∙ ap (answersOn c) (board-run cs atStart start-ready small ∙ ap (boardRun cs) start-held)
+    answers-on c (ran cs atReset) (ready-ran cs atReset ready-reset small)
+    ∙ ap (answersOn c) (board-run cs atReset ready-reset small ∙ ap (boardRun cs) start-held)
 
 -- T4: the page write leaves what it was lent
 abbrev write : Call
@@ -188,14 +176,14 @@ same : step write startBoard (replicate 10 0)
 unfolding answersOn
 same = refl
 
-named : nameRefusal write (boardIn atStart) ≡ 0
+named : nameRefusal write (boardIn atReset) ≡ 0
 unfolding answersOn
 named = refl
 
-nothing : ran (write ∷ []) atStart ≡ atStart
+nothing : ran (write ∷ []) atReset ≡ atReset
 unfolding ran logged
 nothing =
-    after-done write atStart start-ready named
+    after-done write atReset ready-reset named
     ∙ ap (λ (b : Board). left (step write b (replicate 10 0))) (board-back startBoard start-shaped)
     ∙ ap left same
 

@@ -1,6 +1,5 @@
 -- Claim 163: the table cases of the paper, T1 to T11, by whole calls: what the last call of a run answers, on
 -- the block after a reset. 01, "Table cases", "Calls and their refusals".
---   atStart           the block after a reset, a log of 63 zeros and ten as the saved numbers
 --   answered cs c     what the call c answers after the calls cs: refusal, value, count, and then the first
 --                     word of the log
 --   fiveAndNineAt t   identities 5 and 9 enabled and sent to guest file 1 of hart 0, and its threshold t
@@ -10,20 +9,16 @@
 use Prim.Native.Nat.{ℕ, _+_, _*_}
 use mathlib.Core.Path.{_≡_}
 use mathlib.Core.List.{List, [], _∷_, _++_}
-use lib.ListN.{getD, replicate}
-use Rattle.board_block.specs.Block.{blockOf}
-use Rattle.board_block.specs.Start.{startBoard}
+use lib.ListN.{getD}
 use Rattle.board_call.specs.declared.Call.{Call}
 use Rattle.board_call.specs.declared.Call.the-variants.{DomainRead, DomainWrite, PageWrite, Register, Top}
 use Rattle.board_call.specs.Outcome.{outcome}
-use Rattle.board_runs.specs.Runs.{Lent, ran}
-
-abbrev pub atStart : Lent
-atStart = record { block = blockOf startBoard; log = replicate 63 0; saved = replicate 10 0 }
+use Rattle.board_runs.specs.Runs.{ran}
+use Rattle.board_runs.specs.Ready.{atReset}
 
 abbrev pub answered : List Call → Call → List ℕ
 answered cs c =
-    let x = ran cs atStart in
+    let x = ran cs atReset in
     let o = outcome c (x .block) (x .log) (x .saved) in
     o .number ∷ o .value ∷ o .count ∷ getD (o .log) 0 0 ∷ []
 
@@ -52,7 +47,7 @@ Claim-163 =
     × (answered (fiveAndNineAt 5) (Top 0 2) ≡ 0 ∷ 0 ∷ 0 ∷ 0 ∷ [])
     × (answered (fiveAndNineAt 6) (Top 0 2) ≡ 0 ∷ 0x00050005 ∷ 0 ∷ 0 ∷ [])
     -- T4
-    × (ran (PageWrite 0 2 0 256 ∷ []) atStart ≡ atStart)
+    × (ran (PageWrite 0 2 0 256 ∷ []) atReset ≡ atReset)
     -- T5
     × (answered (PageWrite 0 2 4 0x05000000 ∷ []) (Register 0 2 0 0x80 0) ≡ 0 ∷ 0x20 ∷ 0 ∷ 0 ∷ [])
     -- T6, T7

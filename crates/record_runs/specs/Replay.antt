@@ -6,23 +6,19 @@
 --                        with the messages; of a line that cannot be read its number alone
 --   passedOn s x           what is lent to the next line
 --   answersFrom n ss x   the bytes that the lines ss are answered by, if the first has the number n
---   atReset              what is lent to the first line: the block of a reset, a log and a move's numbers of zeros
 --   Held                 where a run is: what is kept of the line that has not ended, how many lines have, and what
 --                        is lent to the next
 --   goneOn bs h          where the run h is with the bytes bs more
 --   printedBy bs h       what it has then printed
 use Prim.Native.Nat.{ℕ, suc, _+_}
 use mathlib.Core.List.{List, [], _∷_, _++_, map}
-use lib.ListN.{length, take, replicate}
-use Rattle.sizes.specs.Sizes.{logSize, savedSize}
+use lib.ListN.{length, take}
 use Rattle.record_lines.specs.Parted.{endedBy, restBy}
 use Rattle.record_lines.specs.Lines.{lineFeed, kept, linesOf}
 use Rattle.record_call.specs.declared.Line.{Line}
 use Rattle.record_call.specs.declared.Line.the-variants as lines
 use Rattle.record_call.specs.Table.{lineOf}
 use Rattle.record_answer.specs.Shown.{lineShown}
-use Rattle.board_block.specs.Block.{blockOf}
-use Rattle.board_block.specs.Start.{startBoard}
 use Rattle.board_call.specs.declared.Call.{Call}
 use Rattle.board_call.specs.Outcome.{Outcome}
 use Rattle.board_runs.specs.Runs.{Lent, outcomeOn, after, ran}
@@ -57,9 +53,6 @@ passedOn lines.Unreadable x = x
 unfoldable pub answersFrom : ℕ → List Line → Lent → List ℕ
 answersFrom n [] x = []
 answersFrom n (s ∷ ss) x = answerTo n s x ++ answersFrom (suc n) ss (passedOn s x)
-
-abbrev pub atReset : Lent
-atReset = record { block = blockOf startBoard; log = replicate logSize 0; saved = replicate savedSize 0 }
 
 -- ---- a run, by pieces
 

@@ -1,0 +1,1 @@
+// No code: the claims on records of calls, numbered, written out and proved from the crates below.
