@@ -7,5 +7,25 @@ use Rattle.record_call.specs.Table.{table, sameBytes, callIn, lineOf}
 use Rattle.claims_record.specs.Examples.{Claim-202}
 
 pub claim-202 : Claim-202
-unfolding Claim-202 lineOf callIn table sameBytes numbersOf areNumbers textsOf nameOf fieldsOf restBy endedBy isNumber valueOnto allDigits
-claim-202 = (refl, refl, refl, refl, refl, refl, refl, refl, refl, refl, refl, refl, refl, refl, refl, refl)
+unfolding Claim-202 lineOf callIn table sameBytes numbersOf areNumbers textsOf nameOf fieldsOf restBy endedBy
+    isNumber valueOnto allDigits
+claim-202 = (
+  refl,
+  refl,
+  refl,
+  refl,
+  refl,
+  refl,
+  refl,
+  refl,
+  refl,
+  refl,
+  refl,
+  refl,
+  refl,
+  refl,
+  refl,
+  refl,
+  refl,
+  refl,
+)
