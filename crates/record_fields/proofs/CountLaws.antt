@@ -1,12 +1,11 @@
 -- How many numbers there are, in each case. Assumes nothing.
 use Prim.Native.Nat.{ℕ, suc, _≤_, _<_}
-use mathlib.Core.Path.{_≡_, refl, sym, ap, _∙_}
-use mathlib.Core.Bool.{Bool, true, false, cond, _&&_}
-use mathlib.Core.List.{List, map}
+use mathlib.Core.Path.{_≡_, sym, _∙_}
+use mathlib.Core.Bool.{true, false, and-false}
+use mathlib.Core.List.{List}
 use native.Mathlib.Omega.{arith}
 use native.Mathlib.Decide.{decLt}
 use borrow.Author.Tests.{le-leb, lt-leb}
-use lib.Dec.{leb}
 use lib.ListN.{length, length-map}
 use Rattle.words.proofs.TestsLaws.{tested}
 use Rattle.record_numbers.specs.Decimal.{valueOf}
@@ -25,9 +24,13 @@ module _ (ts : List (List ℕ)) where
   unfolding countOf
   count-bad e = rw e
 
-  pub count-many : areNumbers ts ≡ true → mostNumbers < length ts → countOf ts ≡ suc mostNumbers
+  -- whether they are numbers or not
+  pub count-over : mostNumbers < length ts → countOf ts ≡ suc mostNumbers
   unfolding countOf
-  count-many e lt = rw (e, lt-leb (length ts) mostNumbers lt)
+  count-over lt = simp (lt-leb (length ts) mostNumbers lt, and-false)
+
+  pub count-many : areNumbers ts ≡ true → mostNumbers < length ts → countOf ts ≡ suc mostNumbers
+  count-many e lt = count-over lt
 
   -- a count that some call may have counts them
   pub count-length : countOf ts ≤ mostNumbers → length (numbersOf ts) ≡ countOf ts

@@ -1,74 +1,50 @@
--- The fields of a line, found one after the other: each ends where a tab is found, or the line ends. Assumes
--- nothing.
-use Prim.Native.Nat.{ℕ, zero, suc, _+_, _-_, _≤_, _<_}
-use mathlib.Core.Path.{_≡_, refl, sym, ap, subst, _∙_}
-use mathlib.Core.Bool.{Bool, true, false, cond}
-use mathlib.Core.List.{List, [], _∷_, _++_, append-nil, append-assoc}
+-- The fields of a line, found one after the other: each ends where a tab is found, or the line ends.
+-- Assumes nothing.
+use Prim.Native.Nat.{ℕ, suc, _+_, _-_, _<_}
+use mathlib.Core.Path.{_≡_, sym, ap, _∙_}
+use mathlib.Core.Bool.{Bool, cond}
+use mathlib.Core.List.{List, [], _∷_}
 use native.Mathlib.Omega.{arith}
 use native.Mathlib.Nat.{add-suc, zero-add}
 use native.Mathlib.Numerals.{add-one}
 use borrow.Author.Tests.{lt-ltb, ltb-true}
-use lib.Dec.{eqb, leb, ltb, leb·suc-suc, leb·zero}
+use lib.Dec.{ltb}
 use lib.ListN.{length, take, drop, length-drop}
 use lib.Seq.{take-length, drop-drop}
 use Rattle.words.proofs.TestsLaws.{same-truth}
-use Rattle.bytes.specs.Bytes.{indexOf, indexAfter, slice}
-use Rattle.record_lines.specs.Parted.{endedBy, restBy}
+use Rattle.bytes.specs.Bytes.{indexOf, slice}
+use Rattle.record_lines.proofs.FirstLaws.{parts-first}
 use Rattle.record_fields.specs.Fields.{tab, fieldsOf, firstOf, othersOf, nameOf, textsOf}
 
 -- the fields that stand behind the byte at place k of l
 abbrev pub textsAfter : List ℕ → ℕ → List (List ℕ)
 textsAfter l k = cond (ltb k (length l)) (fieldsOf (drop (suc k) l)) []
 
-abbrev fieldsFrom : List ℕ → List ℕ → List (List ℕ)
-fieldsFrom p xs = endedBy tab p xs ++ (restBy tab p xs ∷ [])
-
-first-at : (p : List ℕ) (x : ℕ) (xs : List ℕ) (t : Bool) →
-    ((q : List ℕ) → fieldsFrom q xs ≡ (q ++ take (indexOf tab xs) xs) ∷ textsAfter xs (indexOf tab xs)) →
-    cond t (p ∷ endedBy tab [] xs) (endedBy tab (p ++ (x ∷ [])) xs)
-    ++ (cond t (restBy tab [] xs) (restBy tab (p ++ (x ∷ [])) xs) ∷ [])
-    ≡ (p ++ take (indexAfter t (indexOf tab xs)) (x ∷ xs)) ∷ textsAfter (x ∷ xs) (indexAfter t (indexOf tab xs))
-unfolding indexAfter fieldsOf
-first-at p x xs true more =
-    ap (λ (q : List ℕ). q ∷ fieldsFrom [] xs) (sym (append-nil p))
-    ∙ ap (λ (t : Bool). (p ++ []) ∷ cond t (fieldsFrom [] xs) [])
-    (sym (leb·suc-suc zero (length xs) ∙ leb·zero (length xs)))
-first-at p x xs false more =
-    more (p ++ (x ∷ []))
-    ∙ ap (λ (q : List ℕ). q ∷ textsAfter xs (indexOf tab xs)) (append-assoc p (x ∷ []) (take (indexOf tab xs) xs))
-    ∙ ap (λ (t : Bool). (p ++ take (suc (indexOf tab xs)) (x ∷ xs))
-    ∷ cond t (fieldsFrom [] (drop (suc (indexOf tab xs)) xs)) [])
-    (sym (leb·suc-suc (suc (indexOf tab xs)) (length xs)))
-
-fields-first : (xs p : List ℕ) →
-    fieldsFrom p xs ≡ (p ++ take (indexOf tab xs) xs) ∷ textsAfter xs (indexOf tab xs)
-unfolding endedBy restBy indexOf
-fields-first [] p = ap (λ (q : List ℕ). q ∷ []) (sym (append-nil p))
-fields-first (x ∷ xs) p = first-at p x xs (eqb x tab) (fields-first xs)
-
 -- what stands behind a byte of the rest of l stands behind that byte of l
 after-drop : (l : List ℕ) (j n : ℕ) → textsAfter (drop j l) n ≡ textsAfter l (j + n)
-unfolding fieldsOf
 after-drop l j n =
-    ap (λ (ys : List ℕ). cond (ltb n (length (drop j l))) (fieldsFrom [] ys) []) shifted
-    ∙ ap (λ (t : Bool). cond t (fieldsFrom [] (drop (suc (j + n)) l)) []) same
+    ap (λ (ys : List ℕ). cond (ltb n (length (drop j l))) (fieldsOf ys) []) shifted
+    ∙ ap (λ (t : Bool). cond t (fieldsOf (drop (suc (j + n)) l)) []) same
   where
     shifted : drop (suc n) (drop j l) ≡ drop (suc (j + n)) l
     shifted = drop-drop (suc n) j l ∙ ap (λ (k : ℕ). drop k l) (add-suc j n)
 
     same : ltb n (length (drop j l)) ≡ ltb (j + n) (length l)
-    same = same-truth _ _ (λ e. lt-ltb (j + n) (length l) (omega (arith, ltb-true n (length (drop j l)) e, length-drop j l)))
-        (λ e. lt-ltb n (length (drop j l)) (omega (arith, ltb-true (j + n) (length l) e, length-drop j l)))
+    same =
+        let rest = length (drop j l) in
+        same-truth _ _
+        (λ e. lt-ltb (j + n) (length l) (omega (arith, ltb-true n rest e, length-drop j l)))
+        (λ e. lt-ltb n rest (omega (arith, ltb-true (j + n) (length l) e, length-drop j l)))
 
 -- ---- a line
 
 pub name-first : (l : List ℕ) → take (indexOf tab l) l ≡ nameOf l
 unfolding nameOf fieldsOf
-name-first l = sym (ap firstOf (fields-first l []))
+name-first l = sym (ap firstOf (parts-first tab l []))
 
 pub texts-first : (l : List ℕ) → textsOf l ≡ textsAfter l (indexOf tab l)
 unfolding textsOf fieldsOf
-texts-first l = ap othersOf (fields-first l [])
+texts-first l = ap othersOf (parts-first tab l [])
 
 -- the next field, and those behind it
 pub texts-next : (l : List ℕ) (k : ℕ) → k < length l →
@@ -78,8 +54,8 @@ unfolding fieldsOf
 texts-next l k h =
     let xs : List ℕ = drop (suc k) l in
     let n : ℕ = indexOf tab xs in
-    ap (λ (t : Bool). cond t (fieldsFrom [] xs) []) (lt-ltb k (length l) h)
-    ∙ fields-first xs []
+    ap (λ (t : Bool). cond t (fieldsOf xs) []) (lt-ltb k (length l) h)
+    ∙ parts-first tab xs []
     ∙ ap (λ (ts : List (List ℕ)). take n xs ∷ ts) (after-drop l (suc k) n)
 
 -- ---- as the code finds them

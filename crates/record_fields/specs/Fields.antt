@@ -5,7 +5,8 @@
 --   areNumbers ts       each of the fields ts is a number
 --   numbersOf ts        these numbers
 --   mostNumbers         more numbers than these no call has
---   countOf ts          how many numbers the fields ts are; one more than these if they are not numbers, or more
+--   countOf ts          how many numbers the fields ts are; one more than mostNumbers if they are more, or if
+--                       one of them is no number
 use Prim.Native.Nat.{ℕ, suc}
 use mathlib.Core.Bool.{Bool, true, cond, _&&_}
 use mathlib.Core.List.{List, [], _∷_, _++_, map}

@@ -12,7 +12,8 @@ module _ (xs l : List ℕ) (f had n : ℕ) (there : f + n ≤ length xs) (room :
   pub copied-length : i ≤ n → length line ≡ length l
   copied-length le =
       ap length so-far
-      ∙ length-paste l had (drop f xs) i (omega (arith, le, room)) (omega (arith, le, there, length-drop f xs))
+      ∙ length-paste l had (drop f xs) i (omega (arith, le, room))
+      (omega (arith, le, there, length-drop f xs))
 
   pub copied-more : i < n → set line (had + i) (getD xs (f + i) 0) ≡ paste l had (drop f xs) (i + 1)
   copied-more lt =

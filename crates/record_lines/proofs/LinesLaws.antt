@@ -1,16 +1,15 @@
 -- What is kept of a line that grows, and a cut at the first end of a line. Assumes nothing.
-use Prim.Native.Nat.{ℕ, zero, suc, _+_, _-_, _≤_, _<_, min}
-use mathlib.Core.Path.{_≡_, refl, sym, ap, subst, _∙_}
-use mathlib.Core.Bool.{Bool, true, false, cond}
+use Prim.Native.Nat.{ℕ, suc, _+_, _-_, _≤_, _<_, min}
+use mathlib.Core.Path.{_≡_, refl, sym, ap, _∙_}
+use mathlib.Core.Bool.{Bool, true, false}
 use mathlib.Core.List.{List, [], _∷_, _++_, append-nil, append-assoc}
 use native.Mathlib.Omega.{arith}
 use native.Mathlib.Decide.{decLt}
 use lib.Dec.{eqb}
-use lib.ListN.{length, getD, take, drop, length-take, length-append, length-drop}
+use lib.ListN.{length, getD, take, drop, length-take, length-drop}
 use lib.Seq.{slice, take-all, take-append-le, take-append-add, take-take, paste, take-paste, length-take-le}
 use lib.Seq.{take-length, take-add, drop-at, getD-drop}
 use borrow.Author.Tests.{eqb-true}
-use Rattle.words.proofs.TestsLaws.{tested}
 use Rattle.bytes.specs.Bytes.{indexOf, indexAfter}
 use Rattle.bytes.specs.Bytes.{slice as stretch}
 use Rattle.record_lines.specs.Parted.{endedBy, restBy}
@@ -79,10 +78,10 @@ module _ (b : ℕ) where
     where
       at : (t : Bool) → eqb x b ≡ t →
           restBy b (p ++ (x ∷ [])) (take (indexOf b xs) xs) ≡ (p ++ (x ∷ [])) ++ take (indexOf b xs) xs →
-          restBy b p (take (indexAfter t (indexOf b xs)) (x ∷ xs)) ≡ p ++ take (indexAfter t (indexOf b xs)) (x ∷ xs)
+          restBy b p (take (indexAfter t (indexOf b xs)) (x ∷ xs))
+          ≡ p ++ take (indexAfter t (indexOf b xs)) (x ∷ xs)
       at true e more = sym (append-nil p)
-      at false e more =
-          rw e (more ∙ append-assoc p (x ∷ []) (take (indexOf b xs) xs))
+      at false e more = rw e (more ∙ append-assoc p (x ∷ []) (take (indexOf b xs) xs))
 
   -- and there it is, if there is one
   pub first-there : (xs : List ℕ) → indexOf b xs < length xs → getD xs (indexOf b xs) 0 ≡ b

@@ -1,5 +1,5 @@
 -- Bytes that come in two pieces are parted as the whole is. Assumes nothing.
-use Prim.Native.Nat.{ℕ, suc, _+_, _≤_, _<_}
+use Prim.Native.Nat.{ℕ, suc, _≤_, _<_}
 use mathlib.Core.Path.{_≡_, refl, sym, ap, _∙_}
 use mathlib.Core.Bool.{Bool, true, false, cond}
 use mathlib.Core.List.{List, [], _∷_, _++_}
@@ -36,15 +36,7 @@ module _ (b : ℕ) where
   rest-append [] ys p = refl
   rest-append (x ∷ xs) ys p = rest-at p x xs ys (eqb x b) (rest-append xs ys)
 
-  -- one byte
-  pub ended-other : (p : List ℕ) (x : ℕ) → eqb x b ≡ false → endedBy b p (x ∷ []) ≡ []
-  unfolding endedBy
-  ended-other p x e = rw e
-
-  pub rest-other : (p : List ℕ) (x : ℕ) → eqb x b ≡ false → restBy b p (x ∷ []) ≡ p ++ (x ∷ [])
-  unfolding restBy
-  rest-other p x e = rw e
-
+  -- one byte, the end of a part
   pub ended-end : (p : List ℕ) (x : ℕ) → eqb x b ≡ true → endedBy b p (x ∷ []) ≡ p ∷ []
   unfolding endedBy
   ended-end p x e = rw e
@@ -59,7 +51,8 @@ module _ (b : ℕ) where
   ended-le [] p = omega arith
   ended-le (x ∷ xs) p = at (eqb x b) (ended-le xs [], ended-le xs (p ++ (x ∷ [])))
     where
-      at : (t : Bool) → (length (endedBy b [] xs) ≤ length xs) × (length (endedBy b (p ++ (x ∷ [])) xs) ≤ length xs) →
+      at : (t : Bool) →
+          (length (endedBy b [] xs) ≤ length xs) × (length (endedBy b (p ++ (x ∷ [])) xs) ≤ length xs) →
           length (cond t (p ∷ endedBy b [] xs) (endedBy b (p ++ (x ∷ [])) xs)) ≤ suc (length xs)
       at true h = omega (arith, h .0)
       at false h = omega (arith, h .1)

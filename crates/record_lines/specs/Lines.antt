@@ -5,7 +5,7 @@
 --   kept p           these bytes of the line p
 --   lastOf p         the line p, which has no end: none if it has no byte
 --   linesOf bs       the lines of bs
---   CutAt xs f p e q the bytes of xs from f to e, behind p, end no line, and q is what is kept of the line then
+--   CutAt xs f p e q the bytes of xs from f to e, behind p, end no line; q is what is kept of the line then
 use Prim.Native.Nat.{ℕ, _+_, _≤_}
 use mathlib.Core.Path.{_≡_}
 use mathlib.Core.List.{List, [], _∷_, _++_}

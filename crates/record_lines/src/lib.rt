@@ -35,13 +35,15 @@ fn least(a: usize, b: usize) -> usize
     if a < b { a } else { b }
 }
 
-// The bytes of a piece from `from` on, behind what is held of the line, up to the end of the line or of the piece.
+// The bytes of a piece from `from` on, behind what is held of the line, up to the end of the line or of the
+// piece.
 pub fn cut(chunk: &[u8], from: usize, line: &mut [u8], had: usize) -> Taken
     requires { ⌜ from ≤ length (now chunk) ⌝ }
     requires { ⌜ (length (now line) ≡ lineRoom) × (had ≤ lineRoom) ⌝ }
     ensures { λ r. ⌜ CutAt (now (chunk .entry)) from (take had (now (line .entry))) (r .at)
         (take (r .held) (now (line .exit))) ⌝ }
-    ensures { λ r. ⌜ (r .at < length (now (chunk .entry)) → getD (now (chunk .entry)) (r .at) 0 ≡ lineFeed) ⌝ }
+    ensures { λ r. ⌜ (r .at < length (now (chunk .entry)) →
+        getD (now (chunk .entry)) (r .at) 0 ≡ lineFeed) ⌝ }
     ensures { λ r. ⌜ r .held ≤ lineRoom ⌝ }
 {
     let end = bytes::scan::find(chunk, from, chunk.len(), b'\n');

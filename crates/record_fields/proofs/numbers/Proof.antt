@@ -1,11 +1,11 @@
--- `record_fields::numbers` meets its contract: at each turn the numbers so far are those of the fields before `at`. Assumes nothing.
+-- `record_fields::numbers` meets its contract: at each turn the numbers so far are those of the fields before
+-- `at`. Assumes nothing.
 use Prim.Native.Nat.{_-_, _<_, _≤_}
 use mathlib.Core.Path.{sym, ap, subst, _∙_}
 use native.Mathlib.Omega.{arith}
 use lib.ListN.{length}
-use Rattle.record_fields.proofs.NumbersLaws.{NumbersTo, numbers-start, numbers-more, numbers-many, numbers-bad}
-use Rattle.record_fields.proofs.NumbersLaws.{numbers-count, numbers-all}
-use Rattle.record_fields.proofs.NumbersLaws.{textAt}
+use Rattle.record_fields.proofs.NumbersLaws.{NumbersTo, textAt, numbers-start, numbers-more}
+use Rattle.record_fields.proofs.NumbersLaws.{numbers-many, numbers-bad, numbers-count, numbers-all}
 use Rattle.record_fields.proofs.FieldsLaws.{next-found, text-found}
 use Rattle.record_fields.specs.Fields.{mostNumbers}
 use Rattle.record_numbers.specs.Decimal.{numberIn}
@@ -23,7 +23,8 @@ abbrev μ-loop : tie.MeasureT-loop
 
 loop-holds : tie.Need-loop-holds Inv-loop μ-loop
 loop-holds c =
-    let start = c .before in numbers-start (start .args .line .now) (start .args .end) (start .pre .0) (start .pre .1)
+    let start = c .before in
+    numbers-start (start .args .line .now) (start .args .end) (start .pre .0) (start .pre .1)
 
 unreadable-requires : tie.Need-unreadable-requires Inv-loop μ-loop
 unreadable-requires c κs = search needs
@@ -31,10 +32,11 @@ unreadable-requires c κs = search needs
 returns : tie.Need-returns Inv-loop μ-loop
 returns c =
     let at-loop = c .before .before .before in
+    let left = at-loop .loop in
     let l = at-loop .before .before .args .line .now in
     let six = c .unreadable .ensures in (
       six
-          ∙ sym (numbers-many l (at-loop .loop .numbers) (at-loop .loop .count) (at-loop .loop .at) (at-loop .loop .inv)
+          ∙ sym (numbers-many l (left .numbers) (left .count) (left .at) (left .inv)
           (c .before .before .loop-test .taken) (c .before .if1 .taken)),
       (λ h. absurd (omega (arith, six, h))),
     )
@@ -106,7 +108,6 @@ add-count c =
 loop-less : tie.Need-loop-less Inv-loop μ-loop
 loop-less c =
     let look = c .before .before .before .before .before in
-    let at-loop = look .before .before .before in
     omega (arith, look .find .ensures, look .before .before .loop-test .taken)
 
 loop-again : tie.Need-loop-again Inv-loop μ-loop
@@ -118,19 +119,20 @@ loop-again c =
     let k = at-loop .loop .at in
     let text = text-found l k (look .find .result) (look .find .ensures .0) in
     let value = sym (ap numberIn text) ∙ sym (read .decimal .ensures) ∙ c .before .value .given .1 in
-    let room : at-loop .loop .count < mostNumbers = omega (arith, at-loop .loop .inv .few, look .before .if1 .left) in
-    subst (NumbersTo l _ _) (sym (next-found l k (look .find .result) (look .find .ensures .0)))
-    (numbers-more l (at-loop .loop .numbers) (at-loop .loop .count) k (at-loop .loop .inv)
-    (look .before .before .loop-test .taken) _ room
-    (subst (λ n. n ≤ length l) (next-found l k (look .find .result) (look .find .ensures .0)) (look .find .ensures .1))
+    let left = at-loop .loop in
+    let room : left .count < mostNumbers = omega (arith, left .inv .few, look .before .if1 .left) in
+    let next = next-found l k (look .find .result) (look .find .ensures .0) in
+    subst (NumbersTo l _ _) (sym next)
+    (numbers-more l (left .numbers) (left .count) k (left .inv) (look .before .before .loop-test .taken) _
+    room (subst (λ n. n ≤ length l) next (look .find .ensures .1))
     (value-number (textAt l k) _ value) (value-same (textAt l k) _ value))
 
 returns-3 : tie.Need-returns-3 Inv-loop μ-loop
 returns-3 c =
-    let at-loop = c .before in
-    let l = at-loop .before .before .args .line .now in (
-      numbers-count l (at-loop .loop .numbers) (at-loop .loop .count) (at-loop .loop .at) (at-loop .loop .inv) (c .loop-test .left),
-      (λ h. numbers-all l (at-loop .loop .numbers) (at-loop .loop .count) (at-loop .loop .at) (at-loop .loop .inv) (c .loop-test .left)),
+    let left = c .before .loop in
+    let l = c .before .before .before .args .line .now in (
+      numbers-count l (left .numbers) (left .count) (left .at) (left .inv) (c .loop-test .left),
+      (λ h. numbers-all l (left .numbers) (left .count) (left .at) (left .inv) (c .loop-test .left)),
     )
 
 pub numbers-spec : {M : Type 1} → statement M

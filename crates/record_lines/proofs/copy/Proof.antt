@@ -70,8 +70,10 @@ returns : tie.Need-returns Inv-loop μ-loop
 returns c =
     let at = c .before in
     let start = at .before in
-    let all : at .loop .i ≡ start .args .n = omega (arith, at .loop .inv .1, c .loop-test .left) in
-    at .loop .inv .0 ∙ ap (paste (start .args .line .now) (start .args .had) (drop (start .args .from) (start .args .chunk .now))) all
+    let args = start .args in
+    let all : at .loop .i ≡ args .n = omega (arith, at .loop .inv .1, c .loop-test .left) in
+    at .loop .inv .0
+    ∙ ap (paste (args .line .now) (args .had) (drop (args .from) (args .chunk .now))) all
 
 pub copy-spec : {M : Type 1} → statement M
 copy-spec =
