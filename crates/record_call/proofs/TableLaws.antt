@@ -1,7 +1,8 @@
--- The table of calls: bytes that are the same, and a line with more numbers than any row has. Assumes nothing.
+-- The table of calls: bytes that are the same, the rows with so many numbers, and what the code finds of a
+-- line. Assumes nothing.
 use Prim.Native.Nat.{ℕ, zero, suc, _≤_, _<_, _^_}
 use mathlib.Core.Path.{_≡_, refl, sym, ap, ap₂, subst, _∙_}
-use mathlib.Core.Bool.{Bool, true, false, cond, _&&_, false≢true}
+use mathlib.Core.Bool.{Bool, true, false, cond, _&&_, false≢true, and-true}
 use mathlib.Core.List.{List, [], _∷_, _++_}
 use native.Mathlib.Omega.{arith}
 use native.Mathlib.Decide.{decLt}
@@ -45,9 +46,10 @@ many-in : (rs : List Row) (name ns : List ℕ) → fewIn rs ≡ true → mostNum
 unfolding callIn
 many-in [] name ns few many = refl
 many-in (r ∷ rs) name ns few many =
-    let le : r .count ≤ mostNumbers = leb-true (r .count) mostNumbers (and-first (leb (r .count) mostNumbers) (fewIn rs) few) in
-    ap (λ (t : Bool). cond (t && (sameBytes name (r .name) && wordAtEnd (r .word) ns)) (lines.Call (r .make ns)) (callIn rs name ns))
-    (ne-eqb (length ns) (r .count) (λ e. absurd (omega (arith, le, many, e))))
+    let le = leb-true (r .count) mostNumbers (and-first (leb (r .count) mostNumbers) (fewIn rs) few) in
+    let other = ne-eqb (length ns) (r .count) (λ e. absurd (omega (arith, le, many, e))) in
+    let named : Bool = sameBytes name (r .name) && wordAtEnd (r .word) ns in
+    ap (λ (t : Bool). cond (t && named) (lines.Call (r .make ns)) (callIn rs name ns)) other
     ∙ many-in rs name ns (and-second (leb (r .count) mostNumbers) (fewIn rs) few) many
 
 pub many-unreadable : (name ns : List ℕ) → mostNumbers < length ns → callIn table name ns ≡ lines.Unreadable
@@ -56,17 +58,14 @@ many-unreadable name ns many = many-in table name ns refl many
 
 -- ---- what the code finds out
 
-pub same-found : (b : Bool) (xs ys : List ℕ) → (b ≡ true → xs ≡ ys) × (xs ≡ ys → b ≡ true) → b ≡ sameBytes xs ys
+pub same-found : (b : Bool) (xs ys : List ℕ) → (b ≡ true → xs ≡ ys) × (xs ≡ ys → b ≡ true) →
+    b ≡ sameBytes xs ys
 same-found b xs ys (to, from) =
     same-truth b (sameBytes xs ys)
     (λ e. subst (λ zs. sameBytes xs zs ≡ true) (to e) (same-bytes-2 xs))
     (λ e. from (same-bytes-1 xs ys e))
 
 -- ---- the rows that have so many numbers
-
-and-true : (t : Bool) → (t && true) ≡ t
-and-true true = refl
-and-true false = refl
 
 pub and-not : (t u : Bool) → u ≡ false → (t && u) ≡ false
 and-not true u e = e
@@ -108,7 +107,12 @@ module _ (name : List ℕ) where
       (cond (named claimRow) (lines.Call (calls.Claim a b)) lines.Unreadable)))
   unfolding callIn table
   two-in a b =
-      rw (and-true (named wireRow), and-true (named domainReadRow), and-true (named topRow), and-true (named claimRow))
+      rw (
+        and-true (named wireRow),
+        and-true (named domainReadRow),
+        and-true (named topRow),
+        and-true (named claimRow),
+      )
 
   pub three-in : (a b c : ℕ) →
       callIn table name (a ∷ b ∷ c ∷ [])
@@ -175,7 +179,8 @@ module _ (name ns : List ℕ) (count : ℕ) where
 pub long-line : (l : List ℕ) → lineSize < length l → lines.Unreadable ≡ lineOf l
 unfolding lineOf
 long-line l h =
-    sym (passed _ _ _ (not-and (leb (length l) lineSize) (areNumbers (textsOf l)) (lt-leb (length l) lineSize h)))
+    let over = lt-leb (length l) lineSize h in
+    sym (passed _ _ _ (not-and (leb (length l) lineSize) (areNumbers (textsOf l)) over))
 
 module _ (l name ns : List ℕ) (count : ℕ) (short : length l ≤ lineSize) (named : name ≡ nameOf l)
     (counted : count ≡ countOf (textsOf l))
@@ -186,7 +191,8 @@ module _ (l name ns : List ℕ) (count : ℕ) (short : length l ≤ lineSize) (n
   line-numbers : areNumbers texts ≡ true → lineOf l ≡ callIn table name (numbersOf texts)
   unfolding lineOf
   line-numbers e =
-      chosen _ _ _ (and-both (leb (length l) lineSize) (areNumbers texts) (le-leb (length l) lineSize short) e)
+      let fits = le-leb (length l) lineSize short in
+      chosen _ _ _ (and-both (leb (length l) lineSize) (areNumbers texts) fits e)
       ∙ ap (λ (n : List ℕ). callIn table n (numbersOf texts)) (sym named)
 
   line-bad : areNumbers texts ≡ false → lineOf l ≡ lines.Unreadable
@@ -201,11 +207,12 @@ module _ (l name ns : List ℕ) (count : ℕ) (short : length l ≤ lineSize) (n
 
       good : areNumbers texts ≡ true → Dec (mostNumbers < length texts) → answer name ns count ≡ lineOf l
       good e (yes lt) =
-          over (counted ∙ count-many texts e lt)
-          ∙ sym (line-numbers e ∙ many-unreadable name (numbersOf texts) (omega (arith, lt, length-numbers texts)))
+          let many = many-unreadable name (numbersOf texts) (omega (arith, lt, length-numbers texts)) in
+          over (counted ∙ count-many texts e lt) ∙ sym (line-numbers e ∙ many)
       good e (no ge) =
           let le : count ≤ mostNumbers = omega (arith, ge, counted, count-few texts e (omega (arith, ge))) in
-          chosen _ _ _ (le-leb count mostNumbers le) ∙ ap (callIn table name) (shown le) ∙ sym (line-numbers e)
+          chosen _ _ _ (le-leb count mostNumbers le) ∙ ap (callIn table name) (shown le)
+          ∙ sym (line-numbers e)
 
       bad : areNumbers texts ≡ false → answer name ns count ≡ lineOf l
       bad e = over (counted ∙ count-bad texts e) ∙ sym (line-bad e)

@@ -1,6 +1,7 @@
--- What a line says: one table of calls, by name and count of numbers. 02, M-100; docs/RECORD.md. Assumes nothing.
---   Row                a call's name in bytes, how many numbers it has, whether the last is a word of 32 bits, and
---                      the call with such numbers
+-- What a line says: one table of calls, by name and count of numbers. 02, M-100; docs/RECORD.md.
+-- Assumes nothing.
+--   Row                a call's name in bytes, how many numbers it has, whether the last is a word of 32
+--                      bits, and the call with such numbers
 --   table              a row for each call
 --   sameBytes a b      a and b are the same bytes
 --   wordAtEnd t ns     if t, the last of the numbers ns is a word of 32 bits

@@ -22,7 +22,8 @@ fn is(name: &[u8], word: &[u8]) -> bool
 }
 
 pub(crate) fn of_fields(name: &[u8], fields: Fields) -> Line
-    requires { ⌜ (fields .count ≤ mostNumbers → length (take (fields .count) (fields .numbers)) ≡ fields .count) ⌝ }
+    requires { ⌜ (fields .count ≤ mostNumbers →
+        length (take (fields .count) (fields .numbers)) ≡ fields .count) ⌝ }
     ensures { λ r. ⌜ r ≡ cond (leb (fields .count) mostNumbers)
         (callIn table (now (name .entry)) (take (fields .count) (fields .numbers))) lines.Unreadable ⌝ }
 {

@@ -3,7 +3,7 @@
 use mathlib.Core.List.{[], _∷_}
 use native.Mathlib.Omega.{arith}
 use borrow.Author.Needs.{needs}
-use lib.ListN.{take, length-set}
+use lib.ListN.{take}
 use Rattle.record_numbers.specs.Decimal.{textOf}
 use Rattle.record_lines.specs.Lines.{lineFeed}
 use Rattle.record_answer.proofs.ShownLaws.{line-one, put-byte, put-then}

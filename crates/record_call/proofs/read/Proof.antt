@@ -26,9 +26,9 @@ slice-aggregate-of-fields c =
 of-fields-requires : tie.Need-of-fields-requires
 of-fields-requires c κs =
     let read = c .before .numbers .ensures in
-    let count = c .before .numbers .result .count in
-    let line = c .before .before .before .before .before .args .line .now in
-    (λ h. ap length (read .1 h) ∙ count-length (textsOf line) (subst (λ n. n ≤ mostNumbers) (read .0) h) ∙ sym (read .0))
+    let texts = textsOf (c .before .before .before .before .before .args .line .now) in
+    (λ h. ap length (read .1 h) ∙ count-length texts (subst (λ n. n ≤ mostNumbers) (read .0) h)
+    ∙ sym (read .0))
 
 returns-2 : tie.Need-returns-2
 returns-2 c =

@@ -71,27 +71,33 @@ of-five-requires c κs = search needs
 
 returns : tie.Need-returns
 returns c =
-    with-count _ _ _ 0 _ (c .before .before .before .before .pre) (c .before .match .keys1) refl (c .of-none .ensures)
+    let told = c .before in
+    with-count _ _ _ 0 _ (told .before .before .before .pre) (told .match .keys1) refl (c .of-none .ensures)
 
 returns-2 : tie.Need-returns-2
 returns-2 c =
-    with-count _ _ _ 1 _ (c .before .before .before .before .pre) (c .before .match .keys2) refl (c .of-one .ensures)
+    let told = c .before in
+    with-count _ _ _ 1 _ (told .before .before .before .pre) (told .match .keys2) refl (c .of-one .ensures)
 
 returns-3 : tie.Need-returns-3
 returns-3 c =
-    with-count _ _ _ 2 _ (c .before .before .before .before .pre) (c .before .match .keys3) refl (c .of-two .ensures)
+    let told = c .before in
+    with-count _ _ _ 2 _ (told .before .before .before .pre) (told .match .keys3) refl (c .of-two .ensures)
 
 returns-4 : tie.Need-returns-4
 returns-4 c =
-    with-count _ _ _ 3 _ (c .before .before .before .before .pre) (c .before .match .keys4) refl (c .of-three .ensures)
+    let told = c .before in
+    with-count _ _ _ 3 _ (told .before .before .before .pre) (told .match .keys4) refl (c .of-three .ensures)
 
 returns-5 : tie.Need-returns-5
 returns-5 c =
-    with-count _ _ _ 4 _ (c .before .before .before .before .pre) (c .before .match .keys5) refl (c .of-four .ensures)
+    let told = c .before in
+    with-count _ _ _ 4 _ (told .before .before .before .pre) (told .match .keys5) refl (c .of-four .ensures)
 
 returns-6 : tie.Need-returns-6
 returns-6 c =
-    with-count _ _ _ 5 _ (c .before .before .before .before .pre) (c .before .match .keys6) refl (c .of-five .ensures)
+    let told = c .before in
+    with-count _ _ _ 5 _ (told .before .before .before .pre) (told .match .keys6) refl (c .of-five .ensures)
 
 returns-7 : tie.Need-returns-7
 returns-7 c =

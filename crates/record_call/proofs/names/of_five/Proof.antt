@@ -24,13 +24,15 @@ is-requires-2 c κs = search needs
 
 returns-2 : tie.Need-returns-2
 returns-2 c =
-    let e1 = sym (c .before .before .before .before .is .ensures) ∙ c .before .before .before .if1 .left in
+    let first = c .before .before .before in
+    let e1 = sym (first .before .is .ensures) ∙ first .if1 .left in
     let e2 = sym (c .before .is2 .ensures) ∙ c .if2 .taken in
     sym (five-in _ _ _ _ _ _ ∙ passed _ _ _ e1 ∙ chosen _ _ _ e2)
 
 returns-3 : tie.Need-returns-3
 returns-3 c =
-    let e1 = sym (c .before .before .before .before .is .ensures) ∙ c .before .before .before .if1 .left in
+    let first = c .before .before .before in
+    let e1 = sym (first .before .is .ensures) ∙ first .if1 .left in
     let e2 = sym (c .before .is2 .ensures) ∙ c .if2 .left in
     sym (five-in _ _ _ _ _ _ ∙ passed _ _ _ e1 ∙ passed _ _ _ e2)
 

@@ -1,7 +1,8 @@
 -- `record_call::names::of_four` meets its contract. Assumes nothing.
 use mathlib.Core.Path.{sym, _∙_}
 use Rattle.words.proofs.TestsLaws.{and-both}
-use Rattle.record_call.proofs.TableLaws.{four-in, four-over, not-and, word-fits, word-over, chosen, passed}
+use Rattle.record_call.proofs.TableLaws.{four-in, four-over, not-and, word-fits, word-over}
+use Rattle.record_call.proofs.TableLaws.{chosen, passed}
 use borrow.Author.Needs.{needs}
 use Rattle.record_call.proofs.names.of_four.Statement.{statement}
 use Rattle.record_call.proofs.names.of_four.Tie as tie

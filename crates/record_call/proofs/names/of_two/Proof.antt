@@ -24,7 +24,8 @@ is-requires-2 c κs = search needs
 
 returns-2 : tie.Need-returns-2
 returns-2 c =
-    let e1 = sym (c .before .before .before .before .is .ensures) ∙ c .before .before .before .if1 .left in
+    let one = c .before .before .before in
+    let e1 = sym (one .before .is .ensures) ∙ one .if1 .left in
     let e2 = sym (c .before .is2 .ensures) ∙ c .if2 .taken in
     sym (two-in _ _ _ ∙ passed _ _ _ e1 ∙ chosen _ _ _ e2)
 
@@ -36,8 +37,10 @@ is-requires-3 c κs = search needs
 
 returns-3 : tie.Need-returns-3
 returns-3 c =
-    let e1 = sym (c .before .before .before .before .before .before .before .is .ensures) ∙ c .before .before .before .before .before .before .if1 .left in
-    let e2 = sym (c .before .before .before .before .is2 .ensures) ∙ c .before .before .before .if2 .left in
+    let two = c .before .before .before in
+    let one = two .before .before .before in
+    let e1 = sym (one .before .is .ensures) ∙ one .if1 .left in
+    let e2 = sym (two .before .is2 .ensures) ∙ two .if2 .left in
     let e3 = sym (c .before .is3 .ensures) ∙ c .if3 .taken in
     sym (two-in _ _ _ ∙ passed _ _ _ e1 ∙ passed _ _ _ e2 ∙ chosen _ _ _ e3)
 
@@ -49,17 +52,23 @@ is-requires-4 c κs = search needs
 
 returns-4 : tie.Need-returns-4
 returns-4 c =
-    let e1 = sym (c .before .before .before .before .before .before .before .before .before .before .is .ensures) ∙ c .before .before .before .before .before .before .before .before .before .if1 .left in
-    let e2 = sym (c .before .before .before .before .before .before .before .is2 .ensures) ∙ c .before .before .before .before .before .before .if2 .left in
-    let e3 = sym (c .before .before .before .before .is3 .ensures) ∙ c .before .before .before .if3 .left in
+    let three = c .before .before .before in
+    let two = three .before .before .before in
+    let one = two .before .before .before in
+    let e1 = sym (one .before .is .ensures) ∙ one .if1 .left in
+    let e2 = sym (two .before .is2 .ensures) ∙ two .if2 .left in
+    let e3 = sym (three .before .is3 .ensures) ∙ three .if3 .left in
     let e4 = sym (c .before .is4 .ensures) ∙ c .if4 .taken in
     sym (two-in _ _ _ ∙ passed _ _ _ e1 ∙ passed _ _ _ e2 ∙ passed _ _ _ e3 ∙ chosen _ _ _ e4)
 
 returns-5 : tie.Need-returns-5
 returns-5 c =
-    let e1 = sym (c .before .before .before .before .before .before .before .before .before .before .is .ensures) ∙ c .before .before .before .before .before .before .before .before .before .if1 .left in
-    let e2 = sym (c .before .before .before .before .before .before .before .is2 .ensures) ∙ c .before .before .before .before .before .before .if2 .left in
-    let e3 = sym (c .before .before .before .before .is3 .ensures) ∙ c .before .before .before .if3 .left in
+    let three = c .before .before .before in
+    let two = three .before .before .before in
+    let one = two .before .before .before in
+    let e1 = sym (one .before .is .ensures) ∙ one .if1 .left in
+    let e2 = sym (two .before .is2 .ensures) ∙ two .if2 .left in
+    let e3 = sym (three .before .is3 .ensures) ∙ three .if3 .left in
     let e4 = sym (c .before .is4 .ensures) ∙ c .if4 .left in
     sym (two-in _ _ _ ∙ passed _ _ _ e1 ∙ passed _ _ _ e2 ∙ passed _ _ _ e3 ∙ passed _ _ _ e4)
 
