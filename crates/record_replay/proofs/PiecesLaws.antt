@@ -1,17 +1,17 @@
 -- A line of a piece, as the code goes on: it was cut, and ended or not. Assumes nothing.
-use Prim.Native.Nat.{ℕ, suc, _+_, _-_, _≤_, _<_}
-use mathlib.Core.Path.{_≡_, refl, sym, ap, subst, _∙_}
+use Prim.Native.Nat.{ℕ, _+_, _-_, _≤_, _<_}
+use mathlib.Core.Path.{_≡_, refl, sym, ap, _∙_}
 use mathlib.Core.List.{List, [], _∷_, _++_, append-nil, append-assoc}
 use native.Mathlib.Omega.{arith}
 use native.Mathlib.Numerals.{add-one}
-use lib.ListN.{length, getD, take, drop}
+use lib.ListN.{length, getD}
 use lib.Seq.{slice, length-slice, slice-empty}
 use Rattle.record_lines.specs.Lines.{lineFeed, CutAt}
 use Rattle.record_lines.proofs.PartedLaws.{slice-more, slice-both}
 use Rattle.record_call.specs.Table.{lineOf}
 use Rattle.board_runs.specs.Runs.{Lent}
 use Rattle.record_runs.specs.Replay.{Held, passedOn, answerTo, goneOn, printedBy}
-use Rattle.record_runs.proofs.RunLaws.{held-same, gone-both, printed-both, gone-none, printed-none}
+use Rattle.record_runs.proofs.RunLaws.{held-same, gone-both, printed-both, printed-none}
 use Rattle.record_runs.proofs.StepLaws.{gone-open, printed-open, gone-ended, printed-ended, number-le}
 use Rattle.record_replay.specs.Pieces.{Went}
 
@@ -23,11 +23,12 @@ module _ (xs : List ℕ) (f : ℕ) (p : List ℕ) (n : ℕ) (x : Lent) (e : ℕ)
   -- the piece ends
   pub went-open : Went xs f at-first a e record { line = q; number = n; lent = x } a
   went-open =
+      let bs : List ℕ = slice f e xs in
       record {
         start = c .start;
         end = c .end;
-        held = held-same (c .line) refl refl ∙ sym (gone-open p n x (slice f e xs) (c .unended));
-        printed = sym (ap (λ (b : List ℕ). a ++ b) (printed-open p n x (slice f e xs) (c .unended)) ∙ append-nil a);
+        held = held-same (c .line) refl refl ∙ sym (gone-open p n x bs (c .unended));
+        printed = sym (ap (λ (b : List ℕ). a ++ b) (printed-open p n x bs (c .unended)) ∙ append-nil a);
       }
 
   -- the line ends
@@ -56,7 +57,8 @@ module _ (xs : List ℕ) (f : ℕ) (p : List ℕ) (n : ℕ) (x : Lent) (e : ℕ)
 -- ---- one after the other
 
 -- nothing yet
-pub went-none : (xs : List ℕ) (f : ℕ) (h : Held) (a : List ℕ) → f ≤ length xs → goneOn [] h ≡ h → Went xs f h a f h a
+pub went-none : (xs : List ℕ) (f : ℕ) (h : Held) (a : List ℕ) → f ≤ length xs → goneOn [] h ≡ h →
+    Went xs f h a f h a
 went-none xs f h a le none =
     record {
       start = omega arith;
@@ -69,7 +71,7 @@ went-none xs f h a le none =
 pub went-both : (xs : List ℕ) (f m e : ℕ) (h h′ h″ : Held) (a b d : List ℕ) →
     Went xs f h a m h′ b → Went xs m h′ b e h″ d → Went xs f h a e h″ d
 went-both xs f m e h h′ h″ a b d one two =
-    let bytes : slice f e xs ≡ slice f m xs ++ slice m e xs = slice-both xs f m e (one .start) (two .start) (two .end) in
+    let bytes = slice-both xs f m e (one .start) (two .start) (two .end) in
     record {
       start = omega (arith, one .start, two .start);
       end = two .end;
@@ -87,4 +89,5 @@ went-both xs f m e h h′ h″ a b d one two =
 pub went-number : (xs : List ℕ) (f e : ℕ) (h h′ : Held) (a b : List ℕ) → Went xs f h a e h′ b →
     h′ .number ≤ h .number + (e - f)
 went-number xs f e h h′ a b w =
-    omega (arith, number-le (slice f e xs) h, ap (λ (g : Held). g .number) (w .held), length-slice f e xs (w .end))
+    let same = ap (λ (g : Held). g .number) (w .held) in
+    omega (arith, number-le (slice f e xs) h, same, length-slice f e xs (w .end))

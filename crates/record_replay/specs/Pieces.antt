@@ -1,7 +1,8 @@
 -- A run by pieces of bytes. 02, M-100. Assumes nothing.
---   heldAt ..               where a run is, from what the code holds: the first bytes of a line are kept
---   Roomy g line held       a log of 63 words, room for a line, and no more held than there is room for
---   Went xs f h a e h′ b    from place f of xs to place e the run went on from h to h′, and the answers from a to b
+--   heldAt ..              where a run is, from what the code holds: the first bytes of a line are kept
+--   Roomy g line held      a log of 63 words, room for a line, and no more held than there is room for
+--   Went xs f h a e h′ b   from place f of xs to place e the run went on from h to h′, and the answers from a
+--                          to b
 use Prim.Native.Nat.{ℕ, _≤_}
 use mathlib.Core.Path.{_≡_}
 use mathlib.Core.List.{List, _++_}

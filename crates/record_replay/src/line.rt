@@ -14,8 +14,8 @@ use record_call::Line;
 use record_call::read;
 use sizes::SAVED_SIZE;
 
-// Makes the call that the line says, and puts its answer behind the first `used` bytes of out. A line that cannot
-// be read is answered by its number, and changes nothing.
+// Makes the call that the line says, and puts its answer behind the first `used` bytes of out. A line that
+// cannot be read is answered by its number, and changes nothing.
 pub fn end_line(
     state: &mut [u32],
     log: &mut [u32],
@@ -27,7 +27,8 @@ pub fn end_line(
 ) -> usize
     requires { ⌜ (length (now log) ≡ logSize) × (used + answerRoom ≤ length (now out)) ⌝ }
     ensures { λ r. ⌜ lentOf (now (state .exit)) (now (log .exit)) (now (saved .exit)) ≡
-        passedOn (lineOf (now (line .entry))) (lentOf (now (state .entry)) (now (log .entry)) (now (saved .entry))) ⌝ }
+        passedOn (lineOf (now (line .entry)))
+        (lentOf (now (state .entry)) (now (log .entry)) (now (saved .entry))) ⌝ }
     ensures { λ r. ⌜ take r (now (out .exit)) ≡ take used (now (out .entry)) ++
         answerTo number (lineOf (now (line .entry)))
         (lentOf (now (state .entry)) (now (log .entry)) (now (saved .entry))) ⌝ }

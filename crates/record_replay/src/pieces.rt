@@ -1,6 +1,5 @@
 // The lines of a piece of bytes, run and answered.
 ghost use Prim.Native.Nat.{_+_, _-_, _≤_, _<_, _^_};
-ghost use mathlib.Core.Path.{_≡_};
 ghost use mathlib.Core.List.{[]};
 ghost use lib.ListN.{length, take};
 ghost use Rattle.record_lines.specs.Lines.{lineRoom};

@@ -1,6 +1,6 @@
 -- A line that cannot be read, and one that says a call, from what the code leaves. Assumes nothing.
 use Prim.Native.Nat.{ℕ}
-use mathlib.Core.Path.{_≡_, refl, sym, ap, _∙_}
+use mathlib.Core.Path.{_≡_}
 use mathlib.Core.List.{List, [], _∷_}
 use lib.ListN.{take}
 use Rattle.record_call.specs.declared.Line.{Line}

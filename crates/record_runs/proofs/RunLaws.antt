@@ -1,6 +1,6 @@
 -- A run by pieces: two pieces do what both together do. Assumes nothing.
 use Prim.Native.Nat.{ℕ, suc, _+_}
-use mathlib.Core.Path.{_≡_, refl, sym, ap, ap₂, _∙_}
+use mathlib.Core.Path.{_≡_, refl, sym, ap, _∙_}
 use mathlib.Core.Logic.{_≢_}
 use mathlib.Core.List.{List, [], _∷_, _++_, map}
 use native.Mathlib.Omega.{arith}
@@ -9,14 +9,15 @@ use lib.ListN.{length, length-append}
 use Rattle.record_lines.specs.Parted.{endedBy, restBy}
 use Rattle.record_lines.specs.Lines.{lineFeed, kept, lastOf}
 use Rattle.record_lines.proofs.PartedLaws.{rest-append}
+use Rattle.record_lines.proofs.LinesLaws.{kept-kept}
 use Rattle.record_call.specs.declared.Line.{Line}
 use Rattle.record_call.specs.Table.{lineOf}
 use Rattle.board_runs.specs.Runs.{Lent, ran}
 use Rattle.board_runs.proofs.RunsEffects.{ran-append}
-use Rattle.record_runs.specs.Replay.{Held, saidAfter, callsIn, answersFrom, passedOn, goneOn, printedBy}
-use Rattle.record_runs.proofs.SaidLaws.{said-append, said-same, rest-same, calls-append, answers-append}
-use Rattle.record_runs.proofs.SaidLaws.{ran-line}
-use Rattle.record_lines.proofs.LinesLaws.{kept-kept}
+use Rattle.record_runs.specs.Replay.{Held, saidAfter, callsIn, answersFrom, passedOn, goneOn}
+use Rattle.record_runs.specs.Replay.{printedBy}
+use Rattle.record_runs.proofs.SaidLaws.{said-append, said-same, rest-same, calls-append, ran-line}
+use Rattle.record_runs.proofs.SaidLaws.{answers-append}
 
 pub held-same : {l l′ : List ℕ} {n n′ : ℕ} {x x′ : Lent} → l ≡ l′ → n ≡ n′ → x ≡ x′ →
     _≡_ {A = Held} record { line = l; number = n; lent = x } record { line = l′; number = n′; lent = x′ }
@@ -61,9 +62,10 @@ module _ (xs ys : List ℕ) (h : Held) where
   pub printed-both : printedBy (xs ++ ys) h ≡ printedBy xs h ++ printedBy ys (goneOn xs h)
   unfolding printedBy goneOn
   printed-both =
-      ap (λ (ss : List Line). answersFrom (suc (h .number)) ss (h .lent)) said-both
-      ∙ answers-append first second (suc (h .number)) (h .lent)
-      ∙ ap (λ (n : ℕ). answersFrom (suc (h .number)) first (h .lent) ++ answersFrom n second (ran (callsIn first) (h .lent)))
+      let x : Lent = h .lent in
+      ap (λ (ss : List Line). answersFrom (suc (h .number)) ss x) said-both
+      ∙ answers-append first second (suc (h .number)) x
+      ∙ ap (λ (n : ℕ). answersFrom (suc (h .number)) first x ++ answersFrom n second (ran (callsIn first) x))
       (suc-add (h .number) (length first))
 
 -- no bytes

@@ -1,21 +1,20 @@
 -- A line of a piece: bytes that end no line, and bytes that end one. Assumes nothing.
-use Prim.Native.Nat.{ℕ, suc, _+_, _≤_, _<_}
+use Prim.Native.Nat.{ℕ, suc, _+_, _≤_}
 use mathlib.Core.Path.{_≡_, refl, sym, ap, _∙_}
 use mathlib.Core.List.{List, [], _∷_, _++_, append-nil, map}
 use native.Mathlib.Omega.{arith}
 use native.Mathlib.Nat.{add-zero}
 use native.Mathlib.Numerals.{add-one}
-use borrow.Author.Tests.{eq-eqb}
-use lib.ListN.{length, getD, length-map}
-use lib.Seq.{slice}
+use lib.ListN.{length, length-map}
 use Rattle.record_lines.specs.Parted.{endedBy, restBy}
-use Rattle.record_lines.specs.Lines.{lineFeed, kept, CutAt}
-use Rattle.record_lines.proofs.PartedLaws.{rest-append, ended-end, rest-end, slice-more, ended-le}
+use Rattle.record_lines.specs.Lines.{lineFeed, kept}
+use Rattle.record_lines.proofs.PartedLaws.{rest-append, ended-end, rest-end, ended-le}
 use Rattle.record_lines.proofs.LinesLaws.{kept-none}
 use Rattle.record_call.specs.declared.Line.{Line}
 use Rattle.record_call.specs.Table.{lineOf}
 use Rattle.board_runs.specs.Runs.{Lent, ran}
-use Rattle.record_runs.specs.Replay.{Held, saidAfter, callsIn, answersFrom, answerTo, passedOn, goneOn, printedBy}
+use Rattle.record_runs.specs.Replay.{Held, saidAfter, callsIn, answersFrom, answerTo, passedOn}
+use Rattle.record_runs.specs.Replay.{goneOn, printedBy}
 use Rattle.record_runs.proofs.SaidLaws.{said-append, kept-says, ran-line}
 use Rattle.record_runs.proofs.RunLaws.{held-same}
 

@@ -1,6 +1,6 @@
 -- A piece that is taken in parts. Assumes nothing.
-use Prim.Native.Nat.{ℕ, _+_, _≤_, _<_}
-use mathlib.Core.Path.{_≡_, refl, sym, ap, _∙_}
+use Prim.Native.Nat.{ℕ, _+_, _≤_}
+use mathlib.Core.Path.{_≡_, sym, ap, _∙_}
 use mathlib.Core.List.{List, []}
 use native.Mathlib.Omega.{arith}
 use lib.ListN.{length}
@@ -22,7 +22,8 @@ part-more xs m e h h′ h″ b so-far w =
     ∙ sym (ap (λ (bs : List ℕ). goneOn bs h) (slice-both xs 0 m e (omega arith) (w .start) (w .end))
     ∙ gone-both (slice 0 m xs) (slice m e xs) h)
 
-pub part-all : (xs : List ℕ) (e : ℕ) (h h′ : Held) → e ≡ length xs → h′ ≡ goneOn (slice 0 e xs) h → h′ ≡ goneOn xs h
+pub part-all : (xs : List ℕ) (e : ℕ) (h h′ : Held) → e ≡ length xs → h′ ≡ goneOn (slice 0 e xs) h →
+    h′ ≡ goneOn xs h
 part-all xs e h h′ all so-far =
     so-far ∙ ap (λ (n : ℕ). goneOn (slice 0 n xs) h) all ∙ ap (λ (bs : List ℕ). goneOn bs h) (take-length xs)
 

@@ -1,5 +1,5 @@
-// A recorded shift, run from reset: a record on standard input, an answer for each of its lines on standard output
-// (docs/RECORD.md). A fault is told on standard error. No arguments are read.
+// A recorded shift, run from reset: a record on standard input, an answer for each of its lines on standard
+// output (docs/RECORD.md). A fault is told on standard error. No arguments are read.
 mod turns;
 
 ghost use Prim.Native.Nat.{_+_, _≤_, _<_, _^_};

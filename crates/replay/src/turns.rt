@@ -13,8 +13,8 @@ use record_replay::Run;
 use record_replay::some;
 use sizes::SAVED_SIZE;
 
-// A proved loop has to end, and nothing says that the input does. So the loop counts its turns down, from a number
-// that no run uses up; a turn has at most 65,536 lines, so that the number of a line has 64 bits.
+// A proved loop has to end, and nothing says that the input does. So the loop counts its turns down, from a
+// number that no run uses up; a turn has at most 65,536 lines, so that the number of a line has 64 bits.
 const MOST_TURNS: u64 = 140737488355328;
 
 // Where the run is, and whether what was asked of the system was done.
@@ -39,9 +39,10 @@ fn turn(
     requires { ⌜ (Roomy (now log) (now line) held) × (answerRoom ≤ length (now out))
         × (number + length (now chunk) < 2 ^ 64) ⌝ }
     ensures { λ r. ⌜ (r .written ≡ true →
-        heldAt (now (state .exit)) (now (log .exit)) (now (saved .exit)) (now (line .exit)) (r .held) (r .number) ≡
-        goneOn (now (chunk .entry))
-        (heldAt (now (state .entry)) (now (log .entry)) (now (saved .entry)) (now (line .entry)) held number)) ⌝ }
+        heldAt (now (state .exit)) (now (log .exit)) (now (saved .exit)) (now (line .exit)) (r .held)
+        (r .number) ≡ goneOn (now (chunk .entry))
+        (heldAt (now (state .entry)) (now (log .entry)) (now (saved .entry)) (now (line .entry)) held
+        number)) ⌝ }
     ensures { λ r. ⌜ (r .held ≤ lineRoom) × (r .number ≤ number + length (now (chunk .entry))) ⌝ }
 {
     let mut run = Run {

@@ -21,9 +21,11 @@ slice-reshare-prefix-write-all c = search needs
 
 slice-aggregate-write-all : tie.Need-slice-aggregate-write-all
 slice-aggregate-write-all c =
-    let ended = c .before .before .before .before .before .before .before .end-line in
-    sym (length-take-le (ended .result) (ended .last .1 .1 .1 .1 .0)
-    (omega (arith, ended .ensures .1 .1, ended .kept .1 .1 .1 .1 .0, c .before .before .before .before .before .before .before .before .before .before .before .before .before .before .before .before .before .pre .1)))
+    let ended = c .before .before .before .before .before .before .before in
+    let start = ended .before .before .before .before .before .before .before .before .before .before in
+    let said = ended .end-line in
+    sym (length-take-le (said .result) (said .last .1 .1 .1 .1 .0)
+    (omega (arith, said .ensures .1 .1, said .kept .1 .1 .1 .1 .0, start .pre .1)))
 
 write-all-requires : tie.Need-write-all-requires
 write-all-requires c κs = search needs
@@ -45,7 +47,10 @@ same-length-3 c = search needs
 
 returns-2 : tie.Need-returns-2
 returns-2 c =
-    c .before .before .before .before .before .before .before .before .before .before .before .end-line .ensures .0 ∙ last-some (c .before .before .before .before .before .before .before .before .before .before .before .before .before .before .before .before .before .before .before .before .before .args .line .now) _ (c .before .before .before .before .before .before .before .before .before .before .before .before .before .before .before .before .if1 .left)
+    let ended = c .before .before .before .before .before .before .before .before .before .before .before in
+    let some = ended .before .before .before .before .before in
+    let start = some .before .before .before .before .before in
+    ended .end-line .ensures .0 ∙ last-some (start .args .line .now) _ (some .if1 .left)
 
 same-length-4 : tie.Need-same-length-4
 same-length-4 c = search needs
@@ -58,7 +63,10 @@ same-length-6 c = search needs
 
 returns-3 : tie.Need-returns-3
 returns-3 c =
-    c .before .before .before .before .before .before .before .before .before .end-line .ensures .0 ∙ last-some (c .before .before .before .before .before .before .before .before .before .before .before .before .before .before .before .before .before .before .before .args .line .now) _ (c .before .before .before .before .before .before .before .before .before .before .before .before .before .before .if1 .left)
+    let ended = c .before .before .before .before .before .before .before .before .before in
+    let some = ended .before .before .before .before .before in
+    let start = some .before .before .before .before .before in
+    ended .end-line .ensures .0 ∙ last-some (start .args .line .now) _ (some .if1 .left)
 
 pub finish-spec : {M : Type 1} → statement M
 finish-spec =

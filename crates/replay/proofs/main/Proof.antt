@@ -68,8 +68,10 @@ array-share-prefix-line c = search needs
 
 slice-aggregate-finish-3 : tie.Need-slice-aggregate-finish-3
 slice-aggregate-finish-3 c =
-    let all = c .before .before .before .before .before .before .before .before .before .before .before .all in
-    sym (length-take-le (all .result .held) (all .last .1 .1 .1 .0) (omega (arith, all .ensures .0, all .kept .1 .1 .1 .0)))
+    let ran = c .before .before .before .before .before .before .before .before .before .before .before in
+    let all = ran .all in
+    sym (length-take-le (all .result .held) (all .last .1 .1 .1 .0)
+    (omega (arith, all .ensures .0, all .kept .1 .1 .1 .0)))
 
 slice-aggregate-finish-4 : tie.Need-slice-aggregate-finish-4
 slice-aggregate-finish-4 c = search needs

@@ -30,12 +30,13 @@ returns c =
     let told = put .before .before in
     let read = told .before .before in
     let start = read .before .before .before .before .before in
-    let x = lentOf (start .args .state .now) (start .args .log .now) (start .args .saved .now) in
-    let says = sym (read .read .ensures) ∙ told .enum-told .given .1 in
-    let number = start .args .number in (
-      unread-lent _ number x says,
+    let args = start .args in
+    let x = lentOf (args .state .now) (args .log .now) (args .saved .now) in
+    let says = sym (read .read .ensures) ∙ told .enum-told .given .1 in (
+      unread-lent _ (args .number) x says,
       (
-        put .put-number .ensures .0 ∙ ap (λ bs. take (start .args .used) (start .args .out .now) ++ bs) (unread-answer _ number x says),
+        put .put-number .ensures .0
+            ∙ ap (λ bs. take (args .used) (args .out .now) ++ bs) (unread-answer _ (args .number) x says),
         omega (arith, put .put-number .ensures .1),
       ),
     )

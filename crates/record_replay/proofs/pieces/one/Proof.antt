@@ -18,8 +18,9 @@ slice-reshare-prefix-end-line c = search needs
 
 slice-aggregate-end-line : tie.Need-slice-aggregate-end-line
 slice-aggregate-end-line c =
-    let cut = c .before .before .before .before .before .before .before .before .cut in
-    let start = c .before .before .before .before .before .before .before .before .before .before .before .before .before .before .before in
+    let found = c .before .before .before .before .before .before .before .before in
+    let start = found .before .before .before .before .before .before .before in
+    let cut = found .cut in
     sym (length-take-le (cut .result .held) (cut .last .1 .1 .0)
     (omega (arith, cut .kept .1 .1 .0, start .pre .0 .room, cut .ensures .1 .1)))
 
@@ -28,8 +29,10 @@ end-line-requires c κs = search needs
 
 add-t26 : tie.Need-add-t26
 add-t26 c =
-    let ends = c .before .before .before .before .before .before .before .before .before .before .before .before .before in
-    omega (arith, ends .if1 .taken, c .before .before .before .before .before .before .before .before .before .before .before .before .before .before .before .before .before .before .before .before .before .before .before .good)
+    let answered = c .before .before .before .before .before .before in
+    let ends = answered .before .before .before .before .before .before .before in
+    let start = ends .before .before .before .before .before .before .before .before .before .before in
+    omega (arith, ends .if1 .taken, start .good)
 
 same-length : tie.Need-same-length
 same-length c = search needs
@@ -45,13 +48,13 @@ same-length-4 c = search needs
 
 returns : tie.Need-returns
 returns c =
-    let ended = c .before .before .before .before .before .before in
-    let ends = c .before .before .before .before .before .before .before .before .before .before .before .before .before in
+    let answered = c .before .before .before .before .before .before in
+    let ends = answered .before .before .before .before .before .before .before in
+    let more = ends .if1 .taken in
     let cut = ends .before .before .before .cut in
-    let start = c .before .before .before .before .before .before .before .before .before .before .before .before .before .before .before .before .before .before .before .before .before .before .before in
-    let line-end = ended .end-line .ensures in (
-      went-ended _ _ _ _ _ _ _ (cut .ensures .0) _ (ends .if1 .taken) (cut .ensures .1 .0 (ends .if1 .taken)) _ _
-          (line-end .0) (line-end .1 .0),
+    let line-end = answered .end-line .ensures in (
+      went-ended _ _ _ _ _ _ _ (cut .ensures .0) _ more (cut .ensures .1 .0 more) _ _ (line-end .0)
+          (line-end .1 .0),
       (omega arith, line-end .1 .1, omega (arith, cut .ensures .0 .start)),
     )
 
@@ -60,8 +63,9 @@ same-length-5 c = search needs
 
 returns-2 : tie.Need-returns-2
 returns-2 c =
-    let cut = c .before .before .before .cut in
-    let start = c .before .before .before .before .before .before .before .before .before .before in (
+    let found = c .before .before .before in
+    let cut = found .cut in
+    let start = found .before .before .before .before .before .before .before in (
       went-open _ _ _ _ _ _ _ (cut .ensures .0) _,
       (cut .ensures .1 .1, omega arith, omega (arith, start .pre .2, c .if1 .left)),
     )

@@ -1,17 +1,17 @@
--- `record_replay::pieces::some` meets its contract: at each turn the run has gone on by the bytes so far. Assumes
--- nothing.
+-- `record_replay::pieces::some` meets its contract: at each turn the run has gone on by the bytes so far.
+-- Assumes nothing.
 use Prim.Native.Nat.{_-_, _≤_, _<_}
 use mathlib.Core.Path.{_≡_, refl, _∙_}
 use mathlib.Core.Logic.{_⊎_, inl, inr, ⊎-elim}
 use mathlib.Core.List.{[]}
 use native.Mathlib.Omega.{arith}
 use lib.ListN.{length, take}
-use lib.Seq.{length-take-le}
 use Rattle.record_lines.specs.Lines.{lineRoom}
 use Rattle.record_lines.proofs.LinesLaws.{kept-held}
 use Rattle.record_runs.proofs.RunLaws.{gone-none}
 use Rattle.record_replay.specs.Pieces.{Went, heldAt}
 use Rattle.record_replay.proofs.PiecesLaws.{went-none, went-both, went-number}
+use borrow.Author.Needs.{needs}
 use Rattle.record_replay.proofs.pieces.some.Statement.{statement}
 use Rattle.record_replay.proofs.pieces.some.Tie as tie
 
@@ -42,7 +42,7 @@ loop-holds c =
     )
 
 sub-if2 : tie.Need-sub-if2 Inv-loop μ-loop
-sub-if2 c = c .before .before .before .loop .inv .2
+sub-if2 c = search needs
 
 one-requires : tie.Need-one-requires Inv-loop μ-loop
 one-requires c κs =
@@ -59,20 +59,19 @@ one-requires c κs =
     )
 
 loop-less : tie.Need-loop-less Inv-loop μ-loop
-loop-less c =
-    let gone = c .before .before .before .before .before .before .before .before in
-    omega (arith, gone .one .ensures .1, gone .one .ensures .0 .end)
+loop-less c = search needs
 
 loop-again : tie.Need-loop-again Inv-loop μ-loop
 loop-again c =
     let gone = c .before .before .before .before .before .before .before .before in
-    let at = gone .before .before .before .before .before .before .before .before .before .before in
+    let room = gone .before .before .before .before .before .before in
+    let at = room .before .before .before .before in
     let inv = at .loop .inv in
     let one = gone .one in
     let next = one .ensures in (
       went-both _ _ _ _ _ _ _ _ _ _ (inv .0) (next .0),
       next .1 .0,
-      omega (arith, next .1, one .kept .1 .1 .1 .1 .1 .0, gone .before .before .before .before .before .before .if2 .left, inv .2),
+      omega (arith, next .1, one .kept .1 .1 .1 .1 .1 .0, room .if2 .left, inv .2),
       one .kept .0 ∙ inv .3,
       one .kept .1 .0 ∙ inv .4,
       one .kept .1 .1 .1 .0 ∙ inv .5,
@@ -81,16 +80,16 @@ loop-again c =
     )
 
 same-length : tie.Need-same-length Inv-loop μ-loop
-same-length c = c .before .before .loop .inv .3
+same-length c = search needs
 
 same-length-2 : tie.Need-same-length-2 Inv-loop μ-loop
-same-length-2 c = c .before .before .loop .inv .4
+same-length-2 c = search needs
 
 same-length-3 : tie.Need-same-length-3 Inv-loop μ-loop
-same-length-3 c = c .before .before .loop .inv .5
+same-length-3 c = search needs
 
 same-length-4 : tie.Need-same-length-4 Inv-loop μ-loop
-same-length-4 c = c .before .before .loop .inv .6
+same-length-4 c = search needs
 
 returns : tie.Need-returns Inv-loop μ-loop
 returns c =
@@ -98,26 +97,27 @@ returns c =
     (inv .0, ((inv .1, inv .2), (λ h. omega (arith, h, c .if1 .left))))
 
 same-length-5 : tie.Need-same-length-5 Inv-loop μ-loop
-same-length-5 c = c .before .before .before .before .loop .inv .3
+same-length-5 c = search needs
 
 same-length-6 : tie.Need-same-length-6 Inv-loop μ-loop
-same-length-6 c = c .before .before .before .before .loop .inv .4
+same-length-6 c = search needs
 
 same-length-7 : tie.Need-same-length-7 Inv-loop μ-loop
-same-length-7 c = c .before .before .before .before .loop .inv .5
+same-length-7 c = search needs
 
 same-length-8 : tie.Need-same-length-8 Inv-loop μ-loop
-same-length-8 c = c .before .before .before .before .loop .inv .6
+same-length-8 c = search needs
 
 returns-2 : tie.Need-returns-2 Inv-loop μ-loop
 returns-2 c =
     let at = c .before .before .before .before in
     let inv = at .loop .inv in
-    let start = at .before .before .before .before .before .before in (
+    let pre = at .before .before .before .before .before .before .pre in
+    let full = c .if2 .taken in (
       inv .0,
       (
         (inv .1, inv .2),
-        (λ h. ⊎-elim (λ lt. lt) (λ none. absurd (omega (arith, none, c .if2 .taken, start .pre .1, inv .6))) (inv .7)),
+        (λ h. ⊎-elim (λ lt. lt) (λ none. absurd (omega (arith, none, full, pre .1, inv .6))) (inv .7)),
       ),
     )
 

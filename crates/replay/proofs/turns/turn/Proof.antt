@@ -1,5 +1,5 @@
--- `replay::turns::turn` meets its contract: at each turn of its loop the run has gone on by the bytes so far. Assumes
--- nothing.
+-- `replay::turns::turn` meets its contract: at each turn of its loop the run has gone on by the bytes so far.
+-- Assumes nothing.
 use Prim.Native.Nat.{_-_, _≤_}
 use mathlib.Core.Path.{_≡_, refl, sym, _∙_}
 use mathlib.Core.Bool.{false≢true}
@@ -23,12 +23,14 @@ Inv-loop state₀ log₀ saved₀ line₀ chunk out₀ number held run₀ state 
     × (length log ≡ length log₀) × (length line ≡ length line₀) × (length out ≡ length out₀)
 
 abbrev μ-loop : tie.MeasureT-loop
-μ-loop state₀ log₀ saved₀ line₀ chunk out₀ number held run₀ state log saved line out run = length chunk - run .at
+μ-loop state₀ log₀ saved₀ line₀ chunk out₀ number held run₀ state log saved line out run =
+    length chunk - run .at
 
 loop-holds : tie.Need-loop-holds Inv-loop μ-loop
 loop-holds c =
     let start = c .before .before .before .before .before in (
-      part-none (start .args .chunk .now) _ (kept-held (start .args .line .now) (start .args .held) (start .pre .0 .few)),
+      part-none (start .args .chunk .now) _
+          (kept-held (start .args .line .now) (start .args .held) (start .pre .0 .few)),
       omega arith,
       start .pre .0 .few,
       refl,
@@ -61,16 +63,16 @@ write-all-requires : tie.Need-write-all-requires Inv-loop μ-loop
 write-all-requires c κs = search needs
 
 same-length : tie.Need-same-length Inv-loop μ-loop
-same-length c = c .before .before .before .before .before .before .before .before .before .before .before .some .kept .0 ∙ c .before .before .before .before .before .before .before .before .before .before .before .before .before .before .before .before .before .before .before .loop .inv .3
+same-length c = search needs
 
 same-length-2 : tie.Need-same-length-2 Inv-loop μ-loop
-same-length-2 c = c .before .before .before .before .before .before .before .before .before .before .before .some .kept .1 .0 ∙ c .before .before .before .before .before .before .before .before .before .before .before .before .before .before .before .before .before .before .before .loop .inv .4
+same-length-2 c = search needs
 
 same-length-3 : tie.Need-same-length-3 Inv-loop μ-loop
-same-length-3 c = c .before .before .before .before .before .before .before .before .before .before .before .some .kept .1 .1 .1 .0 ∙ c .before .before .before .before .before .before .before .before .before .before .before .before .before .before .before .before .before .before .before .loop .inv .5
+same-length-3 c = search needs
 
 same-length-4 : tie.Need-same-length-4 Inv-loop μ-loop
-same-length-4 c = c .before .before .before .before .before .before .before .before .before .before .before .some .kept .1 .1 .1 .1 .1 .0 ∙ c .before .before .before .before .before .before .before .before .before .before .before .before .before .before .before .before .before .before .before .loop .inv .6
+same-length-4 c = search needs
 
 returns : tie.Need-returns Inv-loop μ-loop
 returns c =
@@ -85,10 +87,8 @@ returns c =
 loop-less : tie.Need-loop-less Inv-loop μ-loop
 loop-less c =
     let gone = c .before .before .before .before .before .before .before .before .before .before .before in
-    let at = gone .before .before .before .before .before .before .before .before in
-    let inv = at .loop .inv in
-    let some = gone .some in
-    omega (arith, some .ensures .0 .end, some .ensures .1 .1 (c .before .before .before .before .before .before .before .before .before .before .before .before .before .before .before .before .before .if1 .taken), c .before .before .before .before .before .before .before .before .before .before .before .before .before .before .before .before .before .if1 .taken)
+    let more = gone .before .before .before .before .before .before .if1 .taken in
+    omega (arith, gone .some .ensures .0 .end, gone .some .ensures .1 .1 more, more)
 
 loop-again : tie.Need-loop-again Inv-loop μ-loop
 loop-again c =
@@ -106,22 +106,23 @@ loop-again c =
     )
 
 same-length-5 : tie.Need-same-length-5 Inv-loop μ-loop
-same-length-5 c = c .before .before .loop .inv .3
+same-length-5 c = search needs
 
 same-length-6 : tie.Need-same-length-6 Inv-loop μ-loop
-same-length-6 c = c .before .before .loop .inv .4
+same-length-6 c = search needs
 
 same-length-7 : tie.Need-same-length-7 Inv-loop μ-loop
-same-length-7 c = c .before .before .loop .inv .5
+same-length-7 c = search needs
 
 same-length-8 : tie.Need-same-length-8 Inv-loop μ-loop
-same-length-8 c = c .before .before .loop .inv .6
+same-length-8 c = search needs
 
 returns-2 : tie.Need-returns-2 Inv-loop μ-loop
 returns-2 c =
     let at = c .before .before in
     let inv = at .loop .inv in
-    let all : at .loop .run .at ≡ length (at .before .before .before .before .before .before .args .chunk .now) = omega (arith, inv .1, c .if1 .left) in (
+    let chunk = at .before .before .before .before .before .before .args .chunk .now in
+    let all : at .loop .run .at ≡ length chunk = omega (arith, inv .1, c .if1 .left) in (
       (λ e. part-all _ _ _ _ all (inv .0)),
       (inv .2, omega (arith, part-number _ (at .loop .run .at) _ _ (inv .1) (inv .0), inv .1)),
     )
