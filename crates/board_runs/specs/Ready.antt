@@ -29,5 +29,6 @@ abbrev pub AllSmall : List Call → Type 0
 AllSmall [] = Unit {0}
 AllSmall (c ∷ cs) = Small c × AllSmall cs
 
+-- [02 M100.7]
 abbrev pub atReset : Lent
 atReset = record { block = blockOf startBoard; log = replicate logSize 0; saved = replicate savedSize 0 }

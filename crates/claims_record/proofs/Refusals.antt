@@ -1,5 +1,5 @@
--- Claim 199: a run from reset is ready for each of its calls, because no number that is read has more than 64 bits. No
--- axioms.
+-- Claim 199: a run from reset is ready for each call, because no number that is read has more than 64 bits.
+-- No axioms.
 use Prim.Native.Nat.{ℕ, zero, suc, _^_, _≤_, _<_}
 use mathlib.Core.Path.{_≡_, refl, sym, ap, subst, _∙_}
 use mathlib.Core.Bool.{Bool, true, false, cond}

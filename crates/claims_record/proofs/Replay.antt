@@ -115,5 +115,11 @@ claim-200 l b b′ r given = given
 
 pub claim-201 : Claim-201
 unfolding Claim-201
-claim-201 l b b′ g g′ s s′ n n′ c c′ o o′ f r given =
-    let went = given .0 in (went .held, went .printed, went .start, went .end, given .1 .1)
+claim-201 l b b′ g g′ s s′ n n′ c c′ o o′ f r = (
+  (λ log line held out at number. (record { log = log; room = line; few = held }, out, at, number)),
+  (λ given. (given .0, given .1 .1)),
+  (λ xs i e h h′ a d. (
+    (λ w. (w .start, w .end, w .held, w .printed)),
+    (λ p. record { start = p .0; end = p .1; held = p .2; printed = p .3 }),
+  )),
+)

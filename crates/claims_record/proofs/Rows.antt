@@ -10,7 +10,7 @@ use lib.ListN.{length}
 use Rattle.words.proofs.TestsLaws.{tested, and-first, and-second}
 use Rattle.record_call.specs.declared.Line.{Line}
 use Rattle.record_call.specs.declared.Line.the-variants as lines
-use Rattle.record_call.specs.Table.{Row, table, sameBytes, wordAtEnd, fits, callIn}
+use Rattle.record_call.specs.Table.{NameRow, table, sameBytes, wordAtEnd, fits, callIn}
 use Rattle.record_call.specs.Table.{resetRow, signalsRow, wireRow, domainReadRow, topRow, claimRow}
 use Rattle.record_call.specs.Table.{pageReadRow, domainWriteRow, pageWriteRow, registerRow, moveRow}
 use Rattle.record_call.proofs.TableLaws.{same-bytes-1}
@@ -26,10 +26,10 @@ pub record Says (c : Call) (n ns : List ℕ) : Type 0 where
   pub words : WordsSmall c
 
 -- a row says its call, if the numbers are as many as it has
-abbrev RowSays : Row → Type 0
+abbrev RowSays : NameRow → Type 0
 RowSays r = (ns : List ℕ) → length ns ≡ r .count → wordAtEnd (r .word) ns ≡ true → Says (r .make ns) (r .name) ns
 
-abbrev AllSay : List Row → Type 0
+abbrev AllSay : List NameRow → Type 0
 AllSay [] = Unit {0}
 AllSay (r ∷ rs) = RowSays r × AllSay rs
 
@@ -51,7 +51,7 @@ call-not-unreadable c e = subst (λ (t : Bool). cond t ⊥ (Unit {0})) (ap isCal
 
 -- ---- from the table to the call
 
-row-in : (rs : List Row) (name ns : List ℕ) (c : Call) → AllSay rs → callIn rs name ns ≡ lines.Call c → Says c name ns
+row-in : (rs : List NameRow) (name ns : List ℕ) (c : Call) → AllSay rs → callIn rs name ns ≡ lines.Call c → Says c name ns
 unfolding callIn
 row-in [] name ns c say e = absurd (call-not-unreadable c e)
 row-in (r ∷ rs) name ns c say e =
@@ -70,24 +70,24 @@ row-in (r ∷ rs) name ns c say e =
         (say .0 ns (eqb-true (length ns) (r .count) many) word))
 
 -- each row, by how many numbers it has
-none : (r : Row) → r .count ≡ 0 → (wordAtEnd (r .word) [] ≡ true → Says (r .make []) (r .name) []) → RowSays r
+none : (r : NameRow) → r .count ≡ 0 → (wordAtEnd (r .word) [] ≡ true → Says (r .make []) (r .name) []) → RowSays r
 none r e s [] h w = s w
 none r e s (a ∷ ns) h w = absurd (omega (arith, e, h))
 
-one : (r : Row) → r .count ≡ 1 → ((a : ℕ) → wordAtEnd (r .word) (a ∷ []) ≡ true → Says (r .make (a ∷ [])) (r .name) (a ∷ [])) →
+one : (r : NameRow) → r .count ≡ 1 → ((a : ℕ) → wordAtEnd (r .word) (a ∷ []) ≡ true → Says (r .make (a ∷ [])) (r .name) (a ∷ [])) →
     RowSays r
 one r e s [] h w = absurd (omega (arith, e, h))
 one r e s (a ∷ []) h w = s a w
 one r e s (a ∷ b ∷ ns) h w = absurd (omega (arith, e, h))
 
-two : (r : Row) → r .count ≡ 2 →
+two : (r : NameRow) → r .count ≡ 2 →
     ((a b : ℕ) → wordAtEnd (r .word) (a ∷ b ∷ []) ≡ true → Says (r .make (a ∷ b ∷ [])) (r .name) (a ∷ b ∷ [])) → RowSays r
 two r e s [] h w = absurd (omega (arith, e, h))
 two r e s (a ∷ []) h w = absurd (omega (arith, e, h))
 two r e s (a ∷ b ∷ []) h w = s a b w
 two r e s (a ∷ b ∷ c ∷ ns) h w = absurd (omega (arith, e, h))
 
-three : (r : Row) → r .count ≡ 3 →
+three : (r : NameRow) → r .count ≡ 3 →
     ((a b c : ℕ) → wordAtEnd (r .word) (a ∷ b ∷ c ∷ []) ≡ true →
     Says (r .make (a ∷ b ∷ c ∷ [])) (r .name) (a ∷ b ∷ c ∷ [])) → RowSays r
 three r e s [] h w = absurd (omega (arith, e, h))
@@ -96,7 +96,7 @@ three r e s (a ∷ b ∷ []) h w = absurd (omega (arith, e, h))
 three r e s (a ∷ b ∷ c ∷ []) h w = s a b c w
 three r e s (a ∷ b ∷ c ∷ d ∷ ns) h w = absurd (omega (arith, e, h))
 
-four : (r : Row) → r .count ≡ 4 →
+four : (r : NameRow) → r .count ≡ 4 →
     ((a b c d : ℕ) → wordAtEnd (r .word) (a ∷ b ∷ c ∷ d ∷ []) ≡ true →
     Says (r .make (a ∷ b ∷ c ∷ d ∷ [])) (r .name) (a ∷ b ∷ c ∷ d ∷ [])) → RowSays r
 four r e s [] h w = absurd (omega (arith, e, h))
@@ -106,7 +106,7 @@ four r e s (a ∷ b ∷ c ∷ []) h w = absurd (omega (arith, e, h))
 four r e s (a ∷ b ∷ c ∷ d ∷ []) h w = s a b c d w
 four r e s (a ∷ b ∷ c ∷ d ∷ f ∷ ns) h w = absurd (omega (arith, e, h))
 
-five : (r : Row) → r .count ≡ 5 →
+five : (r : NameRow) → r .count ≡ 5 →
     ((a b c d f : ℕ) → wordAtEnd (r .word) (a ∷ b ∷ c ∷ d ∷ f ∷ []) ≡ true →
     Says (r .make (a ∷ b ∷ c ∷ d ∷ f ∷ [])) (r .name) (a ∷ b ∷ c ∷ d ∷ f ∷ [])) → RowSays r
 five r e s [] h w = absurd (omega (arith, e, h))

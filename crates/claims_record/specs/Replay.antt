@@ -4,9 +4,9 @@
 --   told s x             the numbers that a line is answered by, behind its own number
 --   fieldsTold n ss x    the fields of the answers to the lines ss, if the first has the number n
 -- Premises: of claims 200 and 201 what the contract ensures, `X.Learnt`. No axioms.
-use Prim.Native.Nat.{ℕ, suc, _+_, _≤_, _<_}
+use Prim.Native.Nat.{ℕ, suc, _+_, _-_, _^_, _≤_, _<_}
 use mathlib.Core.Path.{_≡_}
-use mathlib.Core.Logic.{_⊎_}
+use mathlib.Core.Logic.{_⊎_, _↔_}
 use mathlib.Core.List.{List, [], _∷_, _++_, map}
 use lib.ListN.{length, take, replicate}
 use lib.Seq.{slice}
@@ -19,13 +19,13 @@ use Rattle.record_fields.specs.Fields.{fieldsOf}
 use Rattle.record_call.specs.declared.Line.{Line}
 use Rattle.record_call.specs.declared.Line.the-variants as lines
 use Rattle.record_call.specs.Table.{lineOf}
-use Rattle.record_runs.specs.Replay.{saidIn, callsIn, answersFrom, passedOn, goneOn, printedBy}
+use Rattle.record_runs.specs.Replay.{saidIn, callsIn, answersFrom, passedOn, Held, goneOn, printedBy}
 use Rattle.board_runs.specs.Ready.{atReset}
 use Rattle.board_call.specs.declared.Call.{Call}
 use Rattle.board_call.specs.declared.Call.the-variants.{Reset}
 use Rattle.board_runs.specs.Runs.{Lent, outcomeOn, after, ran}
 use Rattle.record_replay.specs.declared.pieces.Run.{Run}
-use Rattle.record_replay.specs.Pieces.{heldAt}
+use Rattle.record_replay.specs.Pieces.{heldAt, Went}
 use Rattle.record_call.proofs.read.Reads as read
 use Rattle.record_replay.proofs.some.Reads as some
 
@@ -81,14 +81,18 @@ unfoldable pub Claim-200 : Type 0
 Claim-200 =
     (l : Lfts 1) (b b′ : RefT (List ℕ)) (r : Line) → read.Learnt l (b, tt) r (b′, tt) → r ≡ lineOf (now b)
 
--- the function that runs a piece goes on by the bytes that it takes, one at least if there is one: block, log, saved
--- numbers, the line so far and the number of lines are those of the run, and the answers put out are what it prints
+-- the function that runs a piece asks for a log of 63 words, 201 bytes for a line and 1,408 for an answer. It goes on
+-- by the bytes that it takes, one at least if there is one: block, log, saved numbers, the line so far and the number of
+-- lines are those of the run, and the answers are what it prints
 unfoldable pub Claim-201 : Type 0
 Claim-201 =
     (l : Lfts 6) (b b′ g g′ s s′ n n′ c c′ o o′ : RefT (List ℕ)) (f r : Run)
-    → some.Learnt l (b, (g, (s, (n, (c, (o, (f, tt))))))) r (b′, (g′, (s′, (n′, (c′, (o′, (f, tt)))))))
-    → let bytes = slice (f .at) (r .at) (now c) in
-    let h = heldAt (now b) (now g) (now s) (now n) (f .held) (f .number) in
-    (heldAt (now b′) (now g′) (now s′) (now n′) (r .held) (r .number) ≡ goneOn bytes h)
-    × (take (r .used) (now o′) ≡ printedBy bytes h)
-    × (f .at ≤ r .at) × (r .at ≤ length (now c)) × (f .at < length (now c) → f .at < r .at)
+    → (length (now g) ≡ 63 → length (now n) ≡ 201 → f .held ≤ 201 → 1408 ≤ length (now o) → f .at ≤ length (now c)
+    → f .number + (length (now c) - f .at) < 2 ^ 64
+    → some.Asked l (b, (g, (s, (n, (c, (o, (f, tt))))))))
+    × (some.Learnt l (b, (g, (s, (n, (c, (o, (f, tt))))))) r (b′, (g′, (s′, (n′, (c′, (o′, (f, tt)))))))
+    → Went (now c) (f .at) (heldAt (now b) (now g) (now s) (now n) (f .held) (f .number)) []
+    (r .at) (heldAt (now b′) (now g′) (now s′) (now n′) (r .held) (r .number)) (take (r .used) (now o′))
+    × (f .at < length (now c) → f .at < r .at))
+    × ((xs : List ℕ) (i e : ℕ) (h h′ : Held) (a d : List ℕ) → Went xs i h a e h′ d
+    ↔ ((i ≤ e) × (e ≤ length xs) × (h′ ≡ goneOn (slice i e xs) h) × (d ≡ a ++ printedBy (slice i e xs) h)))

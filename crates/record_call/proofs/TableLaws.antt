@@ -17,7 +17,7 @@ use Rattle.record_fields.proofs.CountLaws.{length-numbers, count-few, count-bad
 use Rattle.board_call.specs.declared.Call.the-variants as calls
 use Rattle.record_call.specs.declared.Line.{Line}
 use Rattle.record_call.specs.declared.Line.the-variants as lines
-use Rattle.record_call.specs.Table.{Row, table, sameBytes, wordAtEnd, callIn, lineOf}
+use Rattle.record_call.specs.Table.{NameRow, table, sameBytes, wordAtEnd, callIn, lineOf}
 use Rattle.record_call.specs.Table.{resetRow, signalsRow, wireRow, domainReadRow, topRow, claimRow}
 use Rattle.record_call.specs.Table.{pageReadRow, domainWriteRow, pageWriteRow, registerRow, moveRow}
 
@@ -37,11 +37,11 @@ same-bytes-2 (x ∷ xs) = and-both (eqb x x) (sameBytes xs xs) (eq-eqb x x refl)
 
 -- ---- no row has more numbers
 
-abbrev fewIn : List Row → Bool
+abbrev fewIn : List NameRow → Bool
 fewIn [] = true
 fewIn (r ∷ rs) = leb (r .count) mostNumbers && fewIn rs
 
-many-in : (rs : List Row) (name ns : List ℕ) → fewIn rs ≡ true → mostNumbers < length ns →
+many-in : (rs : List NameRow) (name ns : List ℕ) → fewIn rs ≡ true → mostNumbers < length ns →
     callIn rs name ns ≡ lines.Unreadable
 unfolding callIn
 many-in [] name ns few many = refl
@@ -87,7 +87,7 @@ pub passed : (t : Bool) (x y : Line) → t ≡ false → cond t x y ≡ y
 passed t x y e = rw e
 
 module _ (name : List ℕ) where
-  abbrev named : Row → Bool
+  abbrev named : NameRow → Bool
   named r = sameBytes name (r .name)
 
   pub none-in : callIn table name [] ≡ cond (named resetRow) (lines.Call calls.Reset) lines.Unreadable

@@ -1,6 +1,6 @@
 -- What a line says: one table of calls, by name and count of numbers. 02, M-100; docs/RECORD.md.
 -- Assumes nothing.
---   Row                a call's name in bytes, how many numbers it has, whether the last is a word of 32
+--   NameRow            a call's name in bytes, how many numbers it has, whether the last is a word of 32
 --                      bits, and the call with such numbers
 --   table              a row for each call
 --   sameBytes a b      a and b are the same bytes
@@ -20,7 +20,7 @@ use Rattle.board_call.specs.declared.Call.the-variants as calls
 use Rattle.record_call.specs.declared.Line.{Line}
 use Rattle.record_call.specs.declared.Line.the-variants as lines
 
-pub record Row : Type 0 where
+pub record NameRow : Type 0 where
   pub name : List ℕ
   pub count : ℕ
   pub word : Bool
@@ -42,7 +42,7 @@ abbrev pub fifth : List ℕ → ℕ
 fifth ns = getD ns 4 0
 
 -- reset
-abbrev pub resetRow : Row
+abbrev pub resetRow : NameRow
 resetRow =
     record {
       name = 114 ∷ 101 ∷ 115 ∷ 101 ∷ 116 ∷ [];
@@ -52,7 +52,7 @@ resetRow =
     }
 
 -- wire
-abbrev pub wireRow : Row
+abbrev pub wireRow : NameRow
 wireRow =
     record {
       name = 119 ∷ 105 ∷ 114 ∷ 101 ∷ [];
@@ -62,7 +62,7 @@ wireRow =
     }
 
 -- domain_read
-abbrev pub domainReadRow : Row
+abbrev pub domainReadRow : NameRow
 domainReadRow =
     record {
       name = 100 ∷ 111 ∷ 109 ∷ 97 ∷ 105 ∷ 110 ∷ 95 ∷ 114 ∷ 101 ∷ 97 ∷ 100 ∷ [];
@@ -72,7 +72,7 @@ domainReadRow =
     }
 
 -- domain_write
-abbrev pub domainWriteRow : Row
+abbrev pub domainWriteRow : NameRow
 domainWriteRow =
     record {
       name = 100 ∷ 111 ∷ 109 ∷ 97 ∷ 105 ∷ 110 ∷ 95 ∷ 119 ∷ 114 ∷ 105 ∷ 116 ∷ 101 ∷ [];
@@ -82,7 +82,7 @@ domainWriteRow =
     }
 
 -- page_read
-abbrev pub pageReadRow : Row
+abbrev pub pageReadRow : NameRow
 pageReadRow =
     record {
       name = 112 ∷ 97 ∷ 103 ∷ 101 ∷ 95 ∷ 114 ∷ 101 ∷ 97 ∷ 100 ∷ [];
@@ -92,7 +92,7 @@ pageReadRow =
     }
 
 -- page_write
-abbrev pub pageWriteRow : Row
+abbrev pub pageWriteRow : NameRow
 pageWriteRow =
     record {
       name = 112 ∷ 97 ∷ 103 ∷ 101 ∷ 95 ∷ 119 ∷ 114 ∷ 105 ∷ 116 ∷ 101 ∷ [];
@@ -102,7 +102,7 @@ pageWriteRow =
     }
 
 -- register
-abbrev pub registerRow : Row
+abbrev pub registerRow : NameRow
 registerRow =
     record {
       name = 114 ∷ 101 ∷ 103 ∷ 105 ∷ 115 ∷ 116 ∷ 101 ∷ 114 ∷ [];
@@ -112,7 +112,7 @@ registerRow =
     }
 
 -- top
-abbrev pub topRow : Row
+abbrev pub topRow : NameRow
 topRow =
     record {
       name = 116 ∷ 111 ∷ 112 ∷ [];
@@ -122,7 +122,7 @@ topRow =
     }
 
 -- claim
-abbrev pub claimRow : Row
+abbrev pub claimRow : NameRow
 claimRow =
     record {
       name = 99 ∷ 108 ∷ 97 ∷ 105 ∷ 109 ∷ [];
@@ -132,7 +132,7 @@ claimRow =
     }
 
 -- signals
-abbrev pub signalsRow : Row
+abbrev pub signalsRow : NameRow
 signalsRow =
     record {
       name = 115 ∷ 105 ∷ 103 ∷ 110 ∷ 97 ∷ 108 ∷ 115 ∷ [];
@@ -142,7 +142,7 @@ signalsRow =
     }
 
 -- move
-abbrev pub moveRow : Row
+abbrev pub moveRow : NameRow
 moveRow =
     record {
       name = 109 ∷ 111 ∷ 118 ∷ 101 ∷ [];
@@ -152,7 +152,8 @@ moveRow =
     }
 
 -- in the order of how many numbers they have
-unfoldable pub table : List Row
+-- [02 M100.3]
+unfoldable pub table : List NameRow
 table =
     resetRow ∷ signalsRow ∷ wireRow ∷ domainReadRow ∷ topRow ∷ claimRow
     ∷ pageReadRow ∷ domainWriteRow ∷ pageWriteRow ∷ registerRow ∷ moveRow ∷ []
@@ -172,13 +173,14 @@ abbrev pub wordAtEnd : Bool → List ℕ → Bool
 wordAtEnd true ns = ltb (lastIn ns) (2 ^ 32)
 wordAtEnd false ns = true
 
-abbrev pub fits : Row → List ℕ → List ℕ → Bool
+abbrev pub fits : NameRow → List ℕ → List ℕ → Bool
 fits r name ns = eqb (length ns) (r .count) && (sameBytes name (r .name) && wordAtEnd (r .word) ns)
 
-unfoldable pub callIn : List Row → List ℕ → List ℕ → Line
+unfoldable pub callIn : List NameRow → List ℕ → List ℕ → Line
 callIn [] name ns = lines.Unreadable
 callIn (r ∷ rs) name ns = cond (fits r name ns) (lines.Call (r .make ns)) (callIn rs name ns)
 
+-- [02 M100.6]
 unfoldable pub lineOf : List ℕ → Line
 lineOf l =
     cond (leb (length l) lineSize && areNumbers (textsOf l))

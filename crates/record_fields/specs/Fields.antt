@@ -18,6 +18,7 @@ use Rattle.record_lines.specs.Parted.{endedBy, restBy}
 abbrev pub tab : ℕ
 tab = 9
 
+-- [02 M100.3]
 unfoldable pub fieldsOf : List ℕ → List (List ℕ)
 fieldsOf l = endedBy tab [] l ++ (restBy tab [] l ∷ [])
 

@@ -16,6 +16,7 @@ use Rattle.record_lines.specs.Parted.{endedBy, restBy}
 abbrev pub lineFeed : ℕ
 lineFeed = 10
 
+-- [02 M100.8]
 abbrev pub lineSize : ℕ
 lineSize = 200
 

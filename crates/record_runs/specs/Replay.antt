@@ -23,6 +23,7 @@ use Rattle.board_call.specs.declared.Call.{Call}
 use Rattle.board_call.specs.Outcome.{Outcome}
 use Rattle.board_runs.specs.Runs.{Lent, outcomeOn, after, ran}
 
+-- [02 M100.2]
 unfoldable pub saidIn : List ℕ → List Line
 saidIn bs = map lineOf (linesOf bs)
 
@@ -35,10 +36,12 @@ abbrev pub callOnto : Line → List Call → List Call
 callOnto (lines.Call c) cs = c ∷ cs
 callOnto lines.Unreadable cs = cs
 
+-- [02 M100.6]
 unfoldable pub callsIn : List Line → List Call
 callsIn [] = []
 callsIn (s ∷ ss) = callOnto s (callsIn ss)
 
+-- [02 M100.5]
 abbrev pub numbersShown : ℕ → Outcome → List ℕ
 numbersShown n o = lineShown (n ∷ o .number ∷ o .value ∷ o .count ∷ take (o .count) (o .log))
 
@@ -46,10 +49,12 @@ abbrev pub answerTo : ℕ → Line → Lent → List ℕ
 answerTo n (lines.Call c) x = numbersShown n (outcomeOn c x)
 answerTo n lines.Unreadable x = lineShown (n ∷ [])
 
+-- [02 M100.4]
 abbrev pub passedOn : Line → Lent → Lent
 passedOn (lines.Call c) x = after c x
 passedOn lines.Unreadable x = x
 
+-- [02 M100.2]
 unfoldable pub answersFrom : ℕ → List Line → Lent → List ℕ
 answersFrom n [] x = []
 answersFrom n (s ∷ ss) x = answerTo n s x ++ answersFrom (suc n) ss (passedOn s x)
