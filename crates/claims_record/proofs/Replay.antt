@@ -122,4 +122,6 @@ claim-201 l b b′ g g′ s s′ n n′ c c′ o o′ f r = (
     (λ w. (w .start, w .end, w .held, w .printed)),
     (λ p. record { start = p .0; end = p .1; held = p .2; printed = p .3 }),
   )),
+  (λ g n k. ((λ y. (y .log, y .room, y .few)), (λ p. record { log = p .0; room = p .1; few = p .2 }))),
+  refl,
 )

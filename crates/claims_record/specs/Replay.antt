@@ -25,7 +25,8 @@ use Rattle.board_call.specs.declared.Call.{Call}
 use Rattle.board_call.specs.declared.Call.the-variants.{Reset}
 use Rattle.board_runs.specs.Runs.{Lent, outcomeOn, after, ran}
 use Rattle.record_replay.specs.declared.pieces.Run.{Run}
-use Rattle.record_replay.specs.Pieces.{heldAt, Went}
+use Rattle.record_replay.specs.Pieces.{heldAt, Roomy, Went}
+use Rattle.record_answer.specs.Shown.{answerRoom}
 use Rattle.record_call.proofs.read.Reads as read
 use Rattle.record_replay.proofs.some.Reads as some
 
@@ -96,3 +97,5 @@ Claim-201 =
     × (f .at < length (now c) → f .at < r .at))
     × ((xs : List ℕ) (i e : ℕ) (h h′ : Held) (a d : List ℕ) → Went xs i h a e h′ d
     ↔ ((i ≤ e) × (e ≤ length xs) × (h′ ≡ goneOn (slice i e xs) h) × (d ≡ a ++ printedBy (slice i e xs) h)))
+    × ((g n : List ℕ) (k : ℕ) → Roomy g n k ↔ ((length g ≡ 63) × (length n ≡ 201) × (k ≤ 201)))
+    × (answerRoom ≡ 1408)
