@@ -18,7 +18,7 @@ function head(    form) {
 }
 END {
     head()
-    row("replay/shift", "replay")
+    row("replay", "replay")
     row("calls alone", "calls")
     if (markdown) print ""
     printf "Lines a second: %.0f, in plain C %.0f.\n", 1e9 / ns["replay"], 1e9 / plain_ns["replay"]
