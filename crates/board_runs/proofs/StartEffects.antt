@@ -54,4 +54,5 @@ ready-reset =
   where
     at : (k : ℕ) → Dec (k < savedSize) → getD {A = ℕ} (replicate savedSize 0) k 0 < 2 ^ 64
     at k (yes l) = rw (getD-replicate {A = ℕ} savedSize k 0 0 l) (omega arith)
-    at k (no l) = rw (List·getD-eq-default {A = ℕ} (replicate savedSize 0) 0 {n = k} (omega arith)) (omega arith)
+    at k (no l) = rw (List·getD-eq-default {A = ℕ} (replicate savedSize 0) 0 {n = k} (omega arith))
+        (omega arith)

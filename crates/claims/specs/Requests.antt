@@ -7,8 +7,8 @@ use Rattle.claims_record.specs.Lines.{Claim-195, Claim-196}
 use Rattle.claims_record.specs.Replay.{Claim-197, Claim-198, Claim-199, Claim-200, Claim-201}
 use Rattle.claims_record.specs.Examples.{Claim-202}
 
--- M-100: a recorded shift is read by a written grammar and run from reset; its last state is that of the plain calls
--- in order, and each of its lines is answered by one
+-- M-100: a recorded shift is read by a written grammar and run from reset; its last state is that of the
+-- plain calls in order, and each of its lines is answered by one
 unfoldable pub Request-100 : Type 0
 Request-100 =
     -- the grammar: bytes, lines, calls, both ways, and lines at its edges

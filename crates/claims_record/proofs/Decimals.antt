@@ -28,9 +28,11 @@ onto-worth v (b ∷ bs) =
     onto-worth (v * 10 + d) bs ∙ omega (arith, left, right)
 
 pub value-worth : (bs : List ℕ) → valueOf bs ≡ worth bs
-value-worth bs = onto-worth 0 bs ∙ ap (λ (m : ℕ). m + worth bs) (zero-mul (10 ^ length bs)) ∙ zero-add (worth bs)
+value-worth bs = onto-worth 0 bs ∙ ap (λ (m : ℕ). m + worth bs) (zero-mul (10 ^ length bs))
+    ∙ zero-add (worth bs)
 
-all-digits : (bs : List ℕ) → ((i : ℕ) → i < length bs → (48 ≤ getD bs i 0) × (getD bs i 0 ≤ 57)) → allDigits bs ≡ true
+all-digits : (bs : List ℕ) → ((i : ℕ) → i < length bs → (48 ≤ getD bs i 0) × (getD bs i 0 ≤ 57)) →
+    allDigits bs ≡ true
 unfolding allDigits
 all-digits [] d = refl
 all-digits (b ∷ bs) d =
@@ -66,7 +68,8 @@ spelled-1 (t ∷ ts) e = (
   spelled-1 ts (and-second (isNumber t) (areNumbers ts) e),
 )
 
-pub spelled-2 : (ts : List (List ℕ)) (ns : List ℕ) → Spelled ts ns → (areNumbers ts ≡ true) × (numbersOf ts ≡ ns)
+pub spelled-2 : (ts : List (List ℕ)) (ns : List ℕ) → Spelled ts ns →
+    (areNumbers ts ≡ true) × (numbersOf ts ≡ ns)
 unfolding areNumbers numbersOf
 spelled-2 [] [] s = (refl, refl)
 spelled-2 (t ∷ ts) (n ∷ ns) s =

@@ -43,7 +43,8 @@ module _ (bs : List ℕ) where
     inr (ended, (x ∷ xs), refl, omega arith, sym (glued-ends ended (x ∷ xs) ∙ e)),
   )
     where
-      all-end : (ls : List (List ℕ)) (l : List ℕ) → AllLack lineFeed ls → Lacks lineFeed l → AllNoFeed (ls ++ (l ∷ []))
+      all-end : (ls : List (List ℕ)) (l : List ℕ) → AllLack lineFeed ls → Lacks lineFeed l →
+          AllNoFeed (ls ++ (l ∷ []))
       all-end [] l m n = (n, tt)
       all-end (k ∷ ls) l m n = (m .0, all-end ls l (m .1) n)
 

@@ -1,5 +1,5 @@
--- Bytes parted by a byte, in both directions: the parts, put together, are the bytes, no part has the byte, and what is
--- put together of such parts is parted into them. No axioms.
+-- Bytes parted by a byte, in both directions: the parts, put together, are the bytes, no part has the
+-- byte, and what is put together of such parts is parted into them. No axioms.
 --   Lacks b t      no byte of t is b
 --   glued b ls r   the parts ls, each with b behind it, and then r
 use Prim.Native.Nat.{ℕ, zero, suc, _+_, _≤_, _<_}

@@ -15,13 +15,15 @@ use Rattle.record_runs.proofs.RunLaws.{gone-both, printed-both, gone-none, prin
 use Rattle.board_runs.specs.Runs.{Lent, ran}
 use Rattle.board_runs.specs.Ready.{atReset}
 use Rattle.board_runs.proofs.RunsEffects.{ran-append}
-use Rattle.claims_record.specs.Lines.{together, begun, afterPieces, printedIn, finished, lastPrinted, Claim-196}
+use Rattle.claims_record.specs.Lines.{together, begun, afterPieces, printedIn, finished}
+use Rattle.claims_record.specs.Lines.{lastPrinted, Claim-196}
 
 gone-kept : (bs : List ℕ) (h : Held) → kept (goneOn bs h .line) ≡ goneOn bs h .line
 unfolding goneOn
 gone-kept bs h = kept-kept (restBy lineFeed (h .line) bs)
 
-after-pieces : (ps : List (List ℕ)) (h : Held) → kept (h .line) ≡ h .line → afterPieces ps h ≡ goneOn (together ps) h
+after-pieces : (ps : List (List ℕ)) (h : Held) → kept (h .line) ≡ h .line →
+    afterPieces ps h ≡ goneOn (together ps) h
 after-pieces [] h whole = sym (gone-none h whole)
 after-pieces (p ∷ ps) h whole =
     after-pieces ps (goneOn p h) (gone-kept p h) ∙ sym (gone-both p (together ps) h)
@@ -66,14 +68,17 @@ module _ (bs : List ℕ) where
   unfolding goneOn printedBy
   all-printed =
       let from : suc (0 + length early) ≡ 1 + length early = omega arith in
-      ap₂ (λ (ss : List Line) (n : ℕ). answersFrom 1 early atReset ++ answersFrom n ss (ran (callsIn early) atReset))
+      ap₂ (λ (ss : List Line) (n : ℕ). answersFrom 1 early atReset ++ answersFrom n ss (ran
+      (callsIn early) atReset))
       (last-kept rest) from
-      ∙ sym (ap (λ (ss : List Line). answersFrom 1 ss atReset) said-parts ∙ answers-append early late 1 atReset)
+      ∙ sym (ap (λ (ss : List Line). answersFrom 1 ss atReset) said-parts
+      ∙ answers-append early late 1 atReset)
 
   all-lines : goneOn bs begun .number + length (lastOf (goneOn bs begun .line)) ≡ length (linesOf bs)
   unfolding goneOn saidAfter linesOf
   all-lines =
-      let last = sym (length-map (lastOf (kept rest)) lineOf) ∙ ap length (last-kept rest) ∙ length-map (lastOf rest) lineOf in
+      let last = sym (length-map (lastOf (kept rest)) lineOf) ∙ ap length (last-kept rest)
+      ∙ length-map (lastOf rest) lineOf in
       omega (
         arith,
         last,

@@ -33,12 +33,14 @@ use Rattle.claims_record.proofs.Written.{written-1}
 
 -- ---- numbers of 64 bits
 
-spelled-small : (ts : List (List ℕ)) (ns : List ℕ) → Spelled ts ns → (i : ℕ) → i < length ns → getD ns i 0 < 2 ^ 64
+spelled-small : (ts : List (List ℕ)) (ns : List ℕ) → Spelled ts ns → (i : ℕ) → i < length ns →
+    getD ns i 0 < 2 ^ 64
 spelled-small [] [] s i h = absurd (omega (arith, h))
 spelled-small (t ∷ ts) (n ∷ ns) s zero h = s .0 .small
 spelled-small (t ∷ ts) (n ∷ ns) s (suc i) h = spelled-small ts ns (s .1) i (omega (arith, h))
 
-numbers-small : (c : Call) → ((i : ℕ) → i < length (callNumbers c) → getD (callNumbers c) i 0 < 2 ^ 64) → Small c
+numbers-small : (c : Call) → ((i : ℕ) → i < length (callNumbers c) → getD (callNumbers c) i 0 < 2 ^ 64) →
+    Small c
 unfolding rowOf
 numbers-small Reset n = tt
 numbers-small (Wire i level) n = tt
@@ -107,7 +109,8 @@ outcome-number c x = at (ℕ-discrete (refusalOf c (x .block) (x .log)) 0)
 pub claim-199 : Claim-199
 unfolding Claim-199 saidIn
 claim-199 bs ss ts c e =
-    let small = calls-small ss (first-small ss (lines.Call c ∷ ts) (subst LinesSmall e (all-small (linesOf bs)))) in
+    let small = calls-small ss (first-small ss (lines.Call c ∷ ts) (subst LinesSmall e (all-small
+    (linesOf bs)))) in
     let x = ran (callsIn ss) atReset in
     let ready = ready-ran (callsIn ss) atReset ready-reset small in
     subst Named (sym (outcome-number c x ∙ ready-refusal c x ready)) (name-named (rowOf c .tests) (boardIn x))

@@ -22,8 +22,10 @@ use Rattle.board_call.specs.declared.Call.{Call}
 use Rattle.board_runs.specs.Runs.{Lent, after, ran}
 use Rattle.board_runs.specs.Ready.{atReset}
 use Rattle.board_runs.proofs.StartEffects.{after-reset}
-use Rattle.claims_record.specs.Replay.{lineByLine, told, fieldsTold, Claim-197, Claim-198, Claim-200, Claim-201}
-use Rattle.claims_record.proofs.PartsLaws.{Lacks, lacks-none, lacks-cons, lacks-append, ended-part, rest-part}
+use Rattle.claims_record.specs.Replay.{lineByLine, told, fieldsTold, Claim-197, Claim-198}
+use Rattle.claims_record.specs.Replay.{Claim-200, Claim-201}
+use Rattle.claims_record.proofs.PartsLaws.{Lacks, lacks-none, lacks-cons, lacks-append}
+use Rattle.claims_record.proofs.PartsLaws.{ended-part, rest-part}
 
 -- ---- what is left
 
@@ -91,9 +93,11 @@ answers-told : (ss : List Line) (n : ℕ) (x : Lent) →
 unfolding answersFrom linesOf endedBy restBy lastOf
 answers-told [] n x = refl
 answers-told (s ∷ ss) n x =
-    ap (λ (l : List ℕ). map fieldsOf (linesOf (l ++ answersFrom (suc n) ss (passedOn s x)))) (answer-line n s x)
+    ap (λ (l : List ℕ). map fieldsOf (linesOf (l ++ answersFrom (suc n) ss (passedOn s x))))
+    (answer-line n s x)
     ∙ line-told n (told s x) (answersFrom (suc n) ss (passedOn s x))
-    ∙ ap (λ (fs : List (List (List ℕ))). map textOf (n ∷ told s x) ∷ fs) (answers-told ss (suc n) (passedOn s x))
+    ∙ ap (λ (fs : List (List (List ℕ))). map textOf (n ∷ told s x) ∷ fs) (answers-told ss (suc n)
+    (passedOn s x))
 
 told-length : (ss : List Line) (n : ℕ) (x : Lent) → length (fieldsTold n ss x) ≡ length ss
 told-length [] n x = refl

@@ -27,7 +27,8 @@ pub record Says (c : Call) (n ns : List ℕ) : Type 0 where
 
 -- a row says its call, if the numbers are as many as it has
 abbrev RowSays : NameRow → Type 0
-RowSays r = (ns : List ℕ) → length ns ≡ r .count → wordAtEnd (r .word) ns ≡ true → Says (r .make ns) (r .name) ns
+RowSays r = (ns : List ℕ) → length ns ≡ r .count → wordAtEnd (r .word) ns ≡ true →
+    Says (r .make ns) (r .name) ns
 
 abbrev AllSay : List NameRow → Type 0
 AllSay [] = Unit {0}
@@ -51,37 +52,45 @@ call-not-unreadable c e = subst (λ (t : Bool). cond t ⊥ (Unit {0})) (ap isCal
 
 -- ---- from the table to the call
 
-row-in : (rs : List NameRow) (name ns : List ℕ) (c : Call) → AllSay rs → callIn rs name ns ≡ lines.Call c → Says c name ns
+row-in : (rs : List NameRow) (name ns : List ℕ) (c : Call) → AllSay rs →
+    callIn rs name ns ≡ lines.Call c → Says c name ns
 unfolding callIn
 row-in [] name ns c say e = absurd (call-not-unreadable c e)
 row-in (r ∷ rs) name ns c say e =
     tested (fits r name ns)
     (λ t. here t (sym (ap (λ (u : Bool). cond u (lines.Call (r .make ns)) (callIn rs name ns)) t) ∙ e))
-    (λ t. row-in rs name ns c (say .1) (sym (ap (λ (u : Bool). cond u (lines.Call (r .make ns)) (callIn rs name ns)) t) ∙ e))
+    (λ t. row-in rs name ns c (say .1) (sym (ap
+    (λ (u : Bool). cond u (lines.Call (r .make ns)) (callIn rs name ns)) t) ∙ e))
   where
     here : fits r name ns ≡ true → _≡_ {A = Line} (lines.Call (r .make ns)) (lines.Call c) → Says c name ns
     here t q =
-        let many = and-first (eqb (length ns) (r .count)) (sameBytes name (r .name) && wordAtEnd (r .word) ns) t in
-        let rest = and-second (eqb (length ns) (r .count)) (sameBytes name (r .name) && wordAtEnd (r .word) ns) t in
-        let same = same-bytes-1 name (r .name) (and-first (sameBytes name (r .name)) (wordAtEnd (r .word) ns) rest) in
+        let many = and-first (eqb (length ns) (r .count)) (sameBytes name (r .name) && wordAtEnd
+        (r .word) ns) t in
+        let rest = and-second (eqb (length ns) (r .count)) (sameBytes name (r .name) && wordAtEnd
+        (r .word) ns) t in
+        let same = same-bytes-1 name (r .name) (and-first (sameBytes name (r .name)) (wordAtEnd
+        (r .word) ns) rest) in
         let word = and-second (sameBytes name (r .name)) (wordAtEnd (r .word) ns) rest in
         subst (λ d. Says d name ns) (same-call (r .make ns) c q)
         (subst (λ n. Says (r .make ns) n ns) (sym same)
         (say .0 ns (eqb-true (length ns) (r .count) many) word))
 
 -- each row, by how many numbers it has
-none : (r : NameRow) → r .count ≡ 0 → (wordAtEnd (r .word) [] ≡ true → Says (r .make []) (r .name) []) → RowSays r
+none : (r : NameRow) → r .count ≡ 0 → (wordAtEnd (r .word) [] ≡ true → Says (r .make []) (r .name) []) →
+    RowSays r
 none r e s [] h w = s w
 none r e s (a ∷ ns) h w = absurd (omega (arith, e, h))
 
-one : (r : NameRow) → r .count ≡ 1 → ((a : ℕ) → wordAtEnd (r .word) (a ∷ []) ≡ true → Says (r .make (a ∷ [])) (r .name) (a ∷ [])) →
+one : (r : NameRow) → r .count ≡ 1 → ((a : ℕ) → wordAtEnd (r .word) (a ∷ []) ≡ true →
+    Says (r .make (a ∷ [])) (r .name) (a ∷ [])) →
     RowSays r
 one r e s [] h w = absurd (omega (arith, e, h))
 one r e s (a ∷ []) h w = s a w
 one r e s (a ∷ b ∷ ns) h w = absurd (omega (arith, e, h))
 
 two : (r : NameRow) → r .count ≡ 2 →
-    ((a b : ℕ) → wordAtEnd (r .word) (a ∷ b ∷ []) ≡ true → Says (r .make (a ∷ b ∷ [])) (r .name) (a ∷ b ∷ [])) → RowSays r
+    ((a b : ℕ) → wordAtEnd (r .word) (a ∷ b ∷ []) ≡ true →
+    Says (r .make (a ∷ b ∷ [])) (r .name) (a ∷ b ∷ [])) → RowSays r
 two r e s [] h w = absurd (omega (arith, e, h))
 two r e s (a ∷ []) h w = absurd (omega (arith, e, h))
 two r e s (a ∷ b ∷ []) h w = s a b w
@@ -134,9 +143,19 @@ all-say = (
             (
               three pageReadRow refl (λ a b c w. record { name = refl; numbers = refl; words = tt }),
               (
-                three domainWriteRow refl (λ a b c w. record { name = refl; numbers = refl; words = ltb-true c (2 ^ 32) w }),
+                three domainWriteRow refl (λ a b c w. record {
+                  name = refl;
+                  numbers = refl;
+                  words =
+                      ltb-true c (2 ^ 32) w;
+                }),
                 (
-                  four pageWriteRow refl (λ a b c d w. record { name = refl; numbers = refl; words = ltb-true d (2 ^ 32) w }),
+                  four pageWriteRow refl (λ a b c d w. record {
+                    name = refl;
+                    numbers = refl;
+                    words =
+                        ltb-true d (2 ^ 32) w;
+                  }),
                   (
                     five registerRow refl (λ a b c d f w. record { name = refl; numbers = refl; words = tt }),
                     (

@@ -1,4 +1,5 @@
--- Claims 192 and 193: a line is its fields, put together with tabs, and the table says which call they are. No axioms.
+-- Claims 192 and 193: a line is its fields, put together with tabs, and the table says which call they
+-- are. No axioms.
 use Prim.Native.Nat.{ℕ, zero, suc, _+_, _*_, _^_, _≤_, _<_}
 use mathlib.Core.Path.{_≡_, refl, sym, ap, ap₂, subst, _∙_}
 use mathlib.Core.Bool.{Bool, true, false, cond, _&&_, not}
@@ -13,14 +14,16 @@ use Rattle.record_numbers.specs.Decimal.{textOf}
 use Rattle.record_numbers.proofs.TextLaws.{text-le}
 use Rattle.record_lines.specs.Parted.{endedBy, restBy}
 use Rattle.record_lines.specs.Lines.{lineSize}
-use Rattle.record_fields.specs.Fields.{tab, fieldsOf, firstOf, othersOf, nameOf, textsOf, areNumbers, numbersOf}
+use Rattle.record_fields.specs.Fields.{tab, fieldsOf, firstOf, othersOf, nameOf, textsOf, areNumbers}
+use Rattle.record_fields.specs.Fields.{numbersOf}
 use Rattle.record_call.specs.declared.Line.{Line}
 use Rattle.record_call.specs.declared.Line.the-variants as lines
 use Rattle.record_call.specs.Table.{table, callIn, lineOf}
 use Rattle.board_call.specs.declared.Call.{Call}
 use Rattle.board_call.specs.declared.Call.the-variants.{Reset, Wire, DomainRead, DomainWrite, PageRead}
 use Rattle.board_call.specs.declared.Call.the-variants.{PageWrite, Register, Top, Claim, Signals, Move}
-use Rattle.claims_record.specs.Written.{Decimal, Spelled, callName, callNumbers, WordsSmall, behindTabs, Written}
+use Rattle.claims_record.specs.Written.{Decimal, Spelled, callName, callNumbers, WordsSmall}
+use Rattle.claims_record.specs.Written.{behindTabs, Written}
 use Rattle.claims_record.specs.Written.{Claim-192, Claim-193}
 use Rattle.claims_record.proofs.PartsLaws.{Lacks, AllLack, lacks-none, lacks-cons, glued, glued-parts}
 use Rattle.claims_record.proofs.PartsLaws.{ended-part, rest-part, ended-only, rest-only}
@@ -42,7 +45,8 @@ fields-1 : (l : List ℕ) → l ≡ nameOf l ++ behindTabs (textsOf l)
 unfolding nameOf textsOf fieldsOf
 fields-1 l = sym (glued-parts tab l []) ∙ fields-glued (endedBy tab [] l) (restBy tab [] l)
 
-fields-2 : (t : List ℕ) (ts : List (List ℕ)) → Lacks tab t → AllLack tab ts → fieldsOf (t ++ behindTabs ts) ≡ t ∷ ts
+fields-2 : (t : List ℕ) (ts : List (List ℕ)) → Lacks tab t → AllLack tab ts →
+    fieldsOf (t ++ behindTabs ts) ≡ t ∷ ts
 unfolding fieldsOf
 fields-2 t [] n all =
     ap (λ (bs : List ℕ). endedBy tab [] bs ++ (restBy tab [] bs ∷ [])) (append-nil t)
@@ -71,7 +75,8 @@ lacks-tested (x ∷ xs) e =
     lacks-cons tab x xs (eqb-false x tab (not-true (eqb x tab) (and-first (not (eqb x tab)) (lacksTab xs) e)))
     (lacks-tested xs (and-second (not (eqb x tab)) (lacksTab xs) e))
 
-name-tested : (c : Call) → (lacksTab (callName c) ≡ true) × (length (callName c) ≤ 12) × (length (callNumbers c) ≤ 5)
+name-tested : (c : Call) → (lacksTab (callName c) ≡ true) × (length (callName c) ≤ 12) × (length
+    (callNumbers c) ≤ 5)
 name-tested Reset = (refl, omega arith, omega arith)
 name-tested (Wire i level) = (refl, omega arith, omega arith)
 name-tested (DomainRead d a) = (refl, omega arith, omega arith)
@@ -117,7 +122,8 @@ module _ (l : List ℕ) (c : Call) where
   written-2 le w =
       let name = lacks-tested (callName c) (name-tested c .0) in
       let fields : fieldsOf l ≡ callName c ∷ w .texts =
-      ap fieldsOf (w .line) ∙ fields-2 (callName c) (w .texts) name (spelled-lack (w .texts) (callNumbers c) (w .numbers)) in
+      ap fieldsOf (w .line) ∙ fields-2 (callName c) (w .texts) name (spelled-lack (w .texts)
+      (callNumbers c) (w .numbers)) in
       let all = spelled-2 (w .texts) (callNumbers c) (w .numbers) in
       rw (fields, le-leb (length l) lineSize le, all .0, all .1) (table-2 c (w .words))
 
@@ -129,7 +135,11 @@ claim-192 l c = (written-1 l c, λ p. written-2 l c (p .0) (p .1))
 
 texts-spelled : (ns : List ℕ) → ((i : ℕ) → i < length ns → getD ns i 0 < 2 ^ 64) → Spelled (map textOf ns) ns
 texts-spelled [] h = tt
-texts-spelled (n ∷ ns) h = (text-decimal n (h 0 (omega arith)), texts-spelled ns (λ i g. h (suc i) (omega (arith, g))))
+texts-spelled (n ∷ ns) h = (
+  text-decimal n (h 0 (omega arith)),
+  texts-spelled ns
+      (λ i g. h (suc i) (omega (arith, g))),
+)
 
 texts-le : (ns : List ℕ) → length (behindTabs (map textOf ns)) ≤ length ns * 21
 texts-le [] = omega arith
@@ -143,6 +153,19 @@ claim-193 c small words =
     let few = name-tested c in (
       l,
       written-2 l c
-          (omega (arith, length-append (callName c) (behindTabs (map textOf (callNumbers c))), texts-le (callNumbers c), few .1, few .2))
-          record { texts = map textOf (callNumbers c); line = refl; numbers = texts-spelled (callNumbers c) small; words = words },
+          (omega (
+            arith,
+            length-append (callName c) (behindTabs (map textOf (callNumbers c))),
+            texts-le
+                (callNumbers c),
+            few .1,
+            few .2,
+          ))
+          record {
+            texts = map textOf (callNumbers c);
+            line = refl;
+            numbers = texts-spelled
+                (callNumbers c) small;
+            words = words;
+          },
     )

@@ -8,8 +8,9 @@ use Rattle.record_call.specs.Table.{lineOf}
 use Rattle.board_call.specs.declared.Call.the-variants.{Reset, Wire, PageWrite, Register, Signals}
 use Rattle.claims_record.specs.Text.{textCodes}
 
--- lines at the edges: 200 and 201 bytes, the largest numbers and one more, zeros in front, an empty line, a carriage
--- return, a sign, a space, two tabs, a tab at the end, a number too few and one too many, a capital letter
+-- lines at the edges: 200 and 201 bytes, the largest numbers and one more, zeros in front, an empty line,
+-- a carriage return, a sign, a space, two tabs, a tab at the end, a number too few and one too many, a
+-- capital letter
 -- [02 M100.8]
 unfoldable pub Claim-202 : Type 0
 Claim-202 =

@@ -36,8 +36,8 @@ Parted ls bs =
     (bs ≡ withEnds ls)
     ⊎ ((ks : List (List ℕ)) × (l : List ℕ) × (ls ≡ ks ++ (l ∷ [])) × (1 ≤ length l) × (bs ≡ withEnds ks ++ l))
 
--- the lines of a record are what its LFs part, and only those: each line has its end, but the last may lack it if it
--- has a byte; an empty line is a line
+-- the lines of a record are what its LFs part, and only those: each has its end, but the last may lack it
+-- unless it is empty; a line may be empty
 -- [02 M100.3]
 unfoldable pub Claim-195 : Type 0
 Claim-195 = (ls : List (List ℕ)) (bs : List ℕ) → (linesOf bs ≡ ls) ↔ (AllNoFeed ls × Parted ls bs)
@@ -65,13 +65,14 @@ finished h = ran (callsIn (map lineOf (lastOf (h .line)))) (h .lent)
 abbrev pub lastPrinted : Held → List ℕ
 lastPrinted h = answersFrom (suc (h .number)) (map lineOf (lastOf (h .line))) (h .lent)
 
--- bytes that come in any pieces do what the whole record does: the same answers under the same numbers of lines, and
--- the same block, log and saved numbers at the end
+-- bytes that come in any pieces do what the whole record does: the same answers under the same numbers of
+-- lines, and the same block, log and saved numbers at the end
 -- [02 M100.2]
 unfoldable pub Claim-196 : Type 0
 Claim-196 =
     (ps : List (List ℕ))
-    → (printedIn ps begun ++ lastPrinted (afterPieces ps begun) ≡ answersFrom 1 (saidIn (together ps)) atReset)
+    → (printedIn ps begun ++ lastPrinted (afterPieces ps begun) ≡ answersFrom 1 (saidIn
+    (together ps)) atReset)
     × (finished (afterPieces ps begun) ≡ ran (callsIn (saidIn (together ps))) atReset)
     × (afterPieces ps begun .number + length (lastOf (afterPieces ps begun .line))
     ≡ length (linesOf (together ps)))

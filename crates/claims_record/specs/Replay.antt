@@ -1,6 +1,7 @@
--- Claims 197 to 201, on a record that is run: what it leaves, what is printed, which refusals there can be, and what
--- the functions give that do it. 02, M-100; docs/RECORD.md.
---   lineByLine ss x      what the lines ss leave of x, one after the other: a line that cannot be read leaves all
+-- Claims 197 to 201, on a record that is run: what it leaves, what is printed, which refusals there can
+-- be, and what the functions give that do it. 02, M-100; docs/RECORD.md.
+--   lineByLine ss x      what the lines ss leave of x, one after the other: a line that cannot be read
+--                        leaves all
 --   told s x             the numbers that a line is answered by, behind its own number
 --   fieldsTold n ss x    the fields of the answers to the lines ss, if the first has the number n
 -- Premises: of claims 200 and 201 what the contract ensures, `X.Learnt`. No axioms.
@@ -34,8 +35,8 @@ abbrev pub lineByLine : List (List ℕ) → Lent → Lent
 lineByLine [] x = x
 lineByLine (l ∷ ls) x = lineByLine ls (passedOn (lineOf l) x)
 
--- the block, the log and the saved numbers after the last line are those of the plain calls in order, from reset: a
--- call does with them what it does anywhere, and a line that cannot be read leaves all three
+-- the block, the log and the saved numbers after the last line are those of the plain calls in order,
+-- from reset: a call does with them what it does anywhere, and a line that cannot be read leaves all three
 -- [02 M100.4 M100.6 M100.7]
 unfoldable pub Claim-197 : Type 0
 Claim-197 =
@@ -58,12 +59,13 @@ abbrev pub fieldsTold : ℕ → List Line → Lent → List (List (List ℕ))
 fieldsTold n [] x = []
 fieldsTold n (s ∷ ss) x = map textOf (n ∷ told s x) ∷ fieldsTold (suc n) ss (passedOn s x)
 
--- one line is printed for each line: its fields are the number of the line, from 1 on, then refusal, value, count and
--- each logged message; of a line that cannot be read the number alone
+-- one line is printed for each line: its fields are the number of the line, from 1 on, then refusal,
+-- value, count and each logged message; of a line that cannot be read the number alone
 -- [02 M100.2 M100.4 M100.5]
 unfoldable pub Claim-198 : Type 0
 Claim-198 =
-    ((bs : List ℕ) → map fieldsOf (linesOf (answersFrom 1 (saidIn bs) atReset)) ≡ fieldsTold 1 (saidIn bs) atReset)
+    ((bs : List ℕ) → map fieldsOf (linesOf (answersFrom 1 (saidIn bs) atReset)) ≡ fieldsTold 1
+    (saidIn bs) atReset)
     × ((bs : List ℕ) → length (linesOf (answersFrom 1 (saidIn bs) atReset)) ≡ length (linesOf bs))
 
 -- ---- refusals
@@ -82,13 +84,14 @@ unfoldable pub Claim-200 : Type 0
 Claim-200 =
     (l : Lfts 1) (b b′ : RefT (List ℕ)) (r : Line) → read.Learnt l (b, tt) r (b′, tt) → r ≡ lineOf (now b)
 
--- the function that runs a piece asks for a log of 63 words, 201 bytes for a line and 1,408 for an answer. It goes on
--- by the bytes that it takes, one at least if there is one: block, log, saved numbers, the line so far and the number of
--- lines are those of the run, and the answers are what it prints
+-- the function that runs a piece asks for a log of 63 words, 201 bytes for a line and 1,408 for an
+-- answer. It goes on by the bytes that it takes, one at least if there is one: block, log, saved numbers,
+-- the line so far and the number of lines are those of the run, and the answers are what it prints
 unfoldable pub Claim-201 : Type 0
 Claim-201 =
     (l : Lfts 6) (b b′ g g′ s s′ n n′ c c′ o o′ : RefT (List ℕ)) (f r : Run)
-    → (length (now g) ≡ 63 → length (now n) ≡ 201 → f .held ≤ 201 → 1408 ≤ length (now o) → f .at ≤ length (now c)
+    → (length (now g) ≡ 63 → length (now n) ≡ 201 → f .held ≤ 201 → 1408 ≤ length (now o) →
+    f .at ≤ length (now c)
     → f .number + (length (now c) - f .at) < 2 ^ 64
     → some.Asked l (b, (g, (s, (n, (c, (o, (f, tt))))))))
     × (some.Learnt l (b, (g, (s, (n, (c, (o, (f, tt))))))) r (b′, (g′, (s′, (n′, (c′, (o′, (f, tt)))))))

@@ -1,5 +1,5 @@
--- Claims 192 to 194, on a line of a record: when it says a call, and what a number looks like that is printed. 02,
--- M-100; docs/RECORD.md.
+-- Claims 192 to 194, on a line of a record: when it says a call, and what a number looks like that is
+-- printed. 02, M-100; docs/RECORD.md.
 --   worth t            what digits are worth: each by its place
 --   Decimal t n        t is n in decimal: a digit or more, nothing else, worth n, which has 64 bits
 --   Spelled ts ns      the fields ts are the numbers ns, in order
@@ -92,13 +92,15 @@ pub record Written (c : Call) (l : List ℕ) : Type 0 where
   pub numbers : Spelled texts (callNumbers c)
   pub words : WordsSmall c
 
--- a line says a call exactly if it has at most 200 bytes and is the name of the call, in small letters, and its
--- numbers in order, each behind one tab: decimal digits, one or more, of at most 64 bits, or 32 for a word
+-- a line says a call exactly if it has at most 200 bytes and is the name of the call, in small letters,
+-- and its numbers in order, each behind one tab: decimal digits, one or more, of at most 64 bits, or 32
+-- for a word
 -- [02 M100.3 M100.6 M100.8]
 unfoldable pub Claim-192 : Type 0
 Claim-192 = (l : List ℕ) (c : Call) → (lineOf l ≡ lines.Call c) ↔ ((length l ≤ 200) × Written c l)
 
--- every call that a program can hold is said by some line of at most 200 bytes, so that the grammar leaves none out
+-- every call that a program can hold is said by some line of at most 200 bytes, so that the grammar
+-- leaves none out
 unfoldable pub Claim-193 : Type 0
 Claim-193 =
     (c : Call) → ((i : ℕ) → i < length (callNumbers c) → getD (callNumbers c) i 0 < 2 ^ 64) → WordsSmall c
@@ -107,4 +109,5 @@ Claim-193 =
 -- a number of 64 bits is printed in decimal, with no zero in front but for 0 itself
 unfoldable pub Claim-194 : Type 0
 Claim-194 =
-    (n : ℕ) → n < 2 ^ 64 → Decimal (textOf n) n × (10 ≤ n → getD (textOf n) 0 0 ≢ 48) × (n < 10 → length (textOf n) ≡ 1)
+    (n : ℕ) → n < 2 ^ 64 → Decimal (textOf n) n × (10 ≤ n → getD (textOf n) 0 0 ≢ 48) × (n < 10 →
+    length (textOf n) ≡ 1)

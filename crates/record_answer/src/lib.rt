@@ -5,11 +5,12 @@ ghost use mathlib.Core.List.{[], _∷_, _++_};
 ghost use lib.ListN.{length, take};
 ghost use Rattle.sizes.specs.Sizes.{logSize};
 ghost use Rattle.record_answer.specs.Shown.{fieldsShown, lineShown, fieldRoom, answerRoom};
+use record_numbers::NUMBER_ROOM;
 use record_numbers::put_decimal;
 use sizes::LOG_SIZE;
 
 // How many bytes a number takes at most, with the tab before it or the end behind it.
-pub const FIELD_ROOM: usize = 21;
+pub const FIELD_ROOM: usize = NUMBER_ROOM + 1;
 
 // How many bytes an answer takes at most.
 pub const ANSWER_ROOM: usize = (4 + LOG_SIZE) * FIELD_ROOM + 1;

@@ -5,3 +5,6 @@ mod text;
 pub use reading::Number;
 pub use reading::decimal;
 pub use text::put_decimal;
+
+// How many digits a number takes at most.
+pub const NUMBER_ROOM: usize = 20;

@@ -19,7 +19,7 @@ use sizes::BLOCK_SIZE;
 use sizes::LOG_SIZE;
 use sizes::SAVED_SIZE;
 
-// What could not be done, and how many lines had ended before.
+// What could not be done, and the last line before it.
 fn tell(fault: &[u8], number: u64) {
     io::write_all(STDERR_FILENO, b"replay: standard ");
     io::write_all(STDERR_FILENO, fault);
@@ -45,10 +45,11 @@ fn finish(
     if line.len() == 0 {
         return;
     }
-    let used = record_replay::end_line(state, log, saved, line, out, 0, number + 1);
+    let last = number + 1;
+    let used = record_replay::end_line(state, log, saved, line, out, 0, last);
     let written = io::write_all(STDOUT_FILENO, &out[..used]);
     if !written {
-        tell(b"output cannot be written", number);
+        tell(b"output cannot be written", last);
     }
 }
 

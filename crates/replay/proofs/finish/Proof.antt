@@ -10,8 +10,8 @@ use Rattle.replay.proofs.finish.Tie as tie
 returns : tie.Need-returns
 returns c = last-none (c .before .before .before .before .before .args .line .now) _ (c .if1 .taken)
 
-add-end-line : tie.Need-add-end-line
-add-end-line c = search needs
+add-last : tie.Need-add-last
+add-last c = search needs
 
 end-line-requires : tie.Need-end-line-requires
 end-line-requires c κs = search needs
@@ -73,7 +73,7 @@ finish-spec =
     tie.close
     (tie.spec
     returns
-    add-end-line
+    add-last
     end-line-requires
     slice-reshare-prefix-write-all
     slice-aggregate-write-all
