@@ -3,9 +3,8 @@
 --   Ready x          650 words of a board that is Fit, a log of 63 words, and saved numbers of 64 bits
 --   boardIn x        that board
 --   AllSmall cs      each of the calls cs has a value of 64 bits at most
---   atReset          what a run from reset is lent first: the block of a reset, a log of zeros, saved
---                    numbers of
---                    zeros
+--   atReset          what a run from reset is lent first: the block of a reset, and zeros as the log and as
+--                    the saved numbers
 use mathlib.Core.Path.{_≡_}
 use mathlib.Core.List.{List, [], _∷_}
 use lib.ListN.{length, replicate}
