@@ -2,7 +2,8 @@
 --   stateRoom, logRoom   the words that there are: some more than the board needs, so that a length can be
 --                        too large
 --   Lendable s l         s words of the state and l of the log can be lent
-use Prim.Native.Nat.{ℕ, _+_, _≤_}
+use Prim.Native.Nat.{ℕ, _+_, _*_, _≤_}
+use Rattle.record_answer.specs.Shown.{fieldRoom}
 use Rattle.sizes.specs.Sizes.{blockSize, logSize}
 
 abbrev pub stateRoom : ℕ
@@ -14,3 +15,6 @@ logRoom = logSize + 7
 pub record Lendable (s l : ℕ) : Type 0 where
   pub state : s ≤ stateRoom
   pub log : l ≤ logRoom
+
+abbrev pub shownRoom : ℕ
+shownRoom = (5 + logRoom) * fieldRoom

@@ -1,112 +1,50 @@
-// The lines of the input, one after the other, and what each does.
+// What a line does.
 ghost use Prim.Native.Nat.{_≤_};
 ghost use lib.ListN.{length};
 ghost use Rattle.cases.specs.Lendable.{Lendable};
-use crate::LINE_ROOM;
 use crate::LOG_ROOM;
 use crate::STATE_ROOM;
-use crate::calls;
-use crate::calls::Line;
 use crate::digest;
 use crate::shown;
 use board_call::Answer;
 use board_call::Call;
+use check::same;
+use record_call::Line;
+use record_call::read;
+use record_fields::Fields;
+use record_fields::name_end;
+use record_fields::numbers;
+use record_lines::LINE_SIZE;
 use sizes::BLOCK_SIZE;
-use sizes::LOG_SIZE;
 use sizes::SAVED_SIZE;
 
-// Where a run is.
-pub struct Run {
-    // how many lines have ended
-    pub number: u64,
-    // the bytes of the next one so far; one more than there is room for if it is too long
-    pub length: usize,
-    // how many words of the state and of the log are lent
+const LAST_WORD: u64 = 0xFFFFFFFF;
+
+// How many words of the state and of the log are lent.
+pub struct Lengths {
     pub state: usize,
     pub log: usize,
 }
 
-pub(crate) fn start() -> Run
-    ensures { λ r. ⌜ Lendable (r .state) (r .log) ⌝ }
-{
-    Run {
-        number: 0,
-        length: 0,
-        state: BLOCK_SIZE,
-        log: LOG_SIZE,
-    }
-}
-
-// A byte more of a line, or the byte that ends it.
-pub(crate) fn take_byte(
-    state: &mut [u32; STATE_ROOM],
-    log: &mut [u32; LOG_ROOM],
-    saved: &mut [u64; SAVED_SIZE],
-    line: &mut [u8; LINE_ROOM],
-    byte: u8,
-    run: Run,
-) -> Run
-    requires { ⌜ Lendable (run .state) (run .log) ⌝ }
-    ensures { λ r. ⌜ Lendable (r .state) (r .log) ⌝ }
-{
-    if byte == b'\n' {
-        return end_line(state, log, saved, line, run);
-    }
-    let mut run = run;
-    let at = run.length;
-    if at < LINE_ROOM {
-        line[at] = byte;
-        run.length = at + 1;
-    } else {
-        run.length = LINE_ROOM + 1;
-    }
-    run
-}
-
-// Does what the line says. A line that cannot be read is told, and changes nothing.
+// Makes the call that the line says, or does what a line of this program's own says.
 pub(crate) fn end_line(
     state: &mut [u32; STATE_ROOM],
     log: &mut [u32; LOG_ROOM],
     saved: &mut [u64; SAVED_SIZE],
     line: &[u8],
-    run: Run,
-) -> Run
-    requires { ⌜ Lendable (run .state) (run .log) ⌝ }
+    number: u64,
+    lent: Lengths,
+) -> Lengths
+    requires { ⌜ Lendable (lent .state) (lent .log) ⌝ }
     ensures { λ r. ⌜ Lendable (r .state) (r .log) ⌝ }
 {
-    let length = run.length;
-    let mut run = run;
-    run.number = std::num::wrapping_add_u64(run.number, 1);
-    run.length = 0;
-    if line.len() < length {
-        shown::unreadable(run.number);
-        return run;
-    }
-    match calls::read(&line[..length]) {
-        Line::Call(call) => make(state, log, saved, call, run),
-        Line::Poke(at, word) => poke(state, at, word, run.number),
-        Line::Lengths(words, messages) => {
-            return lengths(words, messages, run);
-        }
-        Line::Unreadable => shown::unreadable(run.number),
-    }
-    run
-}
-
-// The digest and the messages are taken from all the words that there are, not from those lent: a call that
-// writes beyond them is seen.
-fn make(
-    state: &mut [u32; STATE_ROOM],
-    log: &mut [u32; LOG_ROOM],
-    saved: &mut [u64; SAVED_SIZE],
-    call: Call,
-    run: Run,
-)
-    requires { ⌜ Lendable (run .state) (run .log) ⌝ }
-{
-    let answer = lend(state, log, saved, call, run.state, run.log);
+    let Line::Call(call) = read(line) else {
+        return own_line(state, line, number, lent);
+    };
+    let answer = lend(state, log, saved, call, lent.state, lent.log);
     let digest = digest::of_numbers(digest::of_words(digest::of_words(0, state), log), saved);
-    shown::answer(run.number, monitor_answer::numbers(answer), digest, log);
+    shown::answer(number, monitor_answer::numbers(answer), digest, log);
+    lent
 }
 
 // A call is lent the first words of the state and of the log.
@@ -124,29 +62,56 @@ fn lend(
     board::apply(&mut state[..words], &mut log[..messages], saved, call)
 }
 
-// Makes a state that no call leaves, so that the state rules are seen to be tested.
-fn poke(state: &mut [u32; STATE_ROOM], at: u64, word: u32, number: u64) {
-    let i = at as usize;
-    if i < BLOCK_SIZE {
-        state[i] = word;
-    } else {
-        shown::unreadable(number);
-    }
-}
-
-// Lends too few words or too many, so that the lengths are seen to be tested.
-fn lengths(words: u64, messages: u64, run: Run) -> Run
-    requires { ⌜ Lendable (run .state) (run .log) ⌝ }
+// A line of this program's own, by its name and its numbers.
+fn own_line(state: &mut [u32; STATE_ROOM], line: &[u8], number: u64, lent: Lengths) -> Lengths
+    requires { ⌜ Lendable (lent .state) (lent .log) ⌝ }
     ensures { λ r. ⌜ Lendable (r .state) (r .log) ⌝ }
 {
-    let mut run = run;
-    if words <= STATE_ROOM as u64 {
-        if messages <= LOG_ROOM as u64 {
-            run.state = words as usize;
-            run.log = messages as usize;
-            return run;
+    if line.len() > LINE_SIZE {
+        shown::number_alone(number);
+        return lent;
+    }
+    let end = name_end(line);
+    let fields = numbers(line, end);
+    own(state, &line[..end], fields, number, lent)
+}
+
+// `poke` makes a state that no call leaves, so that the state rules are seen to be tested; `lengths` lends
+// too few words or too many, so that the lengths are. Any other line is answered by its number, and changes
+// nothing.
+fn own(
+    state: &mut [u32; STATE_ROOM],
+    name: &[u8],
+    fields: Fields,
+    number: u64,
+    lent: Lengths,
+) -> Lengths
+    requires { ⌜ Lendable (lent .state) (lent .log) ⌝ }
+    ensures { λ r. ⌜ Lendable (r .state) (r .log) ⌝ }
+{
+    let n = fields.numbers;
+    let a = n[0];
+    let b = n[1];
+    if fields.count == 2 {
+        if same(name, b"poke") {
+            if a < BLOCK_SIZE as u64 {
+                if b <= LAST_WORD {
+                    state[a as usize] = b as u32;
+                    return lent;
+                }
+            }
+        }
+        if same(name, b"lengths") {
+            if a <= STATE_ROOM as u64 {
+                if b <= LOG_ROOM as u64 {
+                    return Lengths {
+                        state: a as usize,
+                        log: b as usize,
+                    };
+                }
+            }
         }
     }
-    shown::unreadable(run.number);
-    run
+    shown::number_alone(number);
+    lent
 }
