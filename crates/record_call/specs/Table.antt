@@ -2,8 +2,11 @@
 -- Assumes nothing.
 --   NameRow            a call's name in bytes, how many numbers it has, whether the last is a word of 32
 --                      bits, and the call with such numbers
---   table              a row for each call
+--   first .. fifth     one of some numbers, by its place: 0 if there are fewer
+--   resetRow ..        the row of each call
+--   table              all of them
 --   sameBytes a b      a and b are the same bytes
+--   lastIn ns          the last of the numbers ns: 0 if there is none
 --   wordAtEnd t ns     if t, the last of the numbers ns is a word of 32 bits
 --   fits r name ns     r is the row of a line with this name and these numbers
 --   callIn rs name ns  the call of the first row that fits, if there is one

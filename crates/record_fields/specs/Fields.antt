@@ -1,7 +1,9 @@
 -- The fields of a line: a name, then numbers. 02, M-100; docs/RECORD.md. Assumes nothing.
 --   tab                 the byte that stands between two fields
 --   fieldsOf l          the fields of the line l, one at least
---   nameOf l, textsOf l the first field; the others
+--   firstOf fs          the first of the fields fs
+--   othersOf fs         all of them but the first
+--   nameOf l, textsOf l the first field of the line l; the others
 --   areNumbers ts       each of the fields ts is a number
 --   numbersOf ts        these numbers
 --   mostNumbers         more numbers than these no call has

@@ -1,13 +1,16 @@
 -- A record that is run, line by line. 02, M-100; docs/RECORD.md. Assumes nothing.
 --   saidIn bs            what the lines of the bytes bs say, in order: reading, from bytes to lines to calls
 --   saidAfter p bs       what the lines say that end in bs, if p stands before bs
+--   callOnto s cs        the calls cs behind the call that the line s says, if it says one
 --   callsIn ss           the calls that the lines ss say, in order: a line that cannot be read says none
+--   numbersShown n o     the bytes that tell the outcome o of line n: its numbers, and the messages
 --   answerTo n s x       the bytes that line n is answered by, if it says s and is lent x: the numbers of the
 --                        answer with the messages; of a line that cannot be read its number alone
 --   passedOn s x         what is lent to the next line
 --   answersFrom n ss x   the bytes that the lines ss are answered by, if the first has the number n
 --   Held                 where a run is: what is kept of the line that has not ended, how many lines have,
 --                        and what is lent to the next
+--   lentOf l g s         the block l, the log g and a move's numbers s, lent together
 --   goneOn bs h          where the run h is with the bytes bs more
 --   printedBy bs h       what it has then printed
 use Prim.Native.Nat.{ℕ, suc, _+_}
