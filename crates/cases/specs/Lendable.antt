@@ -2,8 +2,7 @@
 --   stateRoom, logRoom   the words that there are: some more than the board needs, so that a length can be
 --                        too large
 --   Lendable s l         s words of the state and l of the log can be lent
-use Prim.Native.Nat.{ℕ, _+_, _*_, _≤_}
-use Rattle.record_answer.specs.Shown.{fieldRoom}
+use Prim.Native.Nat.{ℕ, _+_, _≤_}
 use Rattle.sizes.specs.Sizes.{blockSize, logSize}
 
 abbrev pub stateRoom : ℕ
@@ -15,6 +14,3 @@ logRoom = logSize + 7
 pub record Lendable (s l : ℕ) : Type 0 where
   pub state : s ≤ stateRoom
   pub log : l ≤ logRoom
-
-abbrev pub shownRoom : ℕ
-shownRoom = (5 + logRoom) * fieldRoom

@@ -1,14 +1,16 @@
 // What a line does.
 ghost use Prim.Native.Nat.{_≤_};
-ghost use lib.ListN.{length};
+ghost use mathlib.Core.Path.{_≡_};
+ghost use lib.ListN.{length, take, drop};
+ghost use Rattle.board_call.specs.Outcome.{outcome};
+ghost use Rattle.monitor_answer.specs.Told.{Told};
 ghost use Rattle.cases.specs.Lendable.{Lendable};
 use crate::LOG_ROOM;
 use crate::STATE_ROOM;
-use crate::digest;
 use crate::shown;
-use board_call::Answer;
 use board_call::Call;
 use check::same;
+use monitor_answer::VskAnswer;
 use record_call::Line;
 use record_call::read;
 use record_fields::Fields;
@@ -42,12 +44,11 @@ pub(crate) fn end_line(
         return own_line(state, line, number, lent);
     };
     let answer = lend(state, log, saved, call, lent.state, lent.log);
-    let digest = digest::of_numbers(digest::of_words(digest::of_words(0, state), log), saved);
-    shown::answer(number, monitor_answer::numbers(answer), digest, log);
+    shown::answer(number, answer, state, log, saved);
     lent
 }
 
-// A call is lent the first words of the state and of the log.
+// A call is lent the first words of the state and of the log, and leaves the others.
 fn lend(
     state: &mut [u32],
     log: &mut [u32],
@@ -55,11 +56,16 @@ fn lend(
     call: Call,
     words: usize,
     messages: usize,
-) -> Answer
-    requires { ⌜ words ≤ length (now state) ⌝ }
-    requires { ⌜ messages ≤ length (now log) ⌝ }
+) -> VskAnswer
+    requires { ⌜ (words ≤ length (now state)) × (messages ≤ length (now log)) ⌝ }
+    ensures { λ r. ⌜ Told
+        (outcome call (take words (now (state .entry))) (take messages (now (log .entry)))
+        (now (saved .entry)))
+        r (take words (now (state .exit))) (take messages (now (log .exit))) (now (saved .exit)) ⌝ }
+    ensures { λ _. ⌜ (drop words (now (state .exit)) ≡ drop words (now (state .entry)))
+        × (drop messages (now (log .exit)) ≡ drop messages (now (log .entry))) ⌝ }
 {
-    board::apply(&mut state[..words], &mut log[..messages], saved, call)
+    monitor_answer::numbers(board::apply(&mut state[..words], &mut log[..messages], saved, call))
 }
 
 // A line of this program's own, by its name and its numbers.
@@ -68,7 +74,7 @@ fn own_line(state: &mut [u32; STATE_ROOM], line: &[u8], number: u64, lent: Lengt
     ensures { λ r. ⌜ Lendable (r .state) (r .log) ⌝ }
 {
     if line.len() > LINE_SIZE {
-        shown::number_alone(number);
+        shown::unreadable(number);
         return lent;
     }
     let end = name_end(line);
@@ -112,6 +118,6 @@ fn own(
             }
         }
     }
-    shown::number_alone(number);
+    shown::unreadable(number);
     lent
 }

@@ -12,8 +12,8 @@ use Rattle.cases.proofs.main.Tie as tie
 
 abbrev Inv-loop : tie.InvT-loop
 Inv-loop state₀ log₀ saved₀ chunk₀ line₀ lent₀ place₀ number₀ state log saved chunk line lent place number =
-    (length chunk ≡ 4096) × (Counts (place .size) chunk) × (place .at ≤ place .size)
-    × (place .held ≤ lineRoom) × (number + place .left < 2 ^ 64) × Lendable (lent .state) (lent .log)
+    (length chunk ≡ 4096) × Counts (place .size) chunk × (place .at ≤ place .size) × (place .held ≤ lineRoom)
+    × (number + place .left < 2 ^ 64) × Lendable (lent .state) (lent .log)
 
 abbrev μ-loop : tie.MeasureT-loop
 μ-loop state₀ log₀ saved₀ chunk₀ line₀ lent₀ place₀ number₀ state log saved chunk line lent place number =

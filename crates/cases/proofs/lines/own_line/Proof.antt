@@ -1,12 +1,12 @@
--- `cases::lines::own_line` is safe: the name ends where a tab or the line ends. Assumes nothing.
+-- `cases::lines::own_line` is safe: the name ends where a tab or the line's end was found. Assumes nothing.
 use lib.ListN.{length-take}
 use native.Mathlib.Omega.{arith}
 use borrow.Author.Needs.{needs}
 use Rattle.cases.proofs.lines.own_line.Statement.{statement}
 use Rattle.cases.proofs.lines.own_line.Tie as tie
 
-number-alone-requires : tie.Need-number-alone-requires
-number-alone-requires c κs = search needs
+unreadable-requires : tie.Need-unreadable-requires
+unreadable-requires c κs = search needs
 
 returns : tie.Need-returns
 returns c = search needs
@@ -30,7 +30,7 @@ pub own-line-spec : {M : Type 1} → statement M
 own-line-spec =
     tie.close
     (tie.spec
-    number-alone-requires
+    unreadable-requires
     returns
     name-end-requires
     numbers-requires
