@@ -71,8 +71,8 @@ lastPrinted h = answersFrom (suc (h .number)) (map lineOf (lastOf (h .line))) (h
 unfoldable pub Claim-196 : Type 0
 Claim-196 =
     (ps : List (List ℕ))
-    → (printedIn ps begun ++ lastPrinted (afterPieces ps begun) ≡ answersFrom 1 (saidIn
-    (together ps)) atReset)
+    → (printedIn ps begun ++ lastPrinted (afterPieces ps begun)
+    ≡ answersFrom 1 (saidIn (together ps)) atReset)
     × (finished (afterPieces ps begun) ≡ ran (callsIn (saidIn (together ps))) atReset)
     × (afterPieces ps begun .number + length (lastOf (afterPieces ps begun .line))
     ≡ length (linesOf (together ps)))
