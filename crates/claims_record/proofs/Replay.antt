@@ -5,7 +5,8 @@ use mathlib.Core.Logic.{_⊎_, inl, inr}
 use mathlib.Core.List.{List, [], _∷_, _++_, map, append-nil, append-assoc}
 use native.Mathlib.Omega.{arith}
 use lib.ListN.{length, getD, length-map}
-use Rattle.record_numbers.specs.Decimal.{textOf}
+use mathlib.Core.Bool.{true}
+use Rattle.record_numbers.specs.Decimal.{allDigits, textOf}
 use Rattle.record_numbers.proofs.TextLaws.{text-digits, digit-member}
 use Rattle.record_lines.specs.Parted.{endedBy, restBy}
 use Rattle.record_lines.specs.Lines.{lineFeed, linesOf, lastOf}
@@ -15,7 +16,6 @@ use Rattle.record_call.specs.declared.Line.the-variants as lines
 use Rattle.record_call.specs.Table.{lineOf}
 use Rattle.record_answer.specs.Shown.{fieldsShown, lineShown}
 use Rattle.record_answer.proofs.ShownLaws.{line-fields}
-use Rattle.record_answer.proofs.BackLaws.{shown-fields}
 use Rattle.record_runs.specs.Replay.{saidIn, callsIn, callOnto, answersFrom, answerTo, passedOn}
 use Rattle.record_runs.proofs.SaidLaws.{calls-append, ran-line}
 use Rattle.board_call.specs.declared.Call.{Call}
@@ -24,7 +24,9 @@ use Rattle.board_runs.specs.Ready.{atReset}
 use Rattle.board_runs.proofs.StartEffects.{after-reset}
 use Rattle.claims_record.specs.Replay.{lineByLine, told, fieldsTold, Claim-197, Claim-198}
 use Rattle.claims_record.specs.Replay.{Claim-200, Claim-201}
-use Rattle.claims_record.proofs.PartsLaws.{Lacks, lacks-none, lacks-cons, lacks-append}
+use Rattle.claims_record.specs.Written.{behindTabs}
+use Rattle.claims_record.proofs.Written.{fields-2}
+use Rattle.claims_record.proofs.PartsLaws.{Lacks, AllLack, lacks-none, lacks-cons, lacks-append}
 use Rattle.claims_record.proofs.PartsLaws.{ended-part, rest-part}
 
 -- ---- what is left
@@ -62,6 +64,24 @@ fields-lack [] = lacks-none lineFeed
 fields-lack (n ∷ ns) =
     lacks-cons lineFeed tab (textOf n ++ fieldsShown ns) (λ e. absurd (omega (arith, e)))
     (lacks-append lineFeed (textOf n) (fieldsShown ns) (text-lacks n) (fields-lack ns))
+
+-- the fields of an answer are the texts of its numbers
+digits-lack : (t : List ℕ) → allDigits t ≡ true → Lacks tab t
+digits-lack t d i h e = absurd (omega (arith, digit-member t d i h, e))
+
+shown-tabs : (ns : List ℕ) → fieldsShown ns ≡ behindTabs (map textOf ns)
+unfolding fieldsShown
+shown-tabs [] = refl
+shown-tabs (n ∷ ns) = ap (λ (bs : List ℕ). tab ∷ (textOf n ++ bs)) (shown-tabs ns)
+
+texts-lack : (ns : List ℕ) → AllLack tab (map textOf ns)
+texts-lack [] = tt
+texts-lack (n ∷ ns) = (digits-lack (textOf n) (text-digits n), texts-lack ns)
+
+shown-fields : (n : ℕ) (ns : List ℕ) → fieldsOf (textOf n ++ fieldsShown ns) ≡ map textOf (n ∷ ns)
+shown-fields n ns =
+    ap (λ (bs : List ℕ). fieldsOf (textOf n ++ bs)) (shown-tabs ns)
+    ∙ fields-2 (textOf n) (map textOf ns) (digits-lack (textOf n) (text-digits n)) (texts-lack ns)
 
 -- a line and its end, and what stands behind it
 lines-first : (l bs : List ℕ) → Lacks lineFeed l → linesOf (l ++ (lineFeed ∷ bs)) ≡ l ∷ linesOf bs

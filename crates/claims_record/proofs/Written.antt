@@ -45,7 +45,7 @@ fields-1 : (l : List ℕ) → l ≡ nameOf l ++ behindTabs (textsOf l)
 unfolding nameOf textsOf fieldsOf
 fields-1 l = sym (glued-parts tab l []) ∙ fields-glued (endedBy tab [] l) (restBy tab [] l)
 
-fields-2 : (t : List ℕ) (ts : List (List ℕ)) → Lacks tab t → AllLack tab ts →
+pub fields-2 : (t : List ℕ) (ts : List (List ℕ)) → Lacks tab t → AllLack tab ts →
     fieldsOf (t ++ behindTabs ts) ≡ t ∷ ts
 unfolding fieldsOf
 fields-2 t [] n all =
