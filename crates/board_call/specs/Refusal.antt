@@ -53,6 +53,7 @@ abbrev pub nameRefusal : Call → Board → ℕ
 nameRefusal c b = nameRefusalBy (rowOf c .tests) b
 
 -- [01 C8 X5]
+-- [02 M101.5]
 unfoldable pub refusalBy : Tests → List ℕ → List ℕ → ℕ
 refusalBy t l g = firstFailed (blockTests (t .rules) l g ++ nameTests t (boardOf l))
 

@@ -38,9 +38,9 @@ use Rattle.board_runs.specs.Ready.{boardIn}
 use Rattle.board_runs.proofs.RunsEffects.{ready-refusal, after-board, ready-after}
 use Rattle.board_call_laws.specs.Fit.{Kept}
 use Rattle.board_runs.proofs.KeptEffects.{kept-step}
-use Rattle.claims_registers.specs.Registers.{Claim-132}
+use Rattle.claims_registers.specs.Registers.{InputRead, Claim-132}
 use Rattle.claims_registers.proofs.Registers.{claim-132}
-use Rattle.claims_board.specs.Accepted.{AccessedBy, WireRead}
+use Rattle.claims_board.specs.Accepted.{AccessedBy}
 use Rattle.claims_board.specs.Accepted.{Claim-171, Claim-172, Claim-173, Claim-174}
 
 module _ (g ms : List ℕ) where
@@ -158,15 +158,15 @@ module _ (b : Board) (s : List ℕ) (a : ℕ) (r : Word) (e : wordAt a ≡ r) wh
 
   -- bit by bit, as Claim-132 says it of the register
   module _ (k n : ℕ) (l : n < 32) (q : r ≡ InClrip k) where
-    wire-machine : WireRead (step (DomainRead 0 a) b s .value) n (32 * k + n) (b .wired .machine)
+    input-machine : InputRead (step (DomainRead 0 a) b s .value) n (32 * k + n) (b .wired .machine)
         (b .wired .wires)
     unfolding Claim-132 domainIn
-    wire-machine = rw (read-machine, q) (claim-132 (b .wired .machine) (b .wired .wires) k .0 n l .2)
+    input-machine = rw (read-machine, q) (claim-132 (b .wired .machine) (b .wired .wires) k .0 n l .2)
 
-    wire-child : WireRead (step (DomainRead 1 a) b s .value) n (32 * k + n) (b .wired .child)
+    input-child : InputRead (step (DomainRead 1 a) b s .value) n (32 * k + n) (b .wired .child)
         (b .wired .wires)
     unfolding Claim-132 domainIn
-    wire-child = rw (read-child, q) (claim-132 (b .wired .child) (b .wired .wires) k .0 n l .2)
+    input-child = rw (read-child, q) (claim-132 (b .wired .child) (b .wired .wires) k .0 n l .2)
 
 pub claim-174 : Claim-174
 unfolding Claim-174 registerValue domainIn
@@ -178,7 +178,7 @@ claim-174 b s = (
     read-child b s (0x4000 + 32 * h + 0x1C) (Claimi h) (claimi-at h l),
   )),
   (λ k n m l. (
-    wire-machine b s (0x1D00 + 4 * k) (InClrip k) (in-clrip-at k m) k n l refl,
-    wire-child b s (0x1D00 + 4 * k) (InClrip k) (in-clrip-at k m) k n l refl,
+    input-machine b s (0x1D00 + 4 * k) (InClrip k) (in-clrip-at k m) k n l refl,
+    input-child b s (0x1D00 + 4 * k) (InClrip k) (in-clrip-at k m) k n l refl,
   )),
 )

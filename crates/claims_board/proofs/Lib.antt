@@ -9,4 +9,5 @@ pub mod ClosureCall
 pub mod Numbers
 pub mod BoardRules
 pub mod Start
+pub mod Inputs
 pub mod Places

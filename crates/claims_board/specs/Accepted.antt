@@ -5,11 +5,10 @@
 -- program can pass has, and no test refuses the call; 172 has none, and 174 a hart or a word that is
 -- there; of 173, the board has 20 files and keeps the state rules, and the hart and the file are there. A
 -- reset of a block that breaks the rules is Claim-87's. No axioms.
-use Prim.Native.Nat.{ℕ, _+_, _*_, _/_, _%_, _^_, _≤_, _<_}
+use Prim.Native.Nat.{ℕ, _+_, _*_, _≤_, _<_}
 use mathlib.Core.Path.{_≡_}
 use mathlib.Core.Bool.{true, false}
 use mathlib.Core.List.{List}
-use mathlib.Core.Logic.{_≢_, _↔_}
 use lib.Dec.{leb}
 use lib.ListN.{length, getD}
 use Rattle.file.specs.declared.register.Access.{Access}
@@ -19,10 +18,7 @@ use Rattle.file.specs.Register.{accessed}
 use Rattle.file.specs.Reply.{replyValue}
 use Rattle.file.specs.Top.{topOf, claimed}
 use Rattle.files.specs.Files.{theFile}
-use Rattle.words.specs.Sets.{member}
 use Rattle.domain_region.specs.Region.{wordAt}
-use Rattle.domain.specs.Domain.{Domain}
-use Rattle.domain.specs.Slot.{sourceAt}
 use Rattle.domain_direct.specs.Direct.{topiOf}
 use Rattle.wired_registers.specs.Wired.{readIn}
 use Rattle.wired.specs.Controller.{Out, wireCall, readCall, writeCall}
@@ -37,6 +33,7 @@ use Rattle.board_call.specs.Refusal.{nameRefusal}
 use Rattle.board_call_laws.specs.Small.{Small}
 use Rattle.board_runs.specs.Runs.{Lent}
 use Rattle.board_runs.specs.Ready.{Ready}
+use Rattle.claims_registers.specs.Registers.{InputRead}
 
 -- an accepted call answers 0, its value, and the number of the messages that it sent; the block is that of
 -- the board that `step` says; the messages stand first in the log, in order, and later log words stay; both
@@ -113,15 +110,9 @@ Claim-173 =
 
 -- ---- registers that a call reads
 
--- bit n of the value v is 1 exactly if source i is active in the domain d and its wire is high
-abbrev pub WireRead : ℕ → ℕ → ℕ → Domain → List ℕ → Type 0
-WireRead v n i d wires =
-    let mode = sourceAt d i .mode in
-    (v / 2 ^ n % 2 ≡ 1) ↔ ((1 ≤ i) × (mode ≢ 0) × (mode < 1024) × (member wires i ≡ true))
-
 -- by calls, in either domain: a read of topi, at 0x4000 + 32 h + 0x18, and of claimi, at + 0x1C, answers
--- topi of hart h in that domain; bit n of a read of in_clrip[k], at 0x1D00 + 4 k, is 1 exactly if source
--- 32 k + n is active in that domain and its wire is high
+-- topi of hart h in that domain; bit n of a read of in_clrip[k], at 0x1D00 + 4 k, is 1 exactly if the
+-- rectified value of source 32 k + n in that domain is high
 -- [01 B6 W7 W37 S4 S11]
 unfoldable pub Claim-174 : Type 0
 Claim-174 =
@@ -134,5 +125,5 @@ Claim-174 =
     × ((k n : ℕ) → k < 2 → n < 32
     → let i = 32 * k + n in
     let wires = b .wired .wires in
-    WireRead (step (DomainRead 0 (0x1D00 + 4 * k)) b s .value) n i (b .wired .machine) wires
-    × WireRead (step (DomainRead 1 (0x1D00 + 4 * k)) b s .value) n i (b .wired .child) wires)
+    InputRead (step (DomainRead 0 (0x1D00 + 4 * k)) b s .value) n i (b .wired .machine) wires
+    × InputRead (step (DomainRead 1 (0x1D00 + 4 * k)) b s .value) n i (b .wired .child) wires)

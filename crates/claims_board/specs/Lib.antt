@@ -7,4 +7,5 @@ pub mod Rows
 pub mod Numbers
 pub mod BoardRules
 pub mod Start
+pub mod Inputs
 pub mod Places

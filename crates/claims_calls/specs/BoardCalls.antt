@@ -117,6 +117,7 @@ Passes c l g =
 
 -- the table of refusals: each number where it applies and no lower one does, and 0 where none does
 -- [01 B7 B10 C8 C9 C10 C11 C12 C13 C14 C15 C16 C18 C21 X5]
+-- [02 M101.5]
 unfoldable pub Claim-84 : Type 0
 Claim-84 =
     (c : Call) (l g : List ℕ) → let b = boardOf l in

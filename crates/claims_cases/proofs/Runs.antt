@@ -5,16 +5,16 @@
 --   boardRun cs y     what the calls cs make of them, in order
 --   answersOn c y     what the call c answers: refusal, value, count, and the first word of the log
 -- To unfold answersOn is to unfold all that these calls compute with.
-use Prim.Native.Nat.{ℕ, _^_, _<_}
-use mathlib.Core.Path.{_≡_, refl, sym, ap, subst, _∙_}
+use Prim.Native.Nat.{ℕ}
+use mathlib.Core.Path.{_≡_, refl, sym, ap, _∙_}
 use mathlib.Core.Bool.{cond}
 use mathlib.Core.List.{List, [], _∷_, _++_}
-use native.Mathlib.Decide.{ℕ-discrete, decLt}
+use native.Mathlib.Decide.{ℕ-discrete}
 use native.Mathlib.Omega.{arith}
 use lib.Dec.{eqb}
-use lib.ListN.{length, getD, replicate, getD-replicate, List·getD-eq-default}
+use lib.ListN.{length, getD, replicate}
 use borrow.Author.Tests.{eq-eqb, ne-eqb}
-use Rattle.words.specs.Bits.{bitOf, hasBit, withBit, withoutBit}
+use Rattle.words.specs.Bits.{bitOf, hasBit, withBit, withoutBit, putBit}
 use Rattle.words.specs.Sets.{member, insert, remove, put}
 use Rattle.words.specs.Parts.{low, high, joined, reversed, fieldOf, packed}
 use Rattle.file_select.specs.Select.{selectLegal, registerOf, registersFrom}
@@ -28,7 +28,7 @@ use Rattle.source_mode.specs.Mode.{isActive, isLevel, isRectified, keptMode, so
 use Rattle.source_target.specs.Target.{hartOf, guestOf, numberOf, startTarget, priorityOf, receiverOf}
 use Rattle.source_target.specs.Target.{keptTarget, messageOf}
 use Rattle.source.specs.Pending.{settled, pended, cleared, switched, changed, moded, redelivered}
-use Rattle.source.specs.Pending.{retargeted}
+use Rattle.source.specs.Pending.{retargeted, wireChanged}
 use Rattle.domain_region.specs.Region.{addressLegal, registers, nameIn, wordIn, wordAt}
 use Rattle.domain_delivery.specs.Delivery.{lets}
 use Rattle.domain.specs.Domain.{domaincfgOf, isEnabled, byMessages, genmsiOf, withDomaincfg, withGenmsi}
@@ -40,27 +40,26 @@ use Rattle.domain_domaincfg.specs.Domaincfg.{domaincfgWritten}
 use Rattle.domain_sending.specs.Sending.{candidate, servedAt, messagesAt, sentFrom, sent, logged}
 use Rattle.domain_topi.specs.Top.{standing, eligible, precedes, topFrom, topSource, topiOf}
 use Rattle.domain_direct.specs.Direct.{unforced, released, hartClaimed}
+use Rattle.domain_inputs.specs.Inputs.{inputBit, inputsTo, inputWord}
 use Rattle.domain_values.specs.Values.{registerValue}
 use Rattle.domain_registers.specs.Read.{claimedAs, claimedBy}
 use Rattle.domain_registers.specs.Write.{registerWritten}
-use Rattle.wired_state.specs.Wires.{domainIn, withDomain, isDelegated}
+use Rattle.wired_state.specs.Wires.{domainIn, withDomain, isDelegated, sourceWired, wireSet}
 use Rattle.wired_sourcecfg.specs.Delegation.{sourceModed, childWritten, machineWritten, sourceWritten}
 use Rattle.wired_registers.specs.Wired.{writtenAs, writtenIn}
 use Rattle.wired.specs.Controller.{flushed, genmsiAs, genmsiBy}
 use Rattle.board_block.specs.Start.{startFile, startFilesFrom, startDomain, startBoard}
 use Rattle.board_block.specs.Block.{Board, blockOf}
-use Rattle.board_block_laws.proofs.BlockBack.{board-back, length-blockOf}
+use Rattle.board_block_laws.proofs.BlockBack.{board-back}
 use Rattle.board_block_laws.proofs.StartEffects.{start-shaped}
 use Rattle.board_call.specs.Change.{kindOf, change}
-use Rattle.board_call.specs.Numbers.{isFile, isPageAddress}
+use Rattle.board_call.specs.Numbers.{isWire, isFile, isPageAddress}
 use Rattle.board_call.specs.Calls.{rowOf}
 use Rattle.board_call.specs.Refusal.{firstFailed, nameTests, nameRefusal, nameRefusalBy}
 use Rattle.board_call.specs.Outcome.{Stepped, thenSent, step}
 use Rattle.board_call.specs.declared.Call.{Call}
 use Rattle.board_call.specs.declared.Call.the-variants.{DomainRead, DomainWrite, PageWrite, Register, Top}
-use Rattle.board_call_laws.specs.Fit.{Fit}
 use Rattle.board_call_laws.specs.Small.{Small}
-use Rattle.board_call_laws.proofs.FitEffects.{fit-start}
 use Rattle.board_call_laws.proofs.OutcomeEffects.{outcome-refused, outcome-done}
 use Rattle.board_runs.specs.Runs.{Lent, outcomeOn, after, ran}
 use Rattle.board_runs.specs.Ready.{boardIn, Ready, AllSmall, atReset}
@@ -101,7 +100,7 @@ unfolding bitOf hasBit withBit withoutBit member insert remove put low high join
     registerValue claimedAs claimedBy registerWritten domainIn withDomain isDelegated sourceModed
     childWritten machineWritten sourceWritten writtenAs writtenIn flushed genmsiAs genmsiBy startFile
     startFilesFrom startDomain startBoard kindOf change isFile isPageAddress rowOf firstFailed nameTests
-    nameRefusalBy thenSent step
+    nameRefusalBy thenSent step inputBit inputsTo inputWord wireChanged sourceWired wireSet isWire putBit
 answersOn c y =
     let z = step c (y .board) (y .saved) in
     let n = nameRefusal c (y .board) in
@@ -151,14 +150,14 @@ board-run (c ∷ cs) x ready small =
 
 -- ---- from the start
 
-abbrev fresh : Held
+abbrev pub fresh : Held
 fresh = record { board = startBoard; log = replicate 63 0; saved = replicate 10 0 }
 
 start-held : heldBy atReset ≡ fresh
 start-held = ap (λ (b : Board). record { board = b; log = replicate 63 0; saved = replicate 10 0 })
     (board-back startBoard start-shaped)
 
-answers : (cs : List Call) (c : Call) → AllSmall cs → answered cs c ≡ answersOn c (boardRun cs fresh)
+pub answers : (cs : List Call) (c : Call) → AllSmall cs → answered cs c ≡ answersOn c (boardRun cs fresh)
 answers cs c small =
     answers-on c (ran cs atReset) (ready-ran cs atReset ready-reset small)
     ∙ ap (answersOn c) (board-run cs atReset ready-reset small ∙ ap (boardRun cs) start-held)

@@ -2,3 +2,4 @@
 -- names its premises. No axioms.
 pub mod Table
 pub mod Runs
+pub mod Inputs

@@ -63,7 +63,7 @@ pub record ReadsBack (w : Wired) (c : Bool) (v : ℕ) : Type 0 where
       (sourceAt (domainIn w c) (32 * k + n) .enabled
       || (hasBit v n && isActive (sourceAt (domainIn w c) (32 * k + n) .mode)))
   pub zero : Bit (readBack w c v (Setip 0)) 0 false × Bit (readBack w c v (Setie 0)) 0 false
-  -- the wires, as before
+  -- the rectified values, as before: no mode and no wire changes
   pub in-clrip : (k : ℕ) → k < 2 → readBack w c v (InClrip k) ≡ readIn w c (InClrip k)
   pub clrie : (k : ℕ) → k < 2 → readBack w c v (Clrie k) ≡ 0
   pub numbers : (readBack w c v Setipnum ≡ 0) × (readBack w c v Clripnum ≡ 0)

@@ -1,2 +1,3 @@
 -- The laws of what in_clrip reads. Assumes nothing.
 pub mod InputsLaws
+pub mod GatheringLaws

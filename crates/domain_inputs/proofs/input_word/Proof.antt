@@ -1,76 +1,89 @@
--- `domain_inputs::input_word` meets its contract: the lowest b bits are there. Assumes nothing.
-use Prim.Native.Nat.{ℕ, _-_, _≤_}
-use mathlib.Core.Path.{_≡_, refl, ap, ap₂, _∙_}
-use mathlib.Core.Bool.{Bool}
+-- `domain_inputs::input_word` meets its contract: each set with the wires that it is for; the first word
+-- without source 0. Assumes nothing.
+use Prim.Native.Nat.{ℕ}
+use mathlib.Core.Path.{ap, ap₂, _∙_}
 use native.Mathlib.Omega.{arith}
-use Rattle.words.specs.Bits.{putBit}
-use Rattle.domain.specs.Domain.{domainOf}
-use Rattle.domain_inputs.specs.Inputs.{inputsTo, inputWord}
-use Rattle.domain_inputs.proofs.InputsLaws.{inputs-next}
+use Rattle.words.specs.Bits.{withoutBit, union}
+use Rattle.words.specs.Parts.{low}
+use Rattle.domain_inputs.proofs.GatheringLaws.{first-word, later-word}
+use borrow.Author.Needs.{needs}
 use Rattle.domain_inputs.proofs.input_word.Statement.{statement}
 use Rattle.domain_inputs.proofs.input_word.Tie as tie
 
-abbrev Inv-loop : tie.InvT-loop
-Inv-loop part wires k word₀ b₀ word b = (b ≤ 32) × (word ≡ inputsTo (domainOf part) wires k b)
+gather-requires : tie.Need-gather-requires
+gather-requires c κs = search needs
 
-abbrev μ-loop : tie.MeasureT-loop
-μ-loop part wires k word₀ b₀ word b = 32 - b
+mul-levels : tie.Need-mul-levels
+mul-levels c = search needs
 
-loop-holds : tie.Need-loop-holds Inv-loop μ-loop
-unfolding inputsTo
-loop-holds c = (omega arith, refl)
+array-read-levels : tie.Need-array-read-levels
+array-read-levels c = search needs
 
-mul-input : tie.Need-mul-input Inv-loop μ-loop
-mul-input c = omega arith
+cast-levels : tie.Need-cast-levels
+cast-levels c = search needs
 
-cast-input : tie.Need-cast-input Inv-loop μ-loop
-cast-input c = omega arith
+cast-common64 : tie.Need-cast-common64
+cast-common64 c = search needs
 
-add-input : tie.Need-add-input Inv-loop μ-loop
-add-input c = omega arith
+common64-requires : tie.Need-common64-requires
+common64-requires c κs = search needs
 
-input-requires : tie.Need-input-requires Inv-loop μ-loop
-input-requires c κs = (c .before .before .before .pre .0, omega arith)
+cast-without64 : tie.Need-cast-without64
+cast-without64 c = search needs
 
-put-bit-requires : tie.Need-put-bit-requires Inv-loop μ-loop
-put-bit-requires c κs = omega arith
+without64-requires : tie.Need-without64-requires
+without64-requires c κs = search needs
 
-add-b : tie.Need-add-b Inv-loop μ-loop
-add-b c = omega arith
+union64-requires : tie.Need-union64-requires
+union64-requires c κs = search needs
 
-loop-less : tie.Need-loop-less Inv-loop μ-loop
-loop-less c = omega arith
+low32-requires : tie.Need-low32-requires
+low32-requires c κs = search needs
 
-loop-again : tie.Need-loop-again Inv-loop μ-loop
-loop-again c =
-    let at-loop = c .before .before .before .loop in
-    let args = c .before .before .before .before .before .args in (
-      omega arith,
-      c .put-bit .ensures
-          ∙ ap₂ (λ (w : ℕ) (i : Bool). putBit w (at-loop .b) i) (at-loop .inv .1) (c .before .input .ensures)
-          ∙ inputs-next (domainOf (args .part .now)) (args .wires) (args .k) (at-loop .b),
-    )
+without-bit-requires : tie.Need-without-bit-requires
+without-bit-requires c κs = search needs
 
-returns : tie.Need-returns Inv-loop μ-loop
-unfolding inputWord
+returns : tie.Need-returns
 returns c =
-    let args = c .before .before .before .args in
-    let all : c .before .loop .b ≡ 32 = omega arith in
-    c .before .loop .inv .1 ∙ ap (inputsTo (domainOf (args .part .now)) (args .wires) (args .k)) all
+    let at-low = c .before .before in
+    let at-without = at-low .before .before in
+    let at-common = at-without .before .before in
+    let at-gather = at-common .before .before in
+    let args = at-gather .before .before .args in
+    c .without-bit .ensures
+    ∙ ap (λ (w : ℕ). withoutBit w 0)
+    (at-low .low32 .ensures
+    ∙ ap low (at-low .before .union64 .ensures
+    ∙ ap₂ union (at-common .common64 .ensures) (at-without .without64 .ensures)))
+    ∙ first-word _ (args .t2) (args .k) _ (at-gather .gather .ensures) (c .before .if1 .taken)
+
+returns-2 : tie.Need-returns-2
+returns-2 c =
+    let at-low = c .before in
+    let at-without = at-low .before .before in
+    let at-common = at-without .before .before in
+    let at-gather = at-common .before .before in
+    let args = at-gather .before .before .args in
+    let later = c .if1 .left in
+    at-low .low32 .ensures
+    ∙ ap low (at-low .before .union64 .ensures
+    ∙ ap₂ union (at-common .common64 .ensures) (at-without .without64 .ensures))
+    ∙ later-word _ (args .t2) (args .k) _ (at-gather .gather .ensures) (omega arith)
 
 pub input-word-spec : {M : Type 1} → statement M
 input-word-spec =
     tie.close
     (tie.spec
-    Inv-loop
-    μ-loop
-    loop-holds
-    mul-input
-    cast-input
-    add-input
-    input-requires
-    put-bit-requires
-    add-b
-    loop-less
-    loop-again
-    returns)
+    gather-requires
+    mul-levels
+    array-read-levels
+    cast-levels
+    cast-common64
+    common64-requires
+    cast-without64
+    without64-requires
+    union64-requires
+    low32-requires
+    without-bit-requires
+    returns
+    returns-2)
