@@ -1,4 +1,5 @@
-//! The table cases T1 to T11 (01, "Table cases") as calls, with what the paper says of some of them.
+//! The table cases T1 to T11 (01, "Table cases") as calls, with what the paper says of some of them; and what M-101
+//! of 02 says of in_clrip.
 
 use crate::calls::{Call, Item};
 
@@ -86,6 +87,27 @@ fn edges(cases: &mut Vec<Case>) {
     say(cases, register(0, 0, READ, 0x71, 0), Some((0, 0)));
 }
 
+/// M-101: in_clrip reads rectified values, of sources 20 in word 0 and 40 in word 1.
+fn inputs(cases: &mut Vec<Case>) {
+    say(cases, Call::Reset, Some((0, 0)));
+    // Level0 with a low wire, right after it got its mode; then with a high one.
+    say(cases, write(0, 4 * 20, 7), Some((0, 0)));
+    say(cases, read(0, 0x1D00), Some((0, 1 << 20)));
+    say(cases, Call::Wire { wire: 20, level: 1 }, Some((0, 0)));
+    say(cases, read(0, 0x1D00), Some((0, 0)));
+    // Detached with a high wire.
+    say(cases, write(0, 4 * 20, 1), Some((0, 0)));
+    say(cases, read(0, 0x1D00), Some((0, 0)));
+    // Delegated: the child's mode counts, and in the child alone.
+    say(cases, write(0, 4 * 40, 0x400), Some((0, 0)));
+    say(cases, write(1, 4 * 40, 5), Some((0, 0)));
+    say(cases, read(0, 0x1D04), Some((0, 0)));
+    say(cases, read(1, 0x1D04), Some((0, 1 << 8)));
+    // Source 0 is none, and 4 in domaincfg is no mode.
+    say(cases, write(0, 0, 4), Some((0, 0)));
+    say(cases, read(0, 0x1D00), Some((0, 0)));
+}
+
 /// The table cases in their order.
 pub fn cases() -> Vec<Case> {
     let mut cases = Vec::new();
@@ -93,5 +115,6 @@ pub fn cases() -> Vec<Case> {
     direct(&mut cases);
     child(&mut cases);
     edges(&mut cases);
+    inputs(&mut cases);
     cases
 }

@@ -125,8 +125,8 @@ impl Wired {
             // These two read what they set.
             Register::Setip(k) => domain.bits(k, |_, active| active.pending),
             Register::Setie(k) => domain.bits(k, |_, active| active.enabled),
-            // The wire of a source, if it is active.
-            Register::InClrip(k) => domain.bits(k, |number, _| self.wire(number)),
+            // The rectified value of a source, by its mode in this domain; one that is not active has none.
+            Register::InClrip(k) => domain.bits(k, |number, active| active.mode.rectified(self.wire(number))),
             Register::Genmsi => domain.genmsi.number(),
             Register::Target(number) => domain.source(number).active().map_or(0, |a| a.target.number()),
             // The others can only be written.
