@@ -9,7 +9,7 @@
 
 /* ---- constants, and macros in constant expressions ---- */
 
-ASSERTED(version, VSK_VERSION_MAJOR == 1 && VSK_VERSION_MINOR == 0 && VSK_VERSION_PATCH == 0);
+ASSERTED(version, VSK_VERSION_MAJOR == 2 && VSK_VERSION_MINOR == 0 && VSK_VERSION_PATCH == 0);
 ASSERTED(lengths, VSK_STATE_WORDS == 650 && VSK_LOG_WORDS == 63 && VSK_SAVED_NUMBERS == 10);
 ASSERTED(harts, VSK_HARTS == 4 && VSK_FILES == 5 && VSK_GUESTS == 3 && VSK_DOMAINS == 2);
 ASSERTED(numbers, VSK_IDENTITIES == 255 && VSK_SOURCES == 63 && VSK_ACCESSES == 89);

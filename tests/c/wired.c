@@ -92,23 +92,65 @@ static void rises(void)
     SENT(vsk_domain_write(BLOCKS, M, VSK_SOURCECFG(8), VSK_SOURCE_EDGE1), 0, 1); /* sent at once */
 }
 
-/* in_clrip reads a wire as it is, whatever the mode makes of it. */
+/* in_clrip reads rectified values: what the mode makes of the wire. */
 static void inputs(void)
 {
-    const unsigned low = 40, high = 3;
+    static const struct {
+        uint32_t mode, with_low, with_high;
+    } modes[] = {
+        {VSK_SOURCE_INACTIVE, 0, 0}, {VSK_SOURCE_DETACHED, 0, 0}, {VSK_SOURCE_DELEGATED, 0, 0},
+        {VSK_SOURCE_EDGE1, 0, 1},    {VSK_SOURCE_EDGE0, 1, 0},    {VSK_SOURCE_LEVEL1, 0, 1},
+        {VSK_SOURCE_LEVEL0, 1, 0},
+    };
+    for (unsigned n = 0; n < sizeof modes / sizeof *modes; n++)
+        for (unsigned i = 1; i <= VSK_SOURCES; i += 31) { /* 1, 32 and 63: both words, and their ends */
+            const uint32_t bit = VSK_SOURCE_BIT(i), k = VSK_SOURCE_WORD(i);
+            start();
+            put(M, VSK_SOURCECFG(i), modes[n].mode);
+            EQUAL(word(M, VSK_IN_CLRIP(k)), modes[n].with_low ? bit : 0); /* at once, by the wire that there was */
+            DONE(vsk_wire(BLOCKS, i, 1), 0);
+            EQUAL(word(M, VSK_IN_CLRIP(k)), modes[n].with_high ? bit : 0);
+            EQUAL(word(M, VSK_IN_CLRIP(1 - k)), 0);
+            EQUAL(word(S, VSK_IN_CLRIP(k)), 0);
+        }
+}
+
+/* Each domain reads by its own modes: a delegated source has a value in the child alone. */
+static void inputs_of_both(void)
+{
     start();
-    active(M, low, VSK_SOURCE_LEVEL0);
-    active(M, high, VSK_SOURCE_LEVEL1);
-    EQUAL(word(M, VSK_IN_CLRIP(1)), 0); /* active low, and asserted */
-    EQUAL(word(M, VSK_SETIP(1)), VSK_SOURCE_BIT(low));
-    DONE(vsk_wire(BLOCKS, low, 1), 0);
-    EQUAL(word(M, VSK_IN_CLRIP(1)), VSK_SOURCE_BIT(low)); /* at rest */
+    put(M, VSK_SOURCECFG(3), VSK_SOURCE_DELEGATED);
+    put(S, VSK_SOURCECFG(3), VSK_SOURCE_LEVEL0);
+    put(M, VSK_SOURCECFG(4), VSK_SOURCE_EDGE0);
+    EQUAL(word(M, VSK_IN_CLRIP(0)), VSK_SOURCE_BIT(4));
+    EQUAL(word(S, VSK_IN_CLRIP(0)), VSK_SOURCE_BIT(3));
+    put(M, VSK_DOMAINCFG, VSK_DOMAINCFG_DM); /* 4, as Edge1 is; source 0 is none all the same */
+    EQUAL(word(M, VSK_IN_CLRIP(0)), VSK_SOURCE_BIT(4));
+    DONE(vsk_wire(BLOCKS, 3, 1), 0);
+    EQUAL(word(S, VSK_IN_CLRIP(0)), 0);
+}
+
+/* What a handler of 4.9.2 relies on, with an active-low sensor: by messages its bit tells whether it is still
+ * asserted, after the pending bit went with the message; directly it is the pending bit. */
+static void still_asserted(void)
+{
+    const unsigned sensor = 40;
+    start();
+    put(M, VSK_DOMAINCFG, SEND);
+    DONE(vsk_wire(BLOCKS, sensor, 1), 0); /* at rest */
+    active(M, sensor, VSK_SOURCE_LEVEL0);
+    SENT(vsk_wire(BLOCKS, sensor, 0), 0, 1);
     EQUAL(word(M, VSK_SETIP(1)), 0);
-    DONE(vsk_wire(BLOCKS, high, 1), 0);
-    DONE(vsk_wire(BLOCKS, 4, 1), 0); /* inactive */
-    EQUAL(word(M, VSK_IN_CLRIP(VSK_SOURCE_WORD(high))), VSK_SOURCE_BIT(high));
-    put(M, VSK_SOURCECFG(high), VSK_SOURCE_DETACHED);
-    EQUAL(word(M, VSK_IN_CLRIP(0)), VSK_SOURCE_BIT(high));
+    EQUAL(word(M, VSK_IN_CLRIP(1)), VSK_SOURCE_BIT(sensor));
+    DONE(vsk_wire(BLOCKS, sensor, 1), 0);
+    EQUAL(word(M, VSK_IN_CLRIP(1)), 0);
+    SENT(vsk_wire(BLOCKS, sensor, 0), 0, 1); /* the next one is sent anew */
+    put(M, VSK_DOMAINCFG, 0);
+    for (unsigned level = 0; level < 2; level++) {
+        DONE(vsk_wire(BLOCKS, sensor, level), 0);
+        EQUAL(word(M, VSK_IN_CLRIP(1)), level ? 0 : VSK_SOURCE_BIT(sensor));
+        EQUAL(word(M, VSK_SETIP(1)), word(M, VSK_IN_CLRIP(1)));
+    }
 }
 
 static void numbers(void)
@@ -281,6 +323,8 @@ void test_wired(void)
     sourcecfg();
     rises();
     inputs();
+    inputs_of_both();
+    still_asserted();
     numbers();
     changed_with_ie(M, 0);
     changed_with_ie(S, VSK_LOGGED(0, VSK_SUPERVISOR_FILE, 0));
