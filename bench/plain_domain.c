@@ -62,14 +62,17 @@ static void write_structure(struct domain *d, uint32_t offset, uint32_t value)
     }
 }
 
-/* Word k of the wire levels of active sources; wire 0 is low, by the state rules. */
+/* Word k of the rectified values. By the state rules bit 2 of a mode says that it reads the wire, and bit 0 that it
+   reads it inverted; slot 0 holds domaincfg, which is no mode. */
 static uint32_t read_in_clrip(const struct wired *w, const struct domain *d, uint32_t k)
 {
-    uint32_t active = 0;
-    for (uint32_t i = 0; i < 32; i++)
-        if (is_active(d->sourcecfg[32 * k + i]))
-            active |= 1u << i;
-    return w->wires[k] & active;
+    uint32_t reads = 0, inverted = 0;
+    for (uint32_t i = 0; i < 32; i++) {
+        uint32_t mode = d->sourcecfg[32 * k + i];
+        reads |= (mode >> 2 & 1) << i;
+        inverted |= (mode & 1) << i;
+    }
+    return (w->wires[k] ^ inverted) & (k ? reads : reads & ~1u);
 }
 
 static uint32_t read_word(struct wired *w, struct domain *d, uint32_t address)
