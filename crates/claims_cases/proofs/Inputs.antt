@@ -8,6 +8,7 @@ pub claim-206 : Claim-206
 unfolding Claim-206 answersOn boardRun stepOn
 claim-206 = (
   answers (modedTo 7 7) (DomainRead 0 0x1D00) (tt, tt),
+  answers (modedTo 7 7) (DomainRead 0 0x1C00) (tt, tt),
   answers (modedTo 7 7 ++ Wire 7 1 ∷ []) (DomainRead 0 0x1D00) (tt, (tt, tt)),
   answers (modedTo 7 6) (DomainRead 0 0x1D00) (tt, tt),
   answers (modedTo 7 6 ++ Wire 7 1 ∷ []) (DomainRead 0 0x1D00) (tt, (tt, tt)),

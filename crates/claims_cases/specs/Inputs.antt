@@ -20,8 +20,9 @@ handedOn i m = DomainWrite 0 (4 * i) 0x400 ∷ DomainWrite 1 (4 * i) m ∷ []
 -- what a read of in_clrip answers at the edges of its reading
 unfoldable pub Claim-206 : Type 0
 Claim-206 =
-    -- Level0 reads 1 with a low wire, right after it got its mode, and 0 with a high one
+    -- Level0 reads 1 with a low wire, right after it got its mode, as setip does, and 0 with a high one
     (answered (modedTo 7 7) (DomainRead 0 0x1D00) ≡ 0 ∷ 0x80 ∷ 0 ∷ 0 ∷ [])
+    × (answered (modedTo 7 7) (DomainRead 0 0x1C00) ≡ 0 ∷ 0x80 ∷ 0 ∷ 0 ∷ [])
     × (answered (modedTo 7 7 ++ Wire 7 1 ∷ []) (DomainRead 0 0x1D00) ≡ 0 ∷ 0 ∷ 0 ∷ 0 ∷ [])
     -- Level1 the other way round
     × (answered (modedTo 7 6) (DomainRead 0 0x1D00) ≡ 0 ∷ 0 ∷ 0 ∷ 0 ∷ [])

@@ -2,7 +2,7 @@
 -- modes. 01, "The wired controller"; 02, M-101.
 --   Bit v n b         bit n of v is 1 exactly if b
 --   RectifiedHigh m wire
---                     the rectified value of a source with mode m is high
+--                     a source with mode m and that wire has a high rectified value, as Claim-139 has it
 --   InputRead v n i d wires
 --                     bit n of v is 1 exactly if source i is there and its rectified value in the domain d is
 --                     high
@@ -30,13 +30,10 @@ use Rattle.claims_registers.specs.Rules.{Sound}
 abbrev pub Bit : ℕ → ℕ → Bool → Type 0
 Bit v n b = v / 2 ^ n % 2 ≡ cond b 1 0
 
--- with a high wire in modes 4 (Edge1) and 6 (Level1), with a low one in 5 (Edge0) and 7 (Level0), and in no
--- other mode
 abbrev pub RectifiedHigh : ℕ → Bool → Type 0
 RectifiedHigh m wire =
     (((m ≡ 4) ⊎ (m ≡ 6)) × (wire ≡ true)) ⊎ (((m ≡ 5) ⊎ (m ≡ 7)) × (wire ≡ false))
 
--- there is no source 0
 abbrev pub InputRead : ℕ → ℕ → ℕ → Domain → List ℕ → Type 0
 InputRead v n i d wires =
     let mode = sourceAt d i .mode in
@@ -80,8 +77,9 @@ Claim-133 =
     (word ≡ 0x80000000 + cond (isEnabled d) 256 0 + cond (byMessages d) 4 0)
     × (word / 2 ^ 24 ≡ 0x80) × Bit word 8 (isEnabled d) × Bit word 2 (byMessages d) × (word % 2 ≡ 0)
 
--- the modes: 0, and 1024 with which a source is delegated, are not active; 6 and 7 are the level modes; the
--- rectified value is high as RectifiedHigh says
+-- the modes: 0, and 1024 with which a source is delegated, are not active; 6 and 7 are the level modes;
+-- the rectified value is high with a high wire for 4 (Edge1) and 6 (Level1), with a low one for 5 (Edge0)
+-- and 7 (Level0), and never for another mode
 -- [01 W14 W15 W21 W25 W26]
 unfoldable pub Claim-139 : Type 0
 Claim-139 =
