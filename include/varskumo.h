@@ -236,17 +236,17 @@ static inline const char *vsk_refusal_name(uint32_t refusal)
  * source in direct mode neither, and with DM it sets one only while the wire is asserted. setipnum_be takes
  * its value with the four bytes reversed: 0x05000000 is source 5.
  *
- * in_clrip reads the rectified values (4.5.7), each by the mode that its source has in the domain that is read:
- * 1 while the wire is high for Edge1 and Level1, 1 while it is low for Edge0 and Level0, and 0 for a source that
- * is inactive, detached or delegated away. Before 2.0.0 it read the wires as they are, those of detached sources
- * too: a monitor that turned round the bits of active-low sources must no longer do so.
- * What a handler can rely on: with DM a level source, active high or active low, is asserted exactly while its
- * bit here is 1. So the first way of 4.9.2 works with Level0 sensors too: handle a cause, read in_clrip, repeat
- * while the bit is 1, and leave once it is 0; the next assertion is sent anew. The second way, to write setipnum
- * before leaving, works as before. Without DM the bit of a level source is its pending bit in setip, always. A
- * bit of an edge source shows its wire now, and nothing of edges that have passed. The wire of a source that is
- * not active is kept and read by no register; it counts as soon as the source gets a mode, so a Level0 source
- * with a low wire reads 1 at once. */
+ * in_clrip reads the rectified values (4.5.7), each by the mode that its source has in the domain that is
+ * read: 1 while the wire is high for Edge1 and Level1, 1 while it is low for Edge0 and Level0, and 0 for a
+ * source that is inactive, detached or delegated away. Before 2.0.0 it read the wires as they are, those of
+ * detached sources too: a monitor that turned round the bits of active-low sources must no longer do so.
+ * What a handler can rely on: with DM a level source, active high or active low, is asserted exactly while
+ * its bit here is 1. So the first way of 4.9.2 works with Level0 sensors too: handle a cause, read in_clrip,
+ * repeat while the bit is 1, and leave once it is 0; the next assertion makes the source pending and, if it
+ * is enabled, is sent anew. The second way, to write setipnum before leaving, works as before. Without DM
+ * the bit of a level source is its pending bit in setip, always. A bit of an edge source shows its wire now,
+ * and nothing of edges that have passed. The wire of a source that is not active is kept and read by no
+ * register; it counts as soon as the source gets a mode, so Level0 with a low wire reads 1 at once. */
 
 /* domaincfg. It reads 0x80 in its top byte, whatever is written: 0x80000104 with IE and DM.
  * Where a write changes DM, genmsi becomes 0, and the target of each active source its start value: hart 0
