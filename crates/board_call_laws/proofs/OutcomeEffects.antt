@@ -7,7 +7,9 @@ use mathlib.Core.List.{List}
 use mathlib.Core.Logic.{_≢_}
 use native.Mathlib.Omega.{arith}
 use lib.ListN.{length}
-use borrow.Author.Tests.{eq-eqb, ne-eqb}
+use lib.Dec.{eqb}
+use borrow.Author.Tests.{eqb-true, eq-eqb, ne-eqb}
+use Rattle.words.proofs.TestsLaws.{tested}
 use Rattle.domain_sending.specs.Sending.{logged}
 use Rattle.board_block.specs.Block.{Board, boardOf, blockOf}
 use Rattle.board_block_laws.proofs.BlockBack.{block-back}
@@ -34,6 +36,12 @@ module _ (c : Call) (l g : List ℕ) where
       → outcome c l g s ≡ doneAs (step c (boardOf l) s) g
   unfolding outcome
   outcome-done s e = simp (eq-eqb (refusalOf c l g) 0 e)
+
+  -- the number of an outcome is the refusal
+  pub outcome-number : (s : List ℕ) → outcome c l g s .number ≡ refusalOf c l g
+  unfolding outcome
+  outcome-number s =
+      let n = refusalOf c l g in tested (eqb n 0) (λ t. rw t (sym (eqb-true n 0 t))) (λ f. rw f)
 
   -- an answer with the refusal's number, and 0 and 0
   gives-number : (k : ℕ) → refusalOf c l g ≡ k → k ≢ 0 → (r : Answer) → refusalNumber r ≡ k → answerValue r

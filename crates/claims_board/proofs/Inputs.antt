@@ -4,7 +4,6 @@ use mathlib.Core.Path.{_≡_, refl, sym, ap, subst, _∙_}
 use mathlib.Core.Bool.{true, false, false≢true}
 use mathlib.Core.List.{List}
 use mathlib.Core.Logic.{_≢_}
-use native.Mathlib.Decide.{ℕ-discrete}
 use native.Mathlib.Omega.{arith}
 use lib.Dec.{eqb}
 use lib.ListN.{length}
@@ -28,7 +27,7 @@ use Rattle.board_call.specs.Refusal.{blockRefusal, nameRefusal, refusalOf}
 use Rattle.board_call.proofs.RefusalLaws.{refused-state, refused-log, refused-rules, blocks-sound}
 use Rattle.board_call.proofs.RefusalLaws.{refused-blocks, refused-numbers, refused-name, numbers-name}
 use Rattle.board_call.specs.Outcome.{Outcome, Stepped, step, doneAs, outcome}
-use Rattle.board_call_laws.proofs.OutcomeEffects.{outcome-refused, outcome-done}
+use Rattle.board_call_laws.proofs.OutcomeEffects.{outcome-number, outcome-done}
 use Rattle.board_call_laws.proofs.StepEffects.{step-domainRead, sound-wired, sound-quiet}
 use Rattle.board_runs.specs.Runs.{Lent, after}
 use Rattle.board_runs.specs.Reading.{claimsBy}
@@ -41,13 +40,6 @@ use Rattle.claims_board.specs.Inputs.{inClrip, Claim-204, Claim-205}
 use Rattle.claims_board.proofs.BoardRules.{claim-118}
 
 -- ---- when it is refused
-
-number-of : (c : Call) (l g s : List ℕ) → outcome c l g s .number ≡ refusalOf c l g
-number-of c l g s = at (ℕ-discrete (refusalOf c l g) 0)
-  where
-    at : Dec (refusalOf c l g ≡ 0) → outcome c l g s .number ≡ refusalOf c l g
-    at (yes e) = ap (λ (o : Outcome). o .number) (outcome-done c l g s e) ∙ sym e
-    at (no n) = ap (λ (o : Outcome). o .number) (outcome-refused c l g s _ refl n)
 
 in-clrip-legal : (k : ℕ) → k < 2 → addressLegal (0x1D00 + 4 * k) ≡ true
 unfolding addressLegal
@@ -83,7 +75,7 @@ pub claim-205 : Claim-205
 unfolding Claim-205
 claim-205 l g s d k h =
     let a = 0x1D00 + 4 * k in
-    let same = number-of (inClrip d k) l g s in (
+    let same = outcome-number (inClrip d k) l g s in (
       (λ x. same ∙ read-blocks l g d a 1 (refused-state true l g x) (λ e. omega arith)),
       (λ long x. same ∙ read-blocks l g d a 2 (refused-log true l g long x) (λ e. omega arith)),
       (λ long full. (
@@ -145,7 +137,7 @@ claim-204 l g s long full sound d k there h =
     let value = value-read l g s long full sound d there a legal (InClrip k) named in
     let w = boardOf l .wired in
     let words = claim-132 (domainIn w (eqb d 1)) (w .wires) k in (
-      number-of (inClrip d k) l g s ∙ read-accepted l g d a long full sound there legal,
+      outcome-number (inClrip d k) l g s ∙ read-accepted l g d a long full sound there legal,
       subst (λ (v : ℕ). v < 2 ^ 32) (sym value) (words .1),
       nothing-sent l g s long full sound d there a legal (InClrip k) named (plain k),
       ap (λ (x : Lent). x .block) left,

@@ -1,14 +1,14 @@
 -- Claims 115 to 117: each test of a number is what the paper says of it; at the ends they are computed.
 -- Assumes nothing.
 use Prim.Native.Nat.{ℕ, _%_, _≤_, _<_}
-use mathlib.Core.Path.{_≡_, refl, sym, ap, _∙_}
+use mathlib.Core.Path.{_≡_, refl, ap, _∙_}
 use mathlib.Core.Bool.{true, false, true≢false, _&&_}
 use mathlib.Core.List.{List}
 use mathlib.Core.Logic.{_↔_}
 use lib.Dec.{eqb, leb, ltb}
 use lib.ListN.{replicate}
 use borrow.Author.Tests.{eq-eqb, eqb-true, lt-ltb, ltb-true, le-leb, leb-true}
-use Rattle.words.proofs.TestsLaws.{tested, and-first, and-second, and-both}
+use Rattle.words.proofs.TestsLaws.{and-first, and-second, and-both}
 use Rattle.file_select.specs.Select.{selectLegal}
 use Rattle.domain_region.specs.Region.{addressLegal}
 use Rattle.domain_region.proofs.RegionLaws.{legal-iff}
@@ -21,9 +21,9 @@ use Rattle.board_call.specs.declared.Call.the-variants.{Reset, Wire, DomainRead
 use Rattle.board_call.specs.declared.Call.the-variants.{PageWrite, Register, Top, Claim, Signals, Move}
 use Rattle.board_call.specs.Numbers.{isWire, isFile, isPageAddress}
 use Rattle.board_call.specs.Calls.{testsRules, rowOf}
-use Rattle.board_call.specs.Refusal.{nameRefusal, nameTests, firstFailed, refusalOf, nameRefusalBy}
+use Rattle.board_call.specs.Refusal.{nameRefusal, nameTests, firstFailed, nameRefusalBy}
 use Rattle.board_call.proofs.RefusalLaws.{blocks-sound, refused-numbers}
-use Rattle.board_call.specs.Outcome.{outcome}
+use Rattle.board_call_laws.proofs.OutcomeEffects.{outcome-number}
 use Rattle.claims_file.specs.FileFacts.{Claim-30}
 use Rattle.claims_file.proofs.FileFacts.{claim-30}
 use Rattle.claims_board.specs.Numbers.{Claim-115, Claim-116, AtStart, Claim-117}
@@ -127,17 +127,11 @@ claim-116 = (
 
 -- ---- both ends
 
--- the number of an outcome is the refusal
-number-is : (c : Call) (l g s : List ℕ) → outcome c l g s .number ≡ refusalOf c l g
-unfolding outcome
-number-is c l g s =
-    let n = refusalOf c l g in tested (eqb n 0) (λ t. rw t (sym (eqb-true n 0 t))) (λ f. rw f)
-
 at-start : (c : Call) (n : ℕ) → nameRefusal c (boardOf (blockOf startBoard)) ≡ n → AtStart c n
 at-start c n e s =
     let l = blockOf startBoard in
     let g : List ℕ = replicate 63 0 in
-    number-is c l g s ∙ refused-numbers (rowOf c .tests) l g
+    outcome-number c l g s ∙ refused-numbers (rowOf c .tests) l g
     (blocks-sound (testsRules c) l g (length-blockOf startBoard start-shaped) refl
     (ap boardSound (board-back startBoard start-shaped) ∙ start-sound))
     ∙ e

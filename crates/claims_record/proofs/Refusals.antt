@@ -1,11 +1,10 @@
 -- Claim 199: a run from reset is ready for each call, because no number that is read has more than 64 bits.
 -- No axioms.
-use Prim.Native.Nat.{ℕ, zero, suc, _^_, _≤_, _<_}
-use mathlib.Core.Path.{_≡_, refl, sym, ap, subst, _∙_}
+use Prim.Native.Nat.{ℕ, zero, suc, _^_, _<_}
+use mathlib.Core.Path.{_≡_, refl, sym, subst, _∙_}
 use mathlib.Core.Bool.{Bool, true, false, cond}
-use mathlib.Core.Logic.{_≢_, _⊎_, inl, inr}
+use mathlib.Core.Logic.{_⊎_, inl, inr}
 use mathlib.Core.List.{List, [], _∷_, _++_, map}
-use native.Mathlib.Decide.{ℕ-discrete}
 use native.Mathlib.Omega.{arith}
 use lib.ListN.{length, getD}
 use Rattle.record_lines.specs.Lines.{linesOf}
@@ -13,18 +12,16 @@ use Rattle.record_call.specs.declared.Line.{Line}
 use Rattle.record_call.specs.declared.Line.the-variants as lines
 use Rattle.record_call.specs.Table.{lineOf}
 use Rattle.record_runs.specs.Replay.{saidIn, callsIn}
-use Rattle.record_runs.proofs.SaidLaws.{calls-append}
 use Rattle.board_block.specs.Block.{Board}
 use Rattle.board_call.specs.declared.Call.{Call}
 use Rattle.board_call.specs.declared.Call.the-variants.{Reset, Wire, DomainRead, DomainWrite, PageRead}
 use Rattle.board_call.specs.declared.Call.the-variants.{PageWrite, Register, Top, Claim, Signals, Move}
 use Rattle.board_call.specs.Calls.{Tests, rowOf}
-use Rattle.board_call.specs.Refusal.{firstFailed, nameTests, nameRefusalBy, nameRefusal, refusalOf}
-use Rattle.board_call.specs.Outcome.{outcome}
+use Rattle.board_call.specs.Refusal.{firstFailed, nameTests, nameRefusalBy}
 use Rattle.board_call_laws.specs.Small.{Small}
-use Rattle.board_call_laws.proofs.OutcomeEffects.{outcome-refused, outcome-done}
-use Rattle.board_runs.specs.Runs.{Lent, outcomeOn, ran}
-use Rattle.board_runs.specs.Ready.{Ready, AllSmall, boardIn, atReset}
+use Rattle.board_call_laws.proofs.OutcomeEffects.{outcome-number}
+use Rattle.board_runs.specs.Runs.{ran}
+use Rattle.board_runs.specs.Ready.{AllSmall, boardIn, atReset}
 use Rattle.board_runs.proofs.RunsEffects.{ready-refusal, ready-ran}
 use Rattle.board_runs.proofs.StartEffects.{ready-reset}
 use Rattle.claims_record.specs.Written.{Spelled, callNumbers}
@@ -99,13 +96,6 @@ name-named t b = at (t .names b) (t .address) (t .select)
     at true true false = inr (inr (inr refl))
     at true true true = inl refl
 
-outcome-number : (c : Call) (x : Lent) → outcomeOn c x .number ≡ refusalOf c (x .block) (x .log)
-outcome-number c x = at (ℕ-discrete (refusalOf c (x .block) (x .log)) 0)
-  where
-    at : Dec (refusalOf c (x .block) (x .log) ≡ 0) → outcomeOn c x .number ≡ refusalOf c (x .block) (x .log)
-    at (yes e) = ap (λ o. o .number) (outcome-done c (x .block) (x .log) (x .saved) e) ∙ sym e
-    at (no n) = ap (λ o. o .number) (outcome-refused c (x .block) (x .log) (x .saved) _ refl n)
-
 pub claim-199 : Claim-199
 unfolding Claim-199 saidIn
 claim-199 bs ss ts c e =
@@ -113,4 +103,4 @@ claim-199 bs ss ts c e =
     (linesOf bs)))) in
     let x = ran (callsIn ss) atReset in
     let ready = ready-ran (callsIn ss) atReset ready-reset small in
-    subst Named (sym (outcome-number c x ∙ ready-refusal c x ready)) (name-named (rowOf c .tests) (boardIn x))
+    subst Named (sym (outcome-number c (x .block) (x .log) (x .saved) ∙ ready-refusal c x ready)) (name-named (rowOf c .tests) (boardIn x))

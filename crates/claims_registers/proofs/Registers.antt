@@ -15,6 +15,7 @@ use Rattle.words.specs.Sets.{member, WordsFit}
 use Rattle.words.proofs.BitsLaws.{bitOf-lt}
 use Rattle.words.proofs.TestsLaws.{and-first, and-second, and-both, or-cases, or-left, or-right, not-same}
 use Rattle.words.proofs.TestsLaws.{same-truth}
+use Rattle.words.proofs.SetsLaws.{word-members}
 use Rattle.source_mode.specs.Mode.{isActive, isLevel, isRectified}
 use Rattle.domain.specs.Domain.{Domain, domaincfgOf, isEnabled, byMessages}
 use Rattle.domain.specs.Slot.{sourceAt}
@@ -45,14 +46,6 @@ module _ (w n : ℕ) where
   pub bit-one : (w / 2 ^ n % 2 ≡ 1) ↔ (hasBit w n ≡ true)
   unfolding hasBit bitOf
   bit-one = (eq-eqb (w / 2 ^ n % 2) 1, eqb-true (w / 2 ^ n % 2) 1)
-
--- a number of a set is a bit of one of its words
-pub member-at : (ws : List ℕ) (k n : ℕ) → n < 32 → hasBit (getD ws k 0) n ≡ member ws (32 * k + n)
-unfolding member
-member-at ws k n h =
-    let word : (32 * k + n) / 32 ≡ k = omega arith in
-    let bit : (32 * k + n) % 32 ≡ n = omega arith in
-    rw (word, bit)
 
 -- ---- domaincfg
 
@@ -134,8 +127,8 @@ pub claim-132 : Claim-132
 unfolding Claim-132 registerValue inputWord sourceAt WordsFit
 claim-132 d wires k = (
   λ n h. (
-    bit-of (getD (d .pending) k 0) n _ (member-at (d .pending) k n h),
-    bit-of (getD (d .enable) k 0) n _ (member-at (d .enable) k n h),
+    bit-of (getD (d .pending) k 0) n _ (sym (word-members (d .pending) k n h)),
+    bit-of (getD (d .enable) k 0) n _ (sym (word-members (d .enable) k n h)),
     (
       λ e. input-iff d wires (32 * k + n) .0 (sym (inputs-bit d wires k 32 n h) ∙ bit-one _ n .0 e),
       λ p. bit-one _ n .1 (inputs-bit d wires k 32 n h ∙ input-iff d wires (32 * k + n) .1 p),
