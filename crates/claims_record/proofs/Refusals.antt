@@ -103,4 +103,5 @@ claim-199 bs ss ts c e =
     (linesOf bs)))) in
     let x = ran (callsIn ss) atReset in
     let ready = ready-ran (callsIn ss) atReset ready-reset small in
-    subst Named (sym (outcome-number c (x .block) (x .log) (x .saved) ∙ ready-refusal c x ready)) (name-named (rowOf c .tests) (boardIn x))
+    let number = outcome-number c (x .block) (x .log) (x .saved) ∙ ready-refusal c x ready in
+    subst Named (sym number) (name-named (rowOf c .tests) (boardIn x))
