@@ -1,7 +1,7 @@
 -- Laws of specs/Block.antt: the two parts of the block as they are lent, and the board after a part came
 -- back. No contract cites this file. Assumes nothing.
---   filesPut l ys    the block l with ys in the place of the files' 360 words
---   wiredPut l zs    the block l with zs in the place of the wired controller's 290
+--   files_put l ys    the block l with ys in the place of the files' 360 words
+--   wired_put l zs    the block l with zs in the place of the wired controller's 290
 use Prim.Native.Nat.{ℕ}
 use mathlib.Core.Path.{◌≡◌, refl, ap, ap₂, ◌∙◌}
 use mathlib.Core.Bool.{Bool, ◌&&◌}
@@ -9,11 +9,11 @@ use mathlib.Core.List.{List, ◌++◌}
 use native.Mathlib.Omega.{arith}
 use lib.ListN.{length, take, drop, length-take, length-drop, length-append}
 use lib.Seq.{take_at, drop_at}
-use Rattle.files.specs.Files.{files_of, filesSound}
-use Rattle.wired_state.specs.Wires.{wiredOf}
-use Rattle.wired_rules.specs.Rules.{wiredSound}
-use Rattle.board_block.specs.Block.{Board, withFiles, withWired, boardOf, boardSound}
-use Rattle.sizes.specs.Sizes.{blockSize, filesSize, wiredSize}
+use Rattle.files.specs.Files.{files_of, files_sound}
+use Rattle.wired_state.specs.Wires.{wired_of}
+use Rattle.wired_rules.specs.Rules.{wired_sound}
+use Rattle.board_block.specs.Block.{Board, with_files, with_wired, board_of, board_sound}
+use Rattle.sizes.specs.Sizes.{block_size, files_size, wired_size}
 
 -- two boards are equal if their parts are
 pub board-path : {b c : Board} → b.files ≡ c.files → b.wired ≡ c.wired → b ≡ c
@@ -21,51 +21,51 @@ board-path f w = λ k. record { files = f k; wired = w k }
 
 -- ---- the parts that are lent
 
-module _ (l : List ℕ) (long : length l ≡ blockSize) where
-  pub files-long : length (take filesSize l) ≡ filesSize
+module _ (l : List ℕ) (long : length l ≡ block_size) where
+  pub files-long : length (take files_size l) ≡ files_size
   files-long = simp length-take (omega arith)
 
-  pub wired-long : length (take wiredSize (drop filesSize l)) ≡ wiredSize
+  pub wired-long : length (take wired_size (drop files_size l)) ≡ wired_size
   wired-long = simp (length-take, length-drop) (omega arith)
 
-  pub files-part : files_of (take filesSize l) ≡ (boardOf l).files
-  unfolding boardOf
+  pub files-part : files_of (take files_size l) ≡ (board_of l).files
+  unfolding board_of
   files-part = refl
 
-  pub wired-part : wiredOf (take wiredSize (drop filesSize l)) ≡ (boardOf l).wired
-  unfolding boardOf
+  pub wired-part : wired_of (take wired_size (drop files_size l)) ≡ (board_of l).wired
+  unfolding board_of
   wired-part = refl
 
 -- ---- a part put back
 
-abbrev pub filesPut : List ℕ → List ℕ → List ℕ
-filesPut l ys = ys ++ drop filesSize l
+abbrev pub files_put : List ℕ → List ℕ → List ℕ
+files_put l ys = ys ++ drop files_size l
 
-abbrev pub wiredPut : List ℕ → List ℕ → List ℕ
-wiredPut l zs = take filesSize l ++ (zs ++ drop wiredSize (drop filesSize l))
+abbrev pub wired_put : List ℕ → List ℕ → List ℕ
+wired_put l zs = take files_size l ++ (zs ++ drop wired_size (drop files_size l))
 
-module _ (l ys : List ℕ) (long : length l ≡ blockSize) (part : length ys ≡ filesSize) where
-  pub put-files : boardOf (filesPut l ys) ≡ withFiles (boardOf l) (files_of ys)
-  unfolding boardOf
+module _ (l ys : List ℕ) (long : length l ≡ block_size) (part : length ys ≡ files_size) where
+  pub put-files : board_of (files_put l ys) ≡ with_files (board_of l) (files_of ys)
+  unfolding board_of
   put-files =
-      board-path (ap files_of (take_at ys (drop filesSize l) filesSize part))
-      (ap (λ (x : List ℕ). wiredOf (take wiredSize x)) (drop_at ys (drop filesSize l) filesSize part))
+      board-path (ap files_of (take_at ys (drop files_size l) files_size part))
+      (ap (λ (x : List ℕ). wired_of (take wired_size x)) (drop_at ys (drop files_size l) files_size part))
 
-module _ (l zs : List ℕ) (long : length l ≡ blockSize) (part : length zs ≡ wiredSize) where
-  pub put-wired : boardOf (wiredPut l zs) ≡ withWired (boardOf l) (wiredOf zs)
-  unfolding boardOf
+module _ (l zs : List ℕ) (long : length l ≡ block_size) (part : length zs ≡ wired_size) where
+  pub put-wired : board_of (wired_put l zs) ≡ with_wired (board_of l) (wired_of zs)
+  unfolding board_of
   put-wired =
-      let rest = zs ++ drop wiredSize (drop filesSize l) in
-      board-path (ap files_of (take_at (take filesSize l) rest filesSize (files-long l long)))
-      (ap wiredOf (ap (take wiredSize) (drop_at (take filesSize l) rest filesSize (files-long l long))
-      ∙ take_at zs (drop wiredSize (drop filesSize l)) wiredSize part))
+      let rest = zs ++ drop wired_size (drop files_size l) in
+      board-path (ap files_of (take_at (take files_size l) rest files_size (files-long l long)))
+      (ap wired_of (ap (take wired_size) (drop_at (take files_size l) rest files_size (files-long l long))
+      ∙ take_at zs (drop wired_size (drop files_size l)) wired_size part))
 
-  pub put-wired-long : length (wiredPut l zs) ≡ blockSize
+  pub put-wired-long : length (wired_put l zs) ≡ block_size
   put-wired-long = simp (length-append, length-take, length-drop) (omega arith)
 
 -- ---- the state rules
 
-pub board-sound-read : (b : Board) (f w : Bool) → f ≡ filesSound b.files → w ≡ wiredSound b.wired
-    → (f && w) ≡ boardSound b
-unfolding boardSound
+pub board-sound-read : (b : Board) (f w : Bool) → f ≡ files_sound b.files → w ≡ wired_sound b.wired
+    → (f && w) ≡ board_sound b
+unfolding board_sound
 board-sound-read b f w p q = ap₂ ◌&&◌ p q

@@ -1,18 +1,18 @@
 -- The board, and the block of 650 words that holds it. 01, "The board", "State rules". Assumes nothing.
 --   Board             files: the 20 message files; wired: the wired controller
---   withFiles b fs    b with fs as its message files; withWired b w: with w as its wired controller
---   boardOf l         the board whose words are l: 360 of the files, then 290 of the wired controller
---   domainWords d     the words of a domain, in their order
---   wiredWords w      those of the wired controller
+--   with_files b fs    b with fs as its message files; with_wired b w: with w as its wired controller
+--   board_of l         the board whose words are l: 360 of the files, then 290 of the wired controller
+--   domain_words d     the words of a domain, in their order
+--   wired_words w      those of the wired controller
 --   block_of b         those of the board: one board has one block
---   boardSound b      the board keeps every state rule
+--   board_sound b      the board keeps every state rule
 use Rattle.std.specs.Prelude.{ℕ, Bool, ◌&&◌, List, ◌++◌, take, drop}
-use Rattle.sizes.specs.Sizes.{filesSize, wiredSize, wiredPlace}
+use Rattle.sizes.specs.Sizes.{files_size, wired_size, wired_place}
 use Rattle.file.specs.declared.File.{File}
-use Rattle.files.specs.Files.{files_of, words_of, filesSound}
+use Rattle.files.specs.Files.{files_of, words_of, files_sound}
 use Rattle.domain.specs.Domain.{Domain}
-use Rattle.wired_state.specs.Wires.{Wired, wiredOf}
-use Rattle.wired_rules.specs.Rules.{wiredSound}
+use Rattle.wired_state.specs.Wires.{Wired, wired_of}
+use Rattle.wired_rules.specs.Rules.{wired_sound}
 
 -- [01 B12]
 pub record Board : Type 0 where
@@ -20,29 +20,29 @@ pub record Board : Type 0 where
   pub wired : Wired
 
 -- a part is replaced by these alone: what else a board has, it keeps
-abbrev pub withFiles : Board → List File → Board
-withFiles b fs = record { files = fs; wired = b.wired }
+abbrev pub with_files : Board → List File → Board
+with_files b fs = record { files = fs; wired = b.wired }
 
-abbrev pub withWired : Board → Wired → Board
-withWired b w = record { files = b.files; wired = w }
+abbrev pub with_wired : Board → Wired → Board
+with_wired b w = record { files = b.files; wired = w }
 
 -- [01 B8 B9]
-unfoldable pub boardOf : List ℕ → Board
-boardOf l = record {
-  files = files_of (take filesSize l);
-  wired = wiredOf (take wiredSize (drop wiredPlace l));
+unfoldable pub board_of : List ℕ → Board
+board_of l = record {
+  files = files_of (take files_size l);
+  wired = wired_of (take wired_size (drop wired_place l));
 }
 
-unfoldable pub domainWords : Domain → List ℕ
-domainWords d = d.source ++ d.target ++ d.pending ++ d.enable ++ d.delivery
+unfoldable pub domain_words : Domain → List ℕ
+domain_words d = d.source ++ d.target ++ d.pending ++ d.enable ++ d.delivery
 
-unfoldable pub wiredWords : Wired → List ℕ
-wiredWords w = w.wires ++ domainWords w.machine ++ domainWords w.child
+unfoldable pub wired_words : Wired → List ℕ
+wired_words w = w.wires ++ domain_words w.machine ++ domain_words w.child
 
 -- [01 B9]
 unfoldable pub block_of : Board → List ℕ
-block_of b = words_of b.files ++ wiredWords b.wired
+block_of b = words_of b.files ++ wired_words b.wired
 
 -- [01 C12]
-unfoldable pub boardSound : Board → Bool
-boardSound b = filesSound b.files && wiredSound b.wired
+unfoldable pub board_sound : Board → Bool
+board_sound b = files_sound b.files && wired_sound b.wired

@@ -9,85 +9,85 @@ use lib.Seq.{take_all, take-add}
 use Rattle.file.specs.declared.File.{File}
 use Rattle.file.specs.Shape.{Long}
 use Rattle.file_laws.proofs.Stored.{words_long}
-use Rattle.file_words.specs.Stored.{fileWords}
-use Rattle.files.specs.Files.{files_of, words_of, theFile}
-use Rattle.files.proofs.FilesLaws.{length-filesOf}
+use Rattle.file_words.specs.Stored.{file_words}
+use Rattle.files.specs.Files.{files_of, words_of, the_file}
+use Rattle.files.proofs.FilesLaws.{length-files_of}
 use Rattle.files_laws.proofs.BlockBack.{words_back, files-back}
-use Rattle.files_laws.proofs.Keeps.{filesOf-long}
-use Rattle.domain_laws.proofs.SlotEffects.{domainOf-shaped}
-use Rattle.wired_state.specs.Wires.{wiredOf}
+use Rattle.files_laws.proofs.Keeps.{files_of-long}
+use Rattle.domain_laws.proofs.SlotEffects.{domain_of-shaped}
+use Rattle.wired_state.specs.Wires.{wired_of}
 use Rattle.wired_state.proofs.WiresLaws.{machine-long, child-long}
-use Rattle.board_block.specs.Block.{Board, boardOf, block_of, wiredWords}
+use Rattle.board_block.specs.Block.{Board, board_of, block_of, wired_words}
 use Rattle.board_block.proofs.BlockLaws.{board-path, files-long, wired-long}
 use Rattle.board_block_laws.specs.Shape.{BoardShaped}
-use Rattle.board_block_laws.proofs.DomainBack.{stretch-at, wired-words-back, length-wiredWords}
+use Rattle.board_block_laws.proofs.DomainBack.{stretch-at, wired-words-back, length-wired_words}
 use Rattle.board_block_laws.proofs.DomainBack.{wired-back}
-use Rattle.sizes.specs.Sizes.{blockSize, childPlace, domainSize, filesSize, wiredSize, fileSize}
+use Rattle.sizes.specs.Sizes.{block_size, child_place, domain_size, files_size, wired_size, file_size}
 
 -- ---- from the block to the board and back
 
-module _ (l : List ℕ) (long : length l ≡ blockSize) where
-  pub block_back : block_of (boardOf l) ≡ l
-  unfolding block_of boardOf
+module _ (l : List ℕ) (long : length l ≡ block_size) where
+  pub block_back : block_of (board_of l) ≡ l
+  unfolding block_of board_of
   block_back =
       rw (
-        words_back (take filesSize l) (files-long l long),
-        wired-words-back (take wiredSize (drop filesSize l)) (wired-long l long),
-        ← take-add filesSize wiredSize l,
+        words_back (take files_size l) (files-long l long),
+        wired-words-back (take wired_size (drop files_size l)) (wired-long l long),
+        ← take-add files_size wired_size l,
       )
-      (take_all blockSize l (omega arith))
+      (take_all block_size l (omega arith))
 
-  pub boardOf-shaped : BoardShaped (boardOf l)
-  unfolding boardOf wiredOf
-  boardOf-shaped =
-      let part = take wiredSize (drop filesSize l) in
+  pub board_of-shaped : BoardShaped (board_of l)
+  unfolding board_of wired_of
+  board_of-shaped =
+      let part = take wired_size (drop files_size l) in
       let half = wired-long l long in
       record {
-        many = length-filesOf (take filesSize l);
-        long = λ k h. filesOf-long (take filesSize l) (files-long l long) k h;
+        many = length-files_of (take files_size l);
+        long = λ k h. files_of-long (take files_size l) (files-long l long) k h;
         wires = simp (length-take, length-drop) (omega arith);
-        machine = domainOf-shaped (take domainSize (drop 2 part)) (machine-long part half);
-        child = domainOf-shaped (take domainSize (drop childPlace part)) (child-long part half);
+        machine = domain_of-shaped (take domain_size (drop 2 part)) (machine-long part half);
+        child = domain_of-shaped (take domain_size (drop child_place part)) (child-long part half);
       }
 
 -- two blocks with the same board are the same
-pub blocks-same : (l m : List ℕ) → length l ≡ blockSize → length m ≡ blockSize → boardOf l ≡ boardOf m → l ≡ m
+pub blocks-same : (l m : List ℕ) → length l ≡ block_size → length m ≡ block_size → board_of l ≡ board_of m → l ≡ m
 blocks-same l m hl hm e = sym (block_back l hl) ∙ ap block_of e ∙ block_back m hm
 
 -- ---- from the board to the block and back
 
-length-wordsOf : (fs : List File) → ((k : ℕ) → k < length fs → Long (theFile fs k))
-    → length (words_of fs) ≡ fileSize * length fs
-unfolding words_of theFile
-length-wordsOf [] long = refl
-length-wordsOf (f ∷ fs) long =
+length-words_of : (fs : List File) → ((k : ℕ) → k < length fs → Long (the_file fs k))
+    → length (words_of fs) ≡ file_size * length fs
+unfolding words_of the_file
+length-words_of [] long = refl
+length-words_of (f ∷ fs) long =
     let here = words_long f (long 0 (omega arith)) in
-    let rest = length-wordsOf fs (λ k h. long (suc k) (omega arith)) in
-    length-append (fileWords f) (words_of fs) ∙ omega arith
+    let rest = length-words_of fs (λ k h. long (suc k) (omega arith)) in
+    length-append (file_words f) (words_of fs) ∙ omega arith
 
 module _ (b : Board) (shaped : BoardShaped b) where
-  abbrev filesWords : List ℕ
-  filesWords = words_of b.files
+  abbrev files_words : List ℕ
+  files_words = words_of b.files
 
-  length-files : length filesWords ≡ filesSize
+  length-files : length files_words ≡ files_size
   length-files =
-      length-wordsOf b.files (λ k h. shaped.long k (omega (arith, shaped.many)))
-      ∙ ap (λ (n : ℕ). fileSize * n) shaped.many
+      length-words_of b.files (λ k h. shaped.long k (omega (arith, shaped.many)))
+      ∙ ap (λ (n : ℕ). file_size * n) shaped.many
 
-  length-wired : length (wiredWords b.wired) ≡ wiredSize
-  length-wired = length-wiredWords b.wired shaped.wires shaped.machine shaped.child
+  length-wired : length (wired_words b.wired) ≡ wired_size
+  length-wired = length-wired_words b.wired shaped.wires shaped.machine shaped.child
 
-  pub length-blockOf : length (block_of b) ≡ blockSize
+  pub length-block_of : length (block_of b) ≡ block_size
   unfolding block_of
-  length-blockOf = simp length-append (omega (arith, length-files, length-wired))
+  length-block_of = simp length-append (omega (arith, length-files, length-wired))
 
-  pub board-back : boardOf (block_of b) ≡ b
-  unfolding boardOf block_of
+  pub board-back : board_of (block_of b) ≡ b
+  unfolding board_of block_of
   board-back =
-      let ws = wiredWords b.wired in
-      board-path (ap files_of (stretch-at (block_of b) [] filesWords ws 0 filesSize refl refl length-files)
+      let ws = wired_words b.wired in
+      board-path (ap files_of (stretch-at (block_of b) [] files_words ws 0 files_size refl refl length-files)
       ∙ files-back b.files shaped.many shaped.long)
-      (ap wiredOf
-      (stretch-at (block_of b) filesWords ws [] filesSize wiredSize
+      (ap wired_of
+      (stretch-at (block_of b) files_words ws [] files_size wired_size
       (simp append-nil) length-files length-wired)
       ∙ wired-back b.wired shaped.wires shaped.machine shaped.child)

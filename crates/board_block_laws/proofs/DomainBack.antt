@@ -6,13 +6,13 @@ use mathlib.Core.List.{List, [], ◌++◌, append_assoc, append-nil}
 use native.Mathlib.Omega.{arith}
 use lib.ListN.{length, take, drop, length-append}
 use lib.Seq.{take_all, take-add, take_at, drop_at}
-use Rattle.domain.specs.Domain.{Domain, domainOf}
+use Rattle.domain.specs.Domain.{Domain, domain_of}
 use Rattle.domain.proofs.DomainLaws.{domain-path}
 use Rattle.domain_laws.specs.Shape.{DomainShaped}
-use Rattle.wired_state.specs.Wires.{Wired, wiredOf}
+use Rattle.wired_state.specs.Wires.{Wired, wired_of}
 use Rattle.wired_state.proofs.WiresLaws.{wired-path, machine-long, child-long}
-use Rattle.board_block.specs.Block.{domainWords, wiredWords}
-use Rattle.sizes.specs.Sizes.{childPlace, domainSize, wiredSize}
+use Rattle.board_block.specs.Block.{domain_words, wired_words}
+use Rattle.sizes.specs.Sizes.{child_place, domain_size, wired_size}
 
 -- the stretch of k words behind n others
 pub stretch-at : (l xs ys zs : List ℕ) (n k : ℕ) → l ≡ xs ++ (ys ++ zs) → length xs ≡ n → length ys ≡ k
@@ -22,21 +22,21 @@ stretch-at l xs ys zs n k e h g =
 
 -- ---- a domain
 
-pub domain-words-back : (l : List ℕ) → length l ≡ domainSize → domainWords (domainOf l) ≡ l
-unfolding domainWords domainOf
+pub domain-words-back : (l : List ℕ) → length l ≡ domain_size → domain_words (domain_of l) ≡ l
+unfolding domain_words domain_of
 domain-words-back l long =
     rw (← take-add 64 64 l, ← take-add 128 2 l, ← take-add 130 2 l, ← take-add 132 12 l)
-    (take_all domainSize l (omega arith))
+    (take_all domain_size l (omega arith))
 
 module _ (d : Domain) (shaped : DomainShaped d) where
-  pub length-domainWords : length (domainWords d) ≡ domainSize
-  unfolding domainWords
-  length-domainWords = simp length-append (omega arith)
+  pub length-domain_words : length (domain_words d) ≡ domain_size
+  unfolding domain_words
+  length-domain_words = simp length-append (omega arith)
 
-  pub domain-back : domainOf (domainWords d) ≡ d
-  unfolding domainWords domainOf
+  pub domain-back : domain_of (domain_words d) ≡ d
+  unfolding domain_words domain_of
   domain-back =
-      let l = domainWords d in
+      let l = domain_words d in
       let s = d.source in
       let t = d.target in
       let p = d.pending in
@@ -53,35 +53,35 @@ module _ (d : Domain) (shaped : DomainShaped d) where
 
 -- ---- the wired controller
 
-pub wired-words-back : (l : List ℕ) → length l ≡ wiredSize → wiredWords (wiredOf l) ≡ l
-unfolding wiredWords wiredOf
+pub wired-words-back : (l : List ℕ) → length l ≡ wired_size → wired_words (wired_of l) ≡ l
+unfolding wired_words wired_of
 wired-words-back l long =
     rw (
-      domain-words-back (take domainSize (drop 2 l)) (machine-long l long),
-      domain-words-back (take domainSize (drop childPlace l)) (child-long l long),
-      ← take-add 2 domainSize l,
-      ← take-add childPlace domainSize l,
+      domain-words-back (take domain_size (drop 2 l)) (machine-long l long),
+      domain-words-back (take domain_size (drop child_place l)) (child-long l long),
+      ← take-add 2 domain_size l,
+      ← take-add child_place domain_size l,
     )
-    (take_all wiredSize l (omega arith))
+    (take_all wired_size l (omega arith))
 
 module _ (w : Wired) (wires : length w.wires ≡ 2) (machine : DomainShaped w.machine)
     (child : DomainShaped w.child) where
-  pub length-wiredWords : length (wiredWords w) ≡ wiredSize
-  unfolding wiredWords
-  length-wiredWords =
+  pub length-wired_words : length (wired_words w) ≡ wired_size
+  unfolding wired_words
+  length-wired_words =
       simp length-append
-      (omega (arith, length-domainWords w.machine machine, length-domainWords w.child child))
+      (omega (arith, length-domain_words w.machine machine, length-domain_words w.child child))
 
-  pub wired-back : wiredOf (wiredWords w) ≡ w
-  unfolding wiredWords wiredOf
+  pub wired-back : wired_of (wired_words w) ≡ w
+  unfolding wired_words wired_of
   wired-back =
       let ws = w.wires in
-      let r = domainWords w.machine in
-      let c = domainWords w.child in
-      let two = length-domainWords w.machine machine in
-      wired-path (stretch-at (wiredWords w) [] ws (r ++ c) 0 2 (append_assoc ws r c) refl wires)
-      (ap domainOf (stretch-at (wiredWords w) ws r c 2 domainSize (append_assoc ws r c) wires two)
+      let r = domain_words w.machine in
+      let c = domain_words w.child in
+      let two = length-domain_words w.machine machine in
+      wired-path (stretch-at (wired_words w) [] ws (r ++ c) 0 2 (append_assoc ws r c) refl wires)
+      (ap domain_of (stretch-at (wired_words w) ws r c 2 domain_size (append_assoc ws r c) wires two)
       ∙ domain-back w.machine machine)
-      (ap domainOf (stretch-at (wiredWords w) (ws ++ r) c [] childPlace domainSize (simp append-nil)
-      (simp length-append (omega arith)) (length-domainWords w.child child))
+      (ap domain_of (stretch-at (wired_words w) (ws ++ r) c [] child_place domain_size (simp append-nil)
+      (simp length-append (omega arith)) (length-domain_words w.child child))
       ∙ domain-back w.child child)

@@ -12,13 +12,13 @@ use Rattle.board_call.specs.declared.Answer.{Answer}
 use Rattle.board_call.specs.declared.Answer.TheVariants.{Done, StateLength, LogLength, BrokenRule}
 use Rattle.board_call.specs.declared.Answer.TheVariants.{NoSuch}
 use Rattle.board_call.specs.declared.Answer.TheVariants.{BadAddress, IllegalSelect}
-use Rattle.board_call.specs.Answer.{refusalNumber, Refuses}
+use Rattle.board_call.specs.Answer.{refusal_number, Refuses}
 use Rattle.board_call.specs.contracts.Answer.{the_type}
 
 abbrev pub NotDone : Answer → Type 0
 NotDone r = OneOf (1 ∷ 2 ∷ 3 ∷ 4 ∷ 5 ∷ 6 ∷ []) (tag_of the_type r)
 
-pub refused-case : (r : Answer) → NotDone r → refusalNumber r ≢ 0
+pub refused-case : (r : Answer) → NotDone r → refusal_number r ≢ 0
 refused-case (Done v n) k z = miss (1 ∷ 2 ∷ 3 ∷ 4 ∷ 5 ∷ 6 ∷ []) 0 tt k
 refused-case StateLength k z = omega arith
 refused-case LogLength k z = omega arith
@@ -29,4 +29,4 @@ refused-case IllegalSelect k z = omega arith
 
 -- a test that answers the refusal n, and its answer is Done
 pub done-case : (r : Answer) (n : ℕ) → Refuses r n → {v m : ℕ} → r ≡ Done v m → n ≡ 0
-done-case r n e d = sym e.number ∙ ap refusalNumber d
+done-case r n e d = sym e.number ∙ ap refusal_number d

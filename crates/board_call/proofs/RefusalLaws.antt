@@ -11,14 +11,14 @@ use lib.Dec.{eqb}
 use lib.ListN.{length}
 use borrow.Author.Tests.{eq-eqb, ne_eqb, not-true}
 use Rattle.words.proofs.TestsLaws.{tested, and_first, and_second, or_right}
-use Rattle.board_block.specs.Block.{Board, boardOf, boardSound}
+use Rattle.board_block.specs.Block.{Board, board_of, board_sound}
 use Rattle.board_call.specs.declared.Answer.{Answer}
 use Rattle.board_call.specs.Answer.{Refuses}
 use Rattle.board_call.specs.Calls.{Tests}
-use Rattle.board_call.specs.Refusal.{Test, firstFailed, blockTests, nameTests, blockRefusal}
-use Rattle.board_call.specs.Refusal.{nameRefusalBy, refusalBy}
+use Rattle.board_call.specs.Refusal.{Test, first_failed, block_tests, name_tests, block_refusal}
+use Rattle.board_call.specs.Refusal.{name_refusal_by, refusal_by}
 use Rattle.board_call.proofs.AnswerLaws.{NotDone, refused-case}
-use Rattle.sizes.specs.Sizes.{blockSize}
+use Rattle.sizes.specs.Sizes.{block_size}
 
 -- ---- of lists of tests
 
@@ -29,8 +29,8 @@ numbered (t ∷ ts) = not (eqb t.number 0) && numbered ts
 
 -- the first that fails of the former tests, or else of the latter
 first-append : (ts us : List Test) → numbered ts ≡ true
-    → firstFailed (ts ++ us) ≡ cond (eqb (firstFailed ts) 0) (firstFailed us) (firstFailed ts)
-unfolding firstFailed numbered
+    → first_failed (ts ++ us) ≡ cond (eqb (first_failed ts) 0) (first_failed us) (first_failed ts)
+unfolding first_failed numbered
 first-append [] us n = refl
 first-append (t ∷ ts) us n =
     let zero = eqb t.number 0 in
@@ -40,49 +40,49 @@ first-append (t ∷ ts) us n =
 -- ---- of the blocks
 
 module _ (t : Bool) (l g : List ℕ) where
-  pub refused-state : length l ≢ blockSize → blockRefusal t l g ≡ 1
-  unfolding blockRefusal blockTests firstFailed
-  refused-state h = simp (ne_eqb (length l) blockSize h)
+  pub refused-state : length l ≢ block_size → block_refusal t l g ≡ 1
+  unfolding block_refusal block_tests first_failed
+  refused-state h = simp (ne_eqb (length l) block_size h)
 
-  module _ (long : length l ≡ blockSize) where
-    pub refused-log : length g ≢ 63 → blockRefusal t l g ≡ 2
-    unfolding blockRefusal blockTests firstFailed
-    refused-log h = simp (eq-eqb (length l) blockSize long, ne_eqb (length g) 63 h)
+  module _ (long : length l ≡ block_size) where
+    pub refused-log : length g ≢ 63 → block_refusal t l g ≡ 2
+    unfolding block_refusal block_tests first_failed
+    refused-log h = simp (eq-eqb (length l) block_size long, ne_eqb (length g) 63 h)
 
     module _ (full : length g ≡ 63) where
-      pub refused-rules : t ≡ true → boardSound (boardOf l) ≡ false → blockRefusal t l g ≡ 3
-      unfolding blockRefusal blockTests firstFailed
-      refused-rules e f = simp (eq-eqb (length l) blockSize long, eq-eqb (length g) 63 full, e, f)
+      pub refused-rules : t ≡ true → board_sound (board_of l) ≡ false → block_refusal t l g ≡ 3
+      unfolding block_refusal block_tests first_failed
+      refused-rules e f = simp (eq-eqb (length l) block_size long, eq-eqb (length g) 63 full, e, f)
 
-      pub blocks-sound : boardSound (boardOf l) ≡ true → blockRefusal t l g ≡ 0
-      unfolding blockRefusal blockTests firstFailed
+      pub blocks-sound : board_sound (board_of l) ≡ true → block_refusal t l g ≡ 0
+      unfolding block_refusal block_tests first_failed
       blocks-sound f =
-          let tests = or_right (not t) (boardSound (boardOf l)) f in
-          simp (eq-eqb (length l) blockSize long, eq-eqb (length g) 63 full, tests)
+          let tests = or_right (not t) (board_sound (board_of l)) f in
+          simp (eq-eqb (length l) block_size long, eq-eqb (length g) 63 full, tests)
 
-      pub blocks-untested : t ≡ false → blockRefusal t l g ≡ 0
-      unfolding blockRefusal blockTests firstFailed
-      blocks-untested e = simp (eq-eqb (length l) blockSize long, eq-eqb (length g) 63 full, e)
+      pub blocks-untested : t ≡ false → block_refusal t l g ≡ 0
+      unfolding block_refusal block_tests first_failed
+      blocks-untested e = simp (eq-eqb (length l) block_size long, eq-eqb (length g) 63 full, e)
 
 -- a refusal by the lengths is one where the rules are tested too
-pub refused-lengths : (t : Bool) (l g : List ℕ) (r : Answer) → Refuses r (blockRefusal false l g) → NotDone r
-    → Refuses r (blockRefusal t l g)
-unfolding blockRefusal blockTests firstFailed
+pub refused-lengths : (t : Bool) (l g : List ℕ) (r : Answer) → Refuses r (block_refusal false l g) → NotDone r
+    → Refuses r (block_refusal t l g)
+unfolding block_refusal block_tests first_failed
 refused-lengths t l g r e d = record { number = e.number ∙ same; value = e.value; count = e.count }
   where
-    same : blockRefusal false l g ≡ blockRefusal t l g
+    same : block_refusal false l g ≡ block_refusal t l g
     same =
-        tested (eqb (length l) blockSize)
+        tested (eqb (length l) block_size)
         (λ a. tested (eqb (length g) 63) (λ b. absurd (refused-case r d (e.number ∙ simp (a, b))))
         (λ b. simp (a, b)))
         (λ a. simp a)
 
 -- where no test fails
-module _ (t : Bool) (l g : List ℕ) (z : blockRefusal t l g ≡ 0) where
-  pub passed-state : length l ≡ blockSize
-  passed-state = at (ℕ_discrete (length l) blockSize)
+module _ (t : Bool) (l g : List ℕ) (z : block_refusal t l g ≡ 0) where
+  pub passed-state : length l ≡ block_size
+  passed-state = at (ℕ_discrete (length l) block_size)
     where
-      at : Dec (length l ≡ blockSize) → length l ≡ blockSize
+      at : Dec (length l ≡ block_size) → length l ≡ block_size
       at (yes e) = e
       at (no n) = absurd (omega (arith, refused-state t l g n, z))
 
@@ -93,58 +93,58 @@ module _ (t : Bool) (l g : List ℕ) (z : blockRefusal t l g ≡ 0) where
       at (yes e) = e
       at (no n) = absurd (omega (arith, refused-log t l g passed-state n, z))
 
-  pub passed-rules : t ≡ true → boardSound (boardOf l) ≡ true
+  pub passed-rules : t ≡ true → board_sound (board_of l) ≡ true
   passed-rules e =
-      tested (boardSound (boardOf l)) (λ y. y)
+      tested (board_sound (board_of l)) (λ y. y)
       (λ n. absurd (omega (arith, refused-rules t l g passed-state passed-log e n, z)))
 
 -- ---- of the numbers
 
 module _ (t : Tests) (b : Board) where
-  pub refused-name : t.names b ≡ false → nameRefusalBy t b ≡ 4
-  unfolding nameRefusalBy nameTests firstFailed
+  pub refused-name : t.names b ≡ false → name_refusal_by t b ≡ 4
+  unfolding name_refusal_by name_tests first_failed
   refused-name n = simp n
 
   -- an accepted call named what is there
-  pub accepted-present : nameRefusalBy t b ≡ 0 → t.names b ≡ true
+  pub accepted-present : name_refusal_by t b ≡ 0 → t.names b ≡ true
   accepted-present e = tested (t.names b) (λ y. y) (λ n. absurd (omega (arith, refused-name n, e)))
 
   module _ (n : t.names b ≡ true) where
-    pub refused-address : t.address ≡ false → nameRefusalBy t b ≡ 5
-    unfolding nameRefusalBy nameTests firstFailed
+    pub refused-address : t.address ≡ false → name_refusal_by t b ≡ 5
+    unfolding name_refusal_by name_tests first_failed
     refused-address a = simp (n, a)
 
     module _ (a : t.address ≡ true) where
-      pub refused-select : t.select ≡ false → nameRefusalBy t b ≡ 6
-      unfolding nameRefusalBy nameTests firstFailed
+      pub refused-select : t.select ≡ false → name_refusal_by t b ≡ 6
+      unfolding name_refusal_by name_tests first_failed
       refused-select s = simp (n, a, s)
 
-      pub numbers-name : t.select ≡ true → nameRefusalBy t b ≡ 0
-      unfolding nameRefusalBy nameTests firstFailed
+      pub numbers-name : t.select ≡ true → name_refusal_by t b ≡ 0
+      unfolding name_refusal_by name_tests first_failed
       numbers-name s = simp (n, a, s)
 
 -- ---- of both
 
 module _ (t : Tests) (l g : List ℕ) where
-  refusal-append : refusalBy t l g
-      ≡ cond (eqb (blockRefusal t.rules l g) 0) (nameRefusalBy t (boardOf l))
-      (blockRefusal t.rules l g)
-  unfolding refusalBy blockRefusal nameRefusalBy blockTests numbered
-  refusal-append = first-append (blockTests t.rules l g) (nameTests t (boardOf l)) refl
+  refusal-append : refusal_by t l g
+      ≡ cond (eqb (block_refusal t.rules l g) 0) (name_refusal_by t (board_of l))
+      (block_refusal t.rules l g)
+  unfolding refusal_by block_refusal name_refusal_by block_tests numbered
+  refusal-append = first-append (block_tests t.rules l g) (name_tests t (board_of l)) refl
 
-  pub refused-blocks : (k : ℕ) → k ≡ blockRefusal t.rules l g → k ≢ 0 → refusalBy t l g ≡ k
+  pub refused-blocks : (k : ℕ) → k ≡ block_refusal t.rules l g → k ≢ 0 → refusal_by t l g ≡ k
   refused-blocks k e h =
-      refusal-append ∙ simp (ne_eqb (blockRefusal t.rules l g) 0 (λ z. h (e ∙ z))) (sym e)
+      refusal-append ∙ simp (ne_eqb (block_refusal t.rules l g) 0 (λ z. h (e ∙ z))) (sym e)
 
-  pub refused-numbers : blockRefusal t.rules l g ≡ 0 → refusalBy t l g ≡ nameRefusalBy t (boardOf l)
-  refused-numbers z = refusal-append ∙ simp (eq-eqb (blockRefusal t.rules l g) 0 z)
+  pub refused-numbers : block_refusal t.rules l g ≡ 0 → refusal_by t l g ≡ name_refusal_by t (board_of l)
+  refused-numbers z = refusal-append ∙ simp (eq-eqb (block_refusal t.rules l g) 0 z)
 
   -- an accepted call passed every test
-  pub refused_none : refusalBy t l g ≡ 0
-      → (blockRefusal t.rules l g ≡ 0) × (nameRefusalBy t (boardOf l) ≡ 0)
-  refused_none e = at (ℕ_discrete (blockRefusal t.rules l g) 0)
+  pub refused_none : refusal_by t l g ≡ 0
+      → (block_refusal t.rules l g ≡ 0) × (name_refusal_by t (board_of l) ≡ 0)
+  refused_none e = at (ℕ_discrete (block_refusal t.rules l g) 0)
     where
-      at : Dec (blockRefusal t.rules l g ≡ 0)
-          → (blockRefusal t.rules l g ≡ 0) × (nameRefusalBy t (boardOf l) ≡ 0)
+      at : Dec (block_refusal t.rules l g ≡ 0)
+          → (block_refusal t.rules l g ≡ 0) × (name_refusal_by t (board_of l) ≡ 0)
       at (yes z) = (z, sym (refused-numbers z) ∙ e)
       at (no n) = absurd (n (sym (refused-blocks _ refl n) ∙ e))

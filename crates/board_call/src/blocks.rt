@@ -2,14 +2,14 @@
 // no test fails.
 ghost use Rattle.std.specs.Prelude.{true, false};
 ghost use Rattle.board_call.specs.Answer.{Refuses};
-ghost use Rattle.board_call.specs.Refusal.{blockRefusal};
+ghost use Rattle.board_call.specs.Refusal.{block_refusal};
 
 use super::Answer;
 use sizes::{BLOCK_SIZE, LOG_SIZE};
 
 // Refusal 1 or 2.
 pub fn lengths(state: &[u32], log: &[u32]) -> Answer
-    ensures { Refuses result (blockRefusal false state.now log.now) }
+    ensures { Refuses result (block_refusal false state.now log.now) }
 {
     if state.len() != BLOCK_SIZE {
         return Answer::StateLength;
@@ -22,7 +22,7 @@ pub fn lengths(state: &[u32], log: &[u32]) -> Answer
 
 // Refusal 1, 2 or 3.
 pub fn check(state: &[u32], log: &[u32]) -> Answer
-    ensures { Refuses result (blockRefusal true state.now log.now) }
+    ensures { Refuses result (block_refusal true state.now log.now) }
 {
     let answer = lengths(state, log);
     let Answer::Done(_, _) = answer else {

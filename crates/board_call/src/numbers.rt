@@ -1,6 +1,6 @@
 // Which numbers name something.
 ghost use Rattle.std.specs.Prelude.{◌≡◌};
-ghost use Rattle.board_call.specs.Numbers.{isWire, isFile, isGuestFile, is_move, isPageAddress};
+ghost use Rattle.board_call.specs.Numbers.{is_wire, is_file, is_guest_file, is_move, is_page_address};
 ghost use Rattle.board_call.specs.Change.{kind_of};
 
 use board_move_steps::ACCESSES;
@@ -8,20 +8,20 @@ use file::Access;
 use sizes::{FIRST_GUEST, HART_COUNT, HART_FILES, SOURCE_COUNT};
 
 pub fn is_wire(wire: u64, level: u64) -> bool
-    ensures { result ≡ isWire wire level }
+    ensures { result ≡ is_wire wire level }
 {
     (1 <= wire) & (wire <= SOURCE_COUNT as u64) & (level <= 1)
 }
 
 pub fn is_file(hart: u64, file: u64) -> bool
-    ensures { result ≡ isFile hart file }
+    ensures { result ≡ is_file hart file }
 {
     (hart < HART_COUNT as u64) & (file < HART_FILES as u64)
 }
 
 // Files 2 to 4 are the guests'.
 fn is_guest_file(hart: u64, file: u64) -> bool
-    ensures { result ≡ isGuestFile hart file }
+    ensures { result ≡ is_guest_file hart file }
 {
     (hart < HART_COUNT as u64) & (FIRST_GUEST as u64 <= file) & (file < HART_FILES as u64)
 }
@@ -39,7 +39,7 @@ pub fn is_move(oldhart: u64, oldfile: u64, newhart: u64, newfile: u64, access: u
 
 // A file's page has 4,096 bytes.
 pub fn is_page_address(address: u64) -> bool
-    ensures { result ≡ isPageAddress address }
+    ensures { result ≡ is_page_address address }
 {
     (address % 4 == 0) & (address < 4096)
 }

@@ -12,21 +12,21 @@ use lib.ListN.{length}
 use Rattle.domain_sending.specs.Sending.{logged}
 use Rattle.domain_sending.proofs.SendingLaws.{logged_none}
 use Rattle.wired.specs.Controller.{Out}
-use Rattle.board_block.specs.Block.{Board, boardOf, boardSound}
+use Rattle.board_block.specs.Block.{Board, board_of, board_sound}
 use Rattle.board_call.specs.declared.Answer.{Answer}
 use Rattle.board_call.specs.declared.Answer.TheVariants.{Done, NoSuch, BadAddress, IllegalSelect}
 use Rattle.board_call.specs.declared.Call.{Call}
 use Rattle.board_call.specs.Answer.{Refuses}
-use Rattle.board_call.specs.Calls.{Tests, testsRules, present, addressed, selected, row_of}
-use Rattle.board_call.specs.Refusal.{blockRefusal, nameRefusal}
+use Rattle.board_call.specs.Calls.{Tests, tests_rules, present, addressed, selected, row_of}
+use Rattle.board_call.specs.Refusal.{block_refusal, name_refusal}
 use Rattle.board_call.specs.Outcome.{Stepped, step, outcome, Gives, Does}
 use Rattle.board_call.proofs.AnswerLaws.{NotDone}
 use Rattle.board_call.proofs.RefusalLaws.{passed-state, passed-rules, numbers-name}
 use Rattle.board_call_laws.proofs.OutcomeEffects.{gives-blocks, gives-name, gives-address}
 use Rattle.board_call_laws.proofs.OutcomeEffects.{gives_select}
 use Rattle.board_call_laws.proofs.OutcomeEffects.{gives-done}
-use Rattle.board_call_laws.proofs.StepEffects.{wiredStep}
-use Rattle.sizes.specs.Sizes.{blockSize}
+use Rattle.board_call_laws.proofs.StepEffects.{wired_step}
+use Rattle.sizes.specs.Sizes.{block_size}
 
 pub record Tested (c : Call) (n : Board → Bool) (a s : Bool) : Type 0 where
   pub row : (row_of c).tests ≡ record { rules = true; names = n; address = a; select = s }
@@ -35,11 +35,11 @@ abbrev pub quiet : Board → ℕ → List ℕ → Stepped
 quiet b v s = record { board = b; value = v; messages = []; saved = s }
 
 -- where no test of the blocks fails
-module _ (l g : List ℕ) (z : blockRefusal true l g ≡ 0) where
-  pub checked-long : length l ≡ blockSize
+module _ (l g : List ℕ) (z : block_refusal true l g ≡ 0) where
+  pub checked-long : length l ≡ block_size
   checked-long = passed-state true l g z
 
-  pub checked-sound : boardSound (boardOf l) ≡ true
+  pub checked-sound : board_sound (board_of l) ≡ true
   checked-sound = passed-rules true l g z refl
 
 module _ {c : Call} {n : Board → Bool} {a s : Bool} (t : Tested c n a s) (l g : List ℕ) where
@@ -52,36 +52,36 @@ module _ {c : Call} {n : Board → Bool} {a s : Bool} (t : Tested c n a s) (l g 
   at-select : selected c ≡ s
   at-select = ap (λ (x : Tests). x.select) t.row
 
-  by-rules : blockRefusal (testsRules c) l g ≡ blockRefusal true l g
-  by-rules = ap (λ (x : Tests). blockRefusal x.rules l g) t.row
+  by-rules : block_refusal (tests_rules c) l g ≡ block_refusal true l g
+  by-rules = ap (λ (x : Tests). block_refusal x.rules l g) t.row
 
   -- r is what the test of the blocks answered
-  pub tests-blocks : (r : Answer) → Refuses r (blockRefusal true l g) → NotDone r → Does c l g r l g
+  pub tests-blocks : (r : Answer) → Refuses r (block_refusal true l g) → NotDone r → Does c l g r l g
   tests-blocks r e = gives-blocks c l g r (subst (Refuses r) (sym by-rules) e)
 
-  module _ (z : blockRefusal true l g ≡ 0) where
-    passed : blockRefusal (testsRules c) l g ≡ 0
+  module _ (z : block_refusal true l g ≡ 0) where
+    passed : block_refusal (tests_rules c) l g ≡ 0
     passed = by-rules ∙ z
 
-    pub tests-name : n (boardOf l) ≡ false → Does c l g NoSuch l g
-    tests-name x = gives-name c l g passed (named (boardOf l) ∙ x)
+    pub tests-name : n (board_of l) ≡ false → Does c l g NoSuch l g
+    tests-name x = gives-name c l g passed (named (board_of l) ∙ x)
 
-    module _ (x : n (boardOf l) ≡ true) where
+    module _ (x : n (board_of l) ≡ true) where
       pub tests-address : a ≡ false → Does c l g BadAddress l g
-      tests-address y = gives-address c l g passed (named (boardOf l) ∙ x) (at_address ∙ y)
+      tests-address y = gives-address c l g passed (named (board_of l) ∙ x) (at_address ∙ y)
 
       pub tests-select : a ≡ true → s ≡ false → Does c l g IllegalSelect l g
       tests-select y w =
-          gives_select c l g passed (named (boardOf l) ∙ x) (at_address ∙ y) (at-select ∙ w)
+          gives_select c l g passed (named (board_of l) ∙ x) (at_address ∙ y) (at-select ∙ w)
 
-      tests-numbers : a ≡ true → s ≡ true → nameRefusal c (boardOf l) ≡ 0
-      tests-numbers y w = numbers-name (row_of c).tests (boardOf l) (named (boardOf l) ∙ x) (at_address ∙ y)
+      tests-numbers : a ≡ true → s ≡ true → name_refusal c (board_of l) ≡ 0
+      tests-numbers y w = numbers-name (row_of c).tests (board_of l) (named (board_of l) ∙ x) (at_address ∙ y)
           (at-select ∙ w)
 
       -- the call does what x says of the saved numbers u, and its code answered v and m and left the blocks
       -- l' and g' and the saved numbers u'
-      pub tests_left : a ≡ true → s ≡ true → (u : List ℕ) (o : Stepped) → step c (boardOf l) u ≡ o
-          → (v m : ℕ) (l' g' u' : List ℕ) → length l' ≡ blockSize → v ≡ o.value → boardOf l' ≡ o.board
+      pub tests_left : a ≡ true → s ≡ true → (u : List ℕ) (o : Stepped) → step c (board_of l) u ≡ o
+          → (v m : ℕ) (l' g' u' : List ℕ) → length l' ≡ block_size → v ≡ o.value → board_of l' ≡ o.board
           → g' ≡ logged g o.messages → m ≡ length o.messages → u' ≡ o.saved
           → Gives (outcome c l g u) (Done v m) l' g' u'
       tests_left y w u o q v m l' g' u' long value board log count kept =
@@ -89,17 +89,17 @@ module _ {c : Call} {n : Board → Bool} {a s : Bool} (t : Tested c n a s) (l g 
 
       -- the call does o to the wired controller
       pub tests-sent : a ≡ true → s ≡ true → (o : Out)
-          → ((u : List ℕ) → step c (boardOf l) u ≡ wiredStep (boardOf l) o 0 u) → (m : ℕ)
-          → (l' g' : List ℕ) → length l' ≡ blockSize
-          → boardOf l' ≡ (wiredStep (boardOf l) o 0 []).board → g' ≡ logged g o.messages
+          → ((u : List ℕ) → step c (board_of l) u ≡ wired_step (board_of l) o 0 u) → (m : ℕ)
+          → (l' g' : List ℕ) → length l' ≡ block_size
+          → board_of l' ≡ (wired_step (board_of l) o 0 []).board → g' ≡ logged g o.messages
           → m ≡ length o.messages → Does c l g (Done 0 m) l' g'
       tests-sent y w o q m l' g' long board log count u =
           tests_left y w u _ (q u) 0 m l' g' u long refl board log count refl
 
       -- the call does what quiet says, and its code answered v and left the block l'
       pub tests-done : a ≡ true → s ≡ true → (b : Board) (v' : ℕ)
-          → ((u : List ℕ) → step c (boardOf l) u ≡ quiet b v' u)
-          → (v : ℕ) → v ≡ v' → (l' : List ℕ) → length l' ≡ blockSize → boardOf l' ≡ b
+          → ((u : List ℕ) → step c (board_of l) u ≡ quiet b v' u)
+          → (v : ℕ) → v ≡ v' → (l' : List ℕ) → length l' ≡ block_size → board_of l' ≡ b
           → Does c l g (Done v 0) l' g
       tests-done y w b v' q v p l' long board u =
           tests_left y w u _ (q u) v 0 l' g u long p board (sym (logged_none g)) refl refl

@@ -7,7 +7,7 @@ use lib.ListN.{get_or}
 use Rattle.board_call.specs.declared.Answer.{Answer}
 use Rattle.board_call.specs.declared.Answer.TheVariants.{Done, StateLength, LogLength, BrokenRule, NoSuch}
 use Rattle.board_call.specs.declared.Answer.TheVariants.{BadAddress, IllegalSelect}
-use Rattle.board_call.specs.Answer.{refusalNumber, answerValue, answerCount}
+use Rattle.board_call.specs.Answer.{refusal_number, answer_value, answer_count}
 use Rattle.board_call.specs.declared.Call.{Call}
 use Rattle.board_call.specs.Outcome.{Outcome, outcome, Gives}
 
@@ -17,7 +17,7 @@ told k v n =
     let cases = Done v n ∷ StateLength ∷ LogLength ∷ BrokenRule ∷ NoSuch ∷ BadAddress ∷ IllegalSelect ∷ [] in
     get_or cases k (Done v n)
 
-told_back : (r : Answer) → told (refusalNumber r) (answerValue r) (answerCount r) ≡ r
+told_back : (r : Answer) → told (refusal_number r) (answer_value r) (answer_count r) ≡ r
 unfolding told
 told_back (Done v n) = refl
 told_back StateLength = refl
@@ -28,8 +28,8 @@ told_back BadAddress = refl
 told_back IllegalSelect = refl
 
 -- an answer is settled by its refusal, value and count
-pub answer-one : (r s : Answer) → refusalNumber r ≡ refusalNumber s → answerValue r ≡ answerValue s
-    → answerCount r ≡ answerCount s
+pub answer-one : (r s : Answer) → refusal_number r ≡ refusal_number s → answer_value r ≡ answer_value s
+    → answer_count r ≡ answer_count s
     → r ≡ s
 answer-one r s a v n = sym (told_back r) ∙ (λ k. told (a k) (v k) (n k)) ∙ told_back s
 

@@ -5,10 +5,10 @@
 use Rattle.std.specs.Prelude.{ℕ, ◌≡◌, List, length}
 use Rattle.domain_sending.specs.Sending.{logged}
 use Rattle.wired.specs.Controller.{Out}
-use Rattle.board_block.specs.Block.{withWired, boardOf}
+use Rattle.board_block.specs.Block.{with_wired, board_of}
 use Rattle.board_call.specs.Outcome.{delivered}
 
 abbrev pub Left : Out → List ℕ → List ℕ → List ℕ → List ℕ → ℕ → Type 0
 Left o l l' g g' n =
-    (boardOf l' ≡ delivered (withWired (boardOf l) o.wired) o.messages)
+    (board_of l' ≡ delivered (with_wired (board_of l) o.wired) o.messages)
     × (g' ≡ logged g o.messages) × (n ≡ length o.messages)

@@ -1,10 +1,10 @@
 // One file of the block, by hart and file.
 ghost use Rattle.std.specs.Prelude.{◌≡◌, true, ◌&&◌, ltb, length};
-ghost use Rattle.sizes.specs.Sizes.{blockSize};
-ghost use Rattle.file.specs.Reply.{replyValue};
-ghost use Rattle.files.specs.Files.{fileNumber, theFile, withFile};
-ghost use Rattle.board_block.specs.Block.{withFiles, boardOf};
-ghost use Rattle.board_call.specs.Numbers.{isFile};
+ghost use Rattle.sizes.specs.Sizes.{block_size};
+ghost use Rattle.file.specs.Reply.{reply_value};
+ghost use Rattle.files.specs.Files.{file_number, the_file, with_file};
+ghost use Rattle.board_block.specs.Block.{with_files, board_of};
+ghost use Rattle.board_call.specs.Numbers.{is_file};
 
 use board_call::is_file;
 use file::{File, Reply};
@@ -12,14 +12,14 @@ use sizes::{FILES_SIZE, HART_FILES};
 
 // There is such a file, and such a kind of access.
 pub fn is_access(hart: u64, file: u64, kind: u64) -> bool
-    ensures { result ≡ (isFile hart file && ltb kind 4) }
+    ensures { result ≡ (is_file hart file && ltb kind 4) }
 {
     is_file(hart, file) & (kind < 4)
 }
 
 pub fn load_file(state: &[u32], hart: u64, file: u64) -> File
-    requires { (length state.now ≡ blockSize) × (isFile hart file ≡ true) }
-    ensures { result ≡ theFile (boardOf state.now).files (fileNumber hart file) }
+    requires { (length state.now ≡ block_size) × (is_file hart file ≡ true) }
+    ensures { result ≡ the_file (board_of state.now).files (file_number hart file) }
 {
     files::load(
         &state[0..FILES_SIZE],
@@ -28,10 +28,10 @@ pub fn load_file(state: &[u32], hart: u64, file: u64) -> File
 }
 
 pub fn store_file(state: &mut [u32], hart: u64, file: u64, f: File)
-    requires { (length state.old ≡ blockSize) × (isFile hart file ≡ true) }
-    ensures { boardOf state.new
-        ≡ withFiles (boardOf state.old)
-        (withFile (boardOf state.old).files (fileNumber hart file) f) }
+    requires { (length state.old ≡ block_size) × (is_file hart file ≡ true) }
+    ensures { board_of state.new
+        ≡ with_files (board_of state.old)
+        (with_file (board_of state.old).files (file_number hart file) f) }
 {
     files::store(
         &mut state[0..FILES_SIZE],
@@ -42,7 +42,7 @@ pub fn store_file(state: &mut [u32], hart: u64, file: u64, f: File)
 
 // The value that a register access answers, 0 for an illegal one.
 pub fn value_of(answer: Reply) -> u64
-    ensures { result ≡ replyValue answer }
+    ensures { result ≡ reply_value answer }
 {
     match answer {
         Reply::Value(v) => v,

@@ -1,16 +1,16 @@
 // The signals of a hart's files: bit f for file f.
 ghost use Rattle.std.specs.Prelude.{◌≡◌, ◌<◌, length};
-ghost use Rattle.sizes.specs.Sizes.{hartCount, hartFiles, blockSize};
-ghost use Rattle.board_block.specs.Block.{boardOf};
-ghost use Rattle.board_call.specs.Change.{signalAt, signalsTo};
+ghost use Rattle.sizes.specs.Sizes.{hart_count, hart_files, block_size};
+ghost use Rattle.board_block.specs.Block.{board_of};
+ghost use Rattle.board_call.specs.Change.{signal_at, signals_to};
 
 use file_select::FROM_WIRED;
 use sizes::{FILES_SIZE, FIRST_GUEST, HART_FILES, WIRED_END, WIRED_PLACE};
 
 // A file with delivery 1 signals by itself; file 0 or 1 may take its domain's signal.
 fn signal_at(state: &[u32], hart: usize, file: usize) -> bool
-    requires { (length state.now ≡ blockSize) × (hart < hartCount) × (file < hartFiles) }
-    ensures { result ≡ signalAt (boardOf state.now) hart file }
+    requires { (length state.now ≡ block_size) × (hart < hart_count) × (file < hart_files) }
+    ensures { result ≡ signal_at (board_of state.now) hart file }
 {
     let f = files::load(&state[0..FILES_SIZE], HART_FILES * hart + file);
     if f.signals() {
@@ -28,8 +28,8 @@ fn signal_at(state: &[u32], hart: usize, file: usize) -> bool
 const END: u32 = HART_FILES as u32;
 
 pub fn all_signals(state: &[u32], hart: usize) -> u32
-    requires { (length state.now ≡ blockSize) × (hart < hartCount) }
-    ensures { result ≡ signalsTo (boardOf state.now) hart hartFiles }
+    requires { (length state.now ≡ block_size) × (hart < hart_count) }
+    ensures { result ≡ signals_to (board_of state.now) hart hart_files }
 {
     let mut word: u32 = 0;
     let mut f: u32 = 0;

@@ -1,9 +1,9 @@
 // What one access does, case by case.
 ghost use Rattle.std.specs.Prelude.{◌≡◌, true, length};
-ghost use Rattle.sizes.specs.Sizes.{blockSize};
-ghost use Rattle.board_move_steps.specs.Steps.{actWithin};
-ghost use Rattle.board_block.specs.Block.{boardOf, boardSound};
-ghost use Rattle.board_call.specs.Numbers.{isGuestFile};
+ghost use Rattle.sizes.specs.Sizes.{block_size};
+ghost use Rattle.board_move_steps.specs.Steps.{act_within};
+ghost use Rattle.board_block.specs.Block.{board_of, board_sound};
+ghost use Rattle.board_call.specs.Numbers.{is_guest_file};
 ghost use Rattle.board_call.specs.Move.{acted};
 
 use super::registers::{put, save};
@@ -21,13 +21,13 @@ pub fn perform(
     newfile: u64,
     act: Act,
 )
-    requires { (length state.old ≡ blockSize) × (boardSound (boardOf state.old) ≡ true)
-        × (isGuestFile oldhart oldfile ≡ true) × (isGuestFile newhart newfile ≡ true)
-        × (actWithin act ≡ true) }
-    ensures { (boardOf state.new ≡ (acted act oldhart oldfile newhart newfile
-        (boardOf state.old) saved.old).board)
+    requires { (length state.old ≡ block_size) × (board_sound (board_of state.old) ≡ true)
+        × (is_guest_file oldhart oldfile ≡ true) × (is_guest_file newhart newfile ≡ true)
+        × (act_within act ≡ true) }
+    ensures { (board_of state.new ≡ (acted act oldhart oldfile newhart newfile
+        (board_of state.old) saved.old).board)
         × (saved.new ≡ (acted act oldhart oldfile newhart newfile
-        (boardOf state.old) saved.old).saved) }
+        (board_of state.old) saved.old).saved) }
 {
     match act {
         Act::Save(select, place) => save(state, saved, oldhart, oldfile, select, place),

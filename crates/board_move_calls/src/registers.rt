@@ -1,11 +1,11 @@
 // The registers of a guest's file in the block, and the saved numbers that a move keeps of them.
 ghost use Rattle.std.specs.Prelude.{◌≡◌, true, ◌<◌, length, set};
-ghost use Rattle.sizes.specs.Sizes.{blockSize, savedSize};
+ghost use Rattle.sizes.specs.Sizes.{block_size, saved_size};
 ghost use Rattle.file.specs.declared.register.Access.TheVariants as access;
-ghost use Rattle.file.specs.Reply.{replyValue};
-ghost use Rattle.board_block.specs.Block.{boardOf};
-ghost use Rattle.board_call.specs.Numbers.{isGuestFile};
-ghost use Rattle.board_call.specs.Move.{registerOn, withOne};
+ghost use Rattle.file.specs.Reply.{reply_value};
+ghost use Rattle.board_block.specs.Block.{board_of};
+ghost use Rattle.board_call.specs.Numbers.{is_guest_file};
+ghost use Rattle.board_call.specs.Move.{register_on, with_one};
 
 use board_file_calls::{load_file, store_file, value_of};
 use file::{Access, Accessed};
@@ -13,8 +13,8 @@ use sizes::SAVED_SIZE;
 
 // Not yet stored.
 fn accessed(state: &[u32], hart: u64, file: u64, kind: Access, select: u64, value: u64) -> Accessed
-    requires { (length state.now ≡ blockSize) × (isGuestFile hart file ≡ true) }
-    ensures { result ≡ registerOn (boardOf state.now) hart file kind select value }
+    requires { (length state.now ≡ block_size) × (is_guest_file hart file ≡ true) }
+    ensures { result ≡ register_on (board_of state.now) hart file kind select value }
 {
     let f = load_file(state, hart, file);
     f.access(true, kind, select, value)
@@ -29,9 +29,9 @@ pub fn save(
     select: u64,
     place: usize,
 )
-    requires { (length state.now ≡ blockSize) × (isGuestFile hart file ≡ true) × (place < savedSize) }
+    requires { (length state.now ≡ block_size) × (is_guest_file hart file ≡ true) × (place < saved_size) }
     ensures { saved.new ≡ set saved.old place
-        (replyValue (registerOn (boardOf state.now) hart file access.Read select 0).answer) }
+        (reply_value (register_on (board_of state.now) hart file access.Read select 0).answer) }
 {
     let done = accessed(state, hart, file, Access::Read, select, 0);
     let answer = done.answer;
@@ -40,9 +40,9 @@ pub fn save(
 
 // A register is written, or bits of it are set or cleared.
 pub fn put(state: &mut [u32], hart: u64, file: u64, kind: Access, select: u64, value: u64)
-    requires { (length state.old ≡ blockSize) × (isGuestFile hart file ≡ true) }
-    ensures { boardOf state.new ≡ withOne (boardOf state.old) hart file
-        (registerOn (boardOf state.old) hart file kind select value).file }
+    requires { (length state.old ≡ block_size) × (is_guest_file hart file ≡ true) }
+    ensures { board_of state.new ≡ with_one (board_of state.old) hart file
+        (register_on (board_of state.old) hart file kind select value).file }
 {
     let done = accessed(state, hart, file, kind, select, value);
     store_file(state, hart, file, done.file);

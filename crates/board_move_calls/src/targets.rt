@@ -1,20 +1,20 @@
 // The child domain of the block: its delivery mode, and a target that names the old file.
 ghost use Rattle.std.specs.Prelude.{◌≡◌, true, ◌≤◌, ◌<◌, length};
-ghost use Rattle.sizes.specs.Sizes.{sourceCount, wiredSize, blockSize};
-ghost use Rattle.domain_values.specs.Values.{domaincfgMark};
-ghost use Rattle.domain.specs.Domain.{domaincfgOf, byMessages};
-ghost use Rattle.wired_state.specs.Wires.{wiredOf, domainIn};
-ghost use Rattle.board_block.specs.Block.{withWired, boardOf, boardSound};
-ghost use Rattle.board_call.specs.Numbers.{isGuestFile};
-ghost use Rattle.board_call.specs.Move.{retargetedIn};
+ghost use Rattle.sizes.specs.Sizes.{source_count, wired_size, block_size};
+ghost use Rattle.domain_values.specs.Values.{domaincfg_mark};
+ghost use Rattle.domain.specs.Domain.{domaincfg_of, by_messages};
+ghost use Rattle.wired_state.specs.Wires.{wired_of, domain_in};
+ghost use Rattle.board_block.specs.Block.{with_wired, board_of, board_sound};
+ghost use Rattle.board_call.specs.Numbers.{is_guest_file};
+ghost use Rattle.board_call.specs.Move.{retargeted_in};
 
 use board_move_steps::{names_file, renamed};
 use domain_region::Word;
 use sizes::{CHILD_PLACE, WIRED_END, WIRED_PLACE, WIRED_SIZE};
 
 pub fn by_messages(state: &[u32]) -> bool
-    requires { length state.now ≡ blockSize }
-    ensures { result ≡ byMessages (boardOf state.now).wired.child }
+    requires { length state.now ≡ block_size }
+    ensures { result ≡ by_messages (board_of state.now).wired.child }
 {
     let w = &state[WIRED_PLACE..WIRED_END];
     domain::by_messages(&w[CHILD_PLACE..WIRED_SIZE])
@@ -22,11 +22,11 @@ pub fn by_messages(state: &[u32]) -> bool
 
 // In the words of the wired controller. The target is read, and written anew if it names the old file.
 fn rewrite(w: &mut [u32], oldhart: u64, oldfile: u64, newhart: u64, newfile: u64, source: u64)
-    requires { (length w.old ≡ wiredSize)
-        × (domaincfgOf (domainIn (wiredOf w.old) true) < domaincfgMark)
-        × (isGuestFile newhart newfile ≡ true) × (1 ≤ source) × (source ≤ sourceCount) }
-    ensures { wiredOf w.new
-        ≡ retargetedIn oldhart oldfile newhart newfile (wiredOf w.old) source }
+    requires { (length w.old ≡ wired_size)
+        × (domaincfg_of (domain_in (wired_of w.old) true) < domaincfg_mark)
+        × (is_guest_file newhart newfile ≡ true) × (1 ≤ source) × (source ≤ source_count) }
+    ensures { wired_of w.new
+        ≡ retargeted_in oldhart oldfile newhart newfile (wired_of w.old) source }
 {
     let target = wired_registers::read(w, true, Word::Target(source));
     if names_file(target, oldhart, oldfile) {
@@ -47,11 +47,11 @@ pub fn retarget(
     newfile: u64,
     source: u64,
 )
-    requires { (length state.old ≡ blockSize) × (boardSound (boardOf state.old) ≡ true)
-        × (isGuestFile newhart newfile ≡ true) × (1 ≤ source) × (source ≤ sourceCount) }
-    ensures { boardOf state.new
-        ≡ withWired (boardOf state.old)
-        (retargetedIn oldhart oldfile newhart newfile (boardOf state.old).wired source) }
+    requires { (length state.old ≡ block_size) × (board_sound (board_of state.old) ≡ true)
+        × (is_guest_file newhart newfile ≡ true) × (1 ≤ source) × (source ≤ source_count) }
+    ensures { board_of state.new
+        ≡ with_wired (board_of state.old)
+        (retargeted_in oldhart oldfile newhart newfile (board_of state.old).wired source) }
 {
     rewrite(
         &mut state[WIRED_PLACE..WIRED_END],

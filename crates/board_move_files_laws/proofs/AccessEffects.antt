@@ -7,19 +7,19 @@ use mathlib.Core.List.{List}
 use mathlib.Core.Logic.{◌≢◌}
 use native.Mathlib.Omega.{arith}
 use lib.ListN.{get_or, set}
-use Rattle.words.specs.Bits.{hasBit}
+use Rattle.words.specs.Bits.{has_bit}
 use Rattle.words.specs.Sets.{member}
 use Rattle.file_select.specs.Select.{eip0, eie0}
 use Rattle.file.specs.declared.File.{File}
 use Rattle.file.specs.declared.register.Access.TheVariants.{Read, Write, Set}
-use Rattle.file.specs.Reply.{replyValue}
+use Rattle.file.specs.Reply.{reply_value}
 use Rattle.file.specs.Shape.{Shaped}
-use Rattle.file.specs.Parts.{withDelivery, withThreshold}
+use Rattle.file.specs.Parts.{with_delivery, with_threshold}
 use Rattle.file_laws.proofs.Keeps.{Rules}
-use Rattle.board_move_steps.specs.Steps.{deliveryAt, thresholdAt, pendingAt, enableAt, actOf}
-use Rattle.board_move_files_laws.specs.Related.{Three, guestAccess, actedOn, Untouched, Shared}
+use Rattle.board_move_steps.specs.Steps.{delivery_at, threshold_at, pending_at, enable_at, act_of}
+use Rattle.board_move_files_laws.specs.Related.{Three, guest_access, acted_on, Untouched, Shared}
 use Rattle.board_move_files_laws.specs.Related.{Noted, Restored, Related}
-use Rattle.board_move_files_laws.proofs.ActedLaws.{withNew, acted-delivery, acted-threshold}
+use Rattle.board_move_files_laws.proofs.ActedLaws.{with_new, acted-delivery, acted-threshold}
 use Rattle.board_move_files_laws.proofs.ActedLaws.{acted-silence}
 use Rattle.board_move_files_laws.proofs.ActedLaws.{acted-hold, acted-clear, acted-target}
 use Rattle.board_move_files_laws.proofs.ActedLaws.{acted-pending}
@@ -68,7 +68,7 @@ module _ (n m : ℕ) (x : Three) (c : File) (sized : Sized n) (r : Related n m x
   -- an access that only changes the new file
   changes : (f : File) → 3 ≤ m → ((k : ℕ) → k < 8 → k + 72 ≢ suc m)
       → Shared n (suc m) x.old.pending f.pending c.pending → Restored n (suc m) f c
-      → Related n (suc m) (withNew x f) c
+      → Related n (suc m) (with_new x f) c
   changes f l idle shared restored =
       record {
         untouched = untouched-later (omega arith);
@@ -78,19 +78,19 @@ module _ (n m : ℕ) (x : Three) (c : File) (sized : Sized n) (r : Related n m x
       }
 
   abbrev After : Type 0
-  After = Related n (suc m) (actedOn n (actOf (suc m)) x) c
+  After = Related n (suc m) (acted_on n (act_of (suc m)) x) c
 
   pub delivery-saved : m ≡ 0 → After
   delivery-saved e =
       rw (acted-delivery n (suc m) x (ap suc e))
-      (saves (set x.numbers deliveryAt x.old.delivery) (omega arith) (omega arith) (omega arith)
+      (saves (set x.numbers delivery_at x.old.delivery) (omega arith) (omega arith) (omega arith)
       (noted-delivery n m x.numbers x.old.pending c sized r.noted x.old.delivery e
       (r.untouched.delivery (omega arith))))
 
   pub threshold-saved : m ≡ 1 → After
   threshold-saved e =
       rw (acted-threshold n (suc m) x (ap suc e))
-      (saves (set x.numbers thresholdAt x.old.threshold) (omega arith) (omega arith) (omega arith)
+      (saves (set x.numbers threshold_at x.old.threshold) (omega arith) (omega arith) (omega arith)
       (noted-threshold n m x.numbers x.old.pending c sized r.noted x.old.threshold e
       r.untouched.threshold))
 
@@ -112,14 +112,14 @@ module _ (n m : ℕ) (x : Three) (c : File) (sized : Sized n) (r : Related n m x
   pub new-held : m ≡ 3 → After
   new-held e =
       rw (acted-hold n (suc m) x (ap suc e))
-      (changes (withDelivery x.new 0) (omega arith) (omega arith)
+      (changes (with_delivery x.new 0) (omega arith) (omega arith)
       (shared-idle (omega arith))
-      (restored-early n (suc m) (withDelivery x.new 0) c (omega arith)))
+      (restored-early n (suc m) (with_delivery x.new 0) c (omega arith)))
 
   pub new-cleared : 4 ≤ m → m < 8 → Shaped x.new → After
   new-cleared l h sn =
       let k = suc m - 5 in
-      let f = (guestAccess n x.new Write (eip0 + 2 * k) 0).file in
+      let f = (guest_access n x.new Write (eip0 + 2 * k) 0).file in
       rw (acted-clear n (suc m) x (omega arith) (omega arith))
       (changes f (omega arith) (omega arith)
       (shared-clear n m x.old.pending c.pending x.new sized sn r.shared k (omega arith)
@@ -127,10 +127,10 @@ module _ (n m : ℕ) (x : Three) (c : File) (sized : Sized n) (r : Related n m x
       (restored-early n (suc m) f c (omega arith)))
 
   -- what held before an access of these holds still
-  pub new-still : 4 ≤ m → m < 8 → Shaped x.new → Related n m (actedOn n (actOf (suc m)) x) c
+  pub new-still : 4 ≤ m → m < 8 → Shaped x.new → Related n m (acted_on n (act_of (suc m)) x) c
   new-still l h sn =
       let k = suc m - 5 in
-      let f = (guestAccess n x.new Write (eip0 + 2 * k) 0).file in
+      let f = (guest_access n x.new Write (eip0 + 2 * k) 0).file in
       rw (acted-clear n (suc m) x (omega arith) (omega arith))
       (record {
         untouched = r.untouched;
@@ -151,9 +151,9 @@ module _ (n m : ℕ) (x : Three) (c : File) (sized : Sized n) (r : Related n m x
   pending-saved l h so =
       let k = suc m - 72 in
       let low : k < 4 = omega arith in
-      let v = replyValue (guestAccess n x.old Read (eip0 + 2 * k) 0).answer in
+      let v = reply_value (guest_access n x.old Read (eip0 + 2 * k) 0).answer in
       rw (acted-pending n (suc m) x (omega arith) (omega arith))
-      (saves (set x.numbers (pendingAt k) v) (omega arith) (omega arith) (omega arith)
+      (saves (set x.numbers (pending_at k) v) (omega arith) (omega arith) (omega arith)
       (noted-pending n m x.numbers x.old.pending c sized r.noted v k low (omega arith)
       (λ i w e. (held_word n true x.old k low so i (λ q. clear_in n x.old i w) e).0)))
 
@@ -161,9 +161,9 @@ module _ (n m : ℕ) (x : Three) (c : File) (sized : Sized n) (r : Related n m x
   enable-saved l h so =
       let k = suc m - 76 in
       let low : k < 4 = omega arith in
-      let v = replyValue (guestAccess n x.old Read (eie0 + 2 * k) 0).answer in
+      let v = reply_value (guest_access n x.old Read (eie0 + 2 * k) 0).answer in
       rw (acted-enable n (suc m) x (omega arith) (omega arith))
-      (saves (set x.numbers (enableAt k) v) (omega arith) (omega arith) (omega arith)
+      (saves (set x.numbers (enable_at k) v) (omega arith) (omega arith) (omega arith)
       (noted-enable n m x.numbers x.old.pending c sized r.noted v k low (omega arith)
       (λ i w e. (held_word n true x.old k low so i (λ q. clear_in n x.old i w) e).1
       ∙ ap (λ (ws : List ℕ). member ws i) r.untouched.enable)))
@@ -171,13 +171,13 @@ module _ (n m : ℕ) (x : Three) (c : File) (sized : Sized n) (r : Related n m x
   pub pending-set : 79 ≤ m → m < 83 → Shaped x.new → After
   pending-set l h sn =
       let k = suc m - 80 in
-      let v = get_or x.numbers (pendingAt k) 0 in
-      let f = (guestAccess n x.new Set (eip0 + 2 * k) v).file in
+      let v = get_or x.numbers (pending_at k) 0 in
+      let f = (guest_access n x.new Set (eip0 + 2 * k) v).file in
       rw (acted-set n (suc m) x (omega arith) (omega arith))
       (changes f (omega arith) (omega arith)
       (shared-set n m x.old.pending c.pending x.new sized sn r.shared k (omega arith)
       (omega arith) v
-      (λ i w e. ap (λ (a : ℕ). hasBit (get_or x.numbers (pendingAt a) 0) (i % 64)) (sym e)
+      (λ i w e. ap (λ (a : ℕ). has_bit (get_or x.numbers (pending_at a) 0) (i % 64)) (sym e)
       ∙ r.noted.pending i w (omega arith)))
       (restored-early n (suc m) f c (omega arith)))
 
@@ -185,31 +185,31 @@ module _ (n m : ℕ) (x : Three) (c : File) (sized : Sized n) (r : Related n m x
   enable-written l h sn =
       let k = suc m - 84 in
       let low : k < 4 = omega arith in
-      let v = get_or x.numbers (enableAt k) 0 in
-      let f = (guestAccess n x.new Write (eie0 + 2 * k) v).file in
+      let v = get_or x.numbers (enable_at k) 0 in
+      let f = (guest_access n x.new Write (eie0 + 2 * k) v).file in
       let same : f.pending ≡ x.new.pending = ap (λ (y : File). y.pending) (word-only n true x.new k low
       v).1 in
       rw (acted-write n (suc m) x (omega arith) (omega arith))
       (changes f (omega arith) (omega arith)
       (rw same (shared-idle (omega arith)))
       (restored-enable n m x.new c r.restored k low (omega arith) sized sn v
-      (λ i w e. ap (λ (a : ℕ). hasBit (get_or x.numbers (enableAt a) 0) (i % 64)) (sym e)
+      (λ i w e. ap (λ (a : ℕ). has_bit (get_or x.numbers (enable_at a) 0) (i % 64)) (sym e)
       ∙ r.noted.enable i w (omega arith))))
 
   pub threshold-written : m ≡ 87 → Rules n true c → After
   threshold-written e rc =
-      let v = get_or x.numbers thresholdAt 0 in
+      let v = get_or x.numbers threshold_at 0 in
       rw (acted-shut n (suc m) x (ap suc e))
-      (changes (withThreshold x.new (v % (n + 1))) (omega arith) (omega arith)
+      (changes (with_threshold x.new (v % (n + 1))) (omega arith) (omega arith)
       (shared-idle (omega arith))
       (restored-threshold n m x.new c r.restored v e sized (r.noted.threshold (omega arith))
       rc.below))
 
   pub delivery-written : m ≡ 88 → Rules n true c → After
   delivery-written e rc =
-      let v = get_or x.numbers deliveryAt 0 in
+      let v = get_or x.numbers delivery_at 0 in
       let same : v ≡ c.delivery = r.noted.delivery (omega arith) in
       rw (acted-open n (suc m) x (omega arith) (rw same rc.legal))
-      (changes (withDelivery x.new v) (omega arith) (omega arith)
+      (changes (with_delivery x.new v) (omega arith) (omega arith)
       (shared-idle (omega arith))
       (restored-delivery n m x.new c r.restored v e sized same))

@@ -9,11 +9,11 @@ use native.Mathlib.Decide.{ℕ_discrete}
 use native.Mathlib.Omega.{arith}
 use lib.ListN.{get_or, set, length-set}
 use lib.Seq.{get_or-set_same, get_or-set_other}
-use Rattle.words.specs.Bits.{hasBit}
+use Rattle.words.specs.Bits.{has_bit}
 use Rattle.words.specs.Sets.{member}
 use Rattle.file.specs.declared.File.{File}
-use Rattle.sizes.specs.Sizes.{savedSize}
-use Rattle.board_move_steps.specs.Steps.{deliveryAt, thresholdAt, pendingAt, enableAt}
+use Rattle.sizes.specs.Sizes.{saved_size}
+use Rattle.board_move_steps.specs.Steps.{delivery_at, threshold_at, pending_at, enable_at}
 use Rattle.board_move_files_laws.specs.Related.{Identity, Noted}
 use Rattle.board_move_files_laws.proofs.WrittenEffects.{Sized}
 
@@ -35,60 +35,60 @@ module _ (n m : ℕ) (s p : List ℕ) (c : File) (sized : Sized n) (r : Noted n 
     apart place j d = get_or-set_other s place j v 0 d
 
     -- a bit b of what is saved at place j
-    placed : (place j i : ℕ) (b : Bool) → place < savedSize → (j ≡ place → hasBit v i ≡ b)
-        → (j ≢ place → hasBit (get_or s j 0) i ≡ b) → hasBit (get_or (set s place v) j 0) i ≡ b
+    placed : (place j i : ℕ) (b : Bool) → place < saved_size → (j ≡ place → has_bit v i ≡ b)
+        → (j ≢ place → has_bit (get_or s j 0) i ≡ b) → has_bit (get_or (set s place v) j 0) i ≡ b
     placed place j i b fits same other = at (ℕ_discrete j place)
       where
-        at : Dec (j ≡ place) → hasBit (get_or (set s place v) j 0) i ≡ b
+        at : Dec (j ≡ place) → has_bit (get_or (set s place v) j 0) i ≡ b
         at (yes e) =
-            ap (λ (a : ℕ). hasBit (get_or (set s place v) a 0) i) e
-            ∙ ap (λ (a : ℕ). hasBit a i) (get_or-set_same s place v 0 (omega (arith, r.ten))) ∙ same e
-        at (no d) = ap (λ (a : ℕ). hasBit a i) (apart place j d) ∙ other d
+            ap (λ (a : ℕ). has_bit (get_or (set s place v) a 0) i) e
+            ∙ ap (λ (a : ℕ). has_bit a i) (get_or-set_same s place v 0 (omega (arith, r.ten))) ∙ same e
+        at (no d) = ap (λ (a : ℕ). has_bit a i) (apart place j d) ∙ other d
 
-    pub noted-delivery : m ≡ 0 → v ≡ c.delivery → Noted n (suc m) (set s deliveryAt v) p c
+    pub noted-delivery : m ≡ 0 → v ≡ c.delivery → Noted n (suc m) (set s delivery_at v) p c
     noted-delivery z e =
         record {
-          ten = length-set s deliveryAt v ∙ r.ten;
-          delivery = λ h. get_or-set_same s deliveryAt v 0 (omega (arith, r.ten)) ∙ e;
+          ten = length-set s delivery_at v ∙ r.ten;
+          delivery = λ h. get_or-set_same s delivery_at v 0 (omega (arith, r.ten)) ∙ e;
           threshold = λ h. absurd (omega arith);
           pending = λ i w h. absurd (omega arith);
           enable = λ i w h. absurd (omega arith);
         }
 
-    pub noted-threshold : m ≡ 1 → v ≡ c.threshold → Noted n (suc m) (set s thresholdAt v) p c
+    pub noted-threshold : m ≡ 1 → v ≡ c.threshold → Noted n (suc m) (set s threshold_at v) p c
     noted-threshold z e =
         record {
-          ten = length-set s thresholdAt v ∙ r.ten;
-          delivery = λ h. apart thresholdAt deliveryAt (omega arith) ∙ r.delivery (omega arith);
-          threshold = λ h. get_or-set_same s thresholdAt v 0 (omega (arith, r.ten)) ∙ e;
+          ten = length-set s threshold_at v ∙ r.ten;
+          delivery = λ h. apart threshold_at delivery_at (omega arith) ∙ r.delivery (omega arith);
+          threshold = λ h. get_or-set_same s threshold_at v 0 (omega (arith, r.ten)) ∙ e;
           pending = λ i w h. absurd (omega arith);
           enable = λ i w h. absurd (omega arith);
         }
 
     module _ (k : ℕ) (low : k < 4) where
       pub noted-pending : suc m ≡ k + 72
-          → ((i : ℕ) → Identity n i → i / 64 ≡ k → hasBit v (i % 64) ≡ member p i)
-          → Noted n (suc m) (set s (pendingAt k) v) p c
+          → ((i : ℕ) → Identity n i → i / 64 ≡ k → has_bit v (i % 64) ≡ member p i)
+          → Noted n (suc m) (set s (pending_at k) v) p c
       noted-pending z e =
           record {
-            ten = length-set s (pendingAt k) v ∙ r.ten;
-            delivery = λ h. apart (pendingAt k) deliveryAt (omega arith) ∙ r.delivery (omega arith);
-            threshold = λ h. apart (pendingAt k) thresholdAt (omega arith) ∙ r.threshold (omega arith);
-            pending = λ i w h. placed (pendingAt k) (pendingAt (i / 64)) (i % 64) (member p i) (omega arith)
+            ten = length-set s (pending_at k) v ∙ r.ten;
+            delivery = λ h. apart (pending_at k) delivery_at (omega arith) ∙ r.delivery (omega arith);
+            threshold = λ h. apart (pending_at k) threshold_at (omega arith) ∙ r.threshold (omega arith);
+            pending = λ i w h. placed (pending_at k) (pending_at (i / 64)) (i % 64) (member p i) (omega arith)
                 (λ q. e i w (omega arith)) (λ d. r.pending i w (omega arith));
             enable = λ i w h. absurd (omega arith);
           }
 
       pub noted-enable : suc m ≡ k + 76
-          → ((i : ℕ) → Identity n i → i / 64 ≡ k → hasBit v (i % 64) ≡ member c.enable i)
-          → Noted n (suc m) (set s (enableAt k) v) p c
+          → ((i : ℕ) → Identity n i → i / 64 ≡ k → has_bit v (i % 64) ≡ member c.enable i)
+          → Noted n (suc m) (set s (enable_at k) v) p c
       noted-enable z e =
           record {
-            ten = length-set s (enableAt k) v ∙ r.ten;
-            delivery = λ h. apart (enableAt k) deliveryAt (omega arith) ∙ r.delivery (omega arith);
-            threshold = λ h. apart (enableAt k) thresholdAt (omega arith) ∙ r.threshold (omega arith);
-            pending = λ i w h. placed (enableAt k) (pendingAt (i / 64)) (i % 64) (member p i) (omega arith)
+            ten = length-set s (enable_at k) v ∙ r.ten;
+            delivery = λ h. apart (enable_at k) delivery_at (omega arith) ∙ r.delivery (omega arith);
+            threshold = λ h. apart (enable_at k) threshold_at (omega arith) ∙ r.threshold (omega arith);
+            pending = λ i w h. placed (enable_at k) (pending_at (i / 64)) (i % 64) (member p i) (omega arith)
                 (λ q. absurd (omega (arith, sized.small))) (λ d. r.pending i w (omega arith));
-            enable = λ i w h. placed (enableAt k) (enableAt (i / 64)) (i % 64) (member c.enable i)
+            enable = λ i w h. placed (enable_at k) (enable_at (i / 64)) (i % 64) (member c.enable i)
                 (omega arith) (λ q. e i w (omega arith)) (λ d. r.enable i w (omega arith));
           }

@@ -13,14 +13,14 @@ use Rattle.words.specs.Sets.{member}
 use Rattle.words.proofs.SetsLaws.{member-ext}
 use Rattle.file.specs.declared.File.{File}
 use Rattle.file.specs.Shape.{Shaped}
-use Rattle.file.specs.Parts.{withDelivery, withPendingSet}
+use Rattle.file.specs.Parts.{with_delivery, with_pending_set}
 use Rattle.file.specs.Page.{arrived}
 use Rattle.file_laws.proofs.Keeps.{Rules}
 use Rattle.file_laws.proofs.PageEffects.{arrived-pending, arrived-rest}
 use Rattle.file_laws.proofs.Stored.{file-path}
-use Rattle.sizes.specs.Sizes.{savedSize, fileSetSize}
-use Rattle.board_move_steps.specs.Steps.{accesses, actOf, deliveryAt}
-use Rattle.board_move_files_laws.specs.Related.{Three, actedOn, Shared, Related}
+use Rattle.sizes.specs.Sizes.{saved_size, file_set_size}
+use Rattle.board_move_steps.specs.Steps.{accesses, act_of, delivery_at}
+use Rattle.board_move_files_laws.specs.Related.{Three, acted_on, Shared, Related}
 use Rattle.board_move_files_laws.proofs.SelectEffects.{below}
 use Rattle.board_move_files_laws.proofs.WrittenEffects.{Sized, Within, stays-cases, Clear}
 use Rattle.board_move_files_laws.proofs.WrittenEffects.{clear-rules}
@@ -34,7 +34,7 @@ use Rattle.board_move_files_laws.proofs.AccessEffects.{delivery-written}
 
 -- ---- before the first access
 
-pub related-start : (n : ℕ) (o f : File) (s : List ℕ) → length s ≡ savedSize
+pub related-start : (n : ℕ) (o f : File) (s : List ℕ) → length s ≡ saved_size
     → Related n 0 (record { old = o; new = f; numbers = s }) o
 related-start n o f s e =
     record {
@@ -62,15 +62,15 @@ related-start n o f s e =
 
 -- ---- messages
 
-arrived-only : (n : ℕ) (f : File) (i : ℕ) → arrived n f i ≡ withPendingSet f (arrived n f i).pending
+arrived-only : (n : ℕ) (f : File) (i : ℕ) → arrived n f i ≡ with_pending_set f (arrived n f i).pending
 arrived-only n f i = let same = arrived-rest n f i in file-path same.0 same.1 refl same.2
 
 module _ (n m : ℕ) (x : Three) (c : File) (r : Related n m x c) where
   -- no message changes anything but pending sets
   related-pending : (p f q : List ℕ) → (72 ≤ m → p ≡ x.old.pending) → Shared n m p f q
       → Related n m
-      (record { old = withPendingSet x.old p; new = withPendingSet x.new f; numbers = x.numbers })
-      (withPendingSet c q)
+      (record { old = with_pending_set x.old p; new = with_pending_set x.new f; numbers = x.numbers })
+      (with_pending_set c q)
   related-pending p f q kept s =
       record {
         untouched = record {
@@ -101,7 +101,7 @@ module _ (n m : ℕ) (x : Three) (c : File) (r : Related n m x c) where
 
     came-pending : (f : File) → Shaped f → (j : ℕ)
         → member (arrived n f i).pending j ≡ (member f.pending j || came j)
-    came-pending f s j = arrived-pending n f i j (omega (arith, sized.small, s.pendingLong))
+    came-pending f s j = arrived-pending n f i j (omega (arith, sized.small, s.pending_long))
 
     pub related-both : m < 72 → Shaped x.old
         → Related n m (record { old = arrived n x.old i; new = x.new; numbers = x.numbers })
@@ -136,7 +136,7 @@ module _ (n m : ℕ) (x : Three) (c : File) (r : Related n m x c) where
 -- ---- the next access
 
 pub related-act : (n m : ℕ) (x : Three) (c : File) → Sized n → m < accesses → Shaped x.old
-    → Shaped x.new → Rules n true c → Related n m x c → Related n (suc m) (actedOn n (actOf (suc m)) x) c
+    → Shaped x.new → Rules n true c → Related n m x c → Related n (suc m) (acted_on n (act_of (suc m)) x) c
 related-act n m x c z h so sn rc r =
     below m 1 (λ u. delivery-saved n m x c z r (omega arith))
     (λ l. below m 2 (λ u. threshold-saved n m x c z r (omega arith))
@@ -164,22 +164,22 @@ pub related-end : (n : ℕ) (x : Three) (c : File) → Sized n → Whole n x.new
     → Related n accesses x c → x.new ≡ c
 related-end n x c z a b r =
     file-path (r.restored.delivery (omega arith)) (r.restored.threshold (omega arith))
-    (member-ext x.new.pending c.pending (a.shaped.pendingLong ∙ sym b.shaped.pendingLong)
-    a.shaped.pendingFit b.shaped.pendingFit
-    (λ i h. pending i (omega (arith, a.shaped.pendingLong))))
-    (member-ext x.new.enable c.enable (a.shaped.enableLong ∙ sym b.shaped.enableLong)
-    a.shaped.enableFit b.shaped.enableFit
-    (λ i h. enable i (omega (arith, a.shaped.enableLong))))
+    (member-ext x.new.pending c.pending (a.shaped.pending_long ∙ sym b.shaped.pending_long)
+    a.shaped.pending_fit b.shaped.pending_fit
+    (λ i h. pending i (omega (arith, a.shaped.pending_long))))
+    (member-ext x.new.enable c.enable (a.shaped.enable_long ∙ sym b.shaped.enable_long)
+    a.shaped.enable_fit b.shaped.enable_fit
+    (λ i h. enable i (omega (arith, a.shaped.enable_long))))
   where
-    clear : (f : File) → Whole n f → (i : ℕ) → i < 32 * fileSetSize → Clear n f i
+    clear : (f : File) → Whole n f → (i : ℕ) → i < 32 * file_set_size → Clear n f i
     clear f w i h = clear-rules n true f w.rules w.within i h
 
-    pending : (i : ℕ) → i < 32 * fileSetSize → member x.new.pending i ≡ member c.pending i
+    pending : (i : ℕ) → i < 32 * file_set_size → member x.new.pending i ≡ member c.pending i
     pending i h =
         stays-cases n i (λ w. r.shared.settled i w (omega (arith, z.small)))
         (λ e. (clear x.new a i h e).0 ∙ sym (clear c b i h e).0)
 
-    enable : (i : ℕ) → i < 32 * fileSetSize → member x.new.enable i ≡ member c.enable i
+    enable : (i : ℕ) → i < 32 * file_set_size → member x.new.enable i ≡ member c.enable i
     enable i h =
         stays-cases n i (λ w. r.restored.enable i w (omega (arith, z.small)))
         (λ e. (clear x.new a i h e).1 ∙ sym (clear c b i h e).1)
@@ -188,15 +188,15 @@ related-end n x c z a b r =
 
 -- the old file has all that is pending and its enables and threshold, and its delivery is saved
 pub related-undone : (n m : ℕ) (x : Three) (c : File) → Sized n → Whole n x.old → Whole n c → 1 ≤ m
-    → m < 8 → Related n m x c → withDelivery x.old (get_or x.numbers deliveryAt 0) ≡ c
+    → m < 8 → Related n m x c → with_delivery x.old (get_or x.numbers delivery_at 0) ≡ c
 related-undone n m x c z a b l h r =
     file-path (r.noted.delivery l) r.untouched.threshold
-    (member-ext x.old.pending c.pending (a.shaped.pendingLong ∙ sym b.shaped.pendingLong)
-    a.shaped.pendingFit b.shaped.pendingFit
-    (λ i q. pending i (omega (arith, a.shaped.pendingLong))))
+    (member-ext x.old.pending c.pending (a.shaped.pending_long ∙ sym b.shaped.pending_long)
+    a.shaped.pending_fit b.shaped.pending_fit
+    (λ i q. pending i (omega (arith, a.shaped.pending_long))))
     r.untouched.enable
   where
-    pending : (i : ℕ) → i < 32 * fileSetSize → member x.old.pending i ≡ member c.pending i
+    pending : (i : ℕ) → i < 32 * file_set_size → member x.old.pending i ≡ member c.pending i
     pending i q =
         stays-cases n i (λ w. sym (r.shared.alone h i w))
         (λ e. (clear-rules n true x.old a.rules a.within i q e).0

@@ -8,15 +8,15 @@ use mathlib.Core.Logic.{◌≢◌}
 use native.Mathlib.Decide.{ℕ_discrete}
 use native.Mathlib.Omega.{arith}
 use borrow.Author.Tests.{eq-eqb, ne_eqb}
-use Rattle.words.specs.Bits.{hasBit}
+use Rattle.words.specs.Bits.{has_bit}
 use Rattle.words.specs.Sets.{member}
-use Rattle.words.proofs.BitsLaws.{hasBit-nothing}
+use Rattle.words.proofs.BitsLaws.{has_bit-nothing}
 use Rattle.file_select.specs.Select.{eip0}
 use Rattle.file.specs.declared.File.{File}
 use Rattle.file.specs.declared.register.Access.TheVariants.{Write, Set}
 use Rattle.file.specs.Shape.{Shaped}
-use Rattle.board_move_files_laws.specs.Related.{Identity, guestAccess, Shared}
-use Rattle.board_move_files_laws.proofs.WrittenEffects.{Sized, stays-in, keptOf, kept_in, kept-other}
+use Rattle.board_move_files_laws.specs.Related.{Identity, guest_access, Shared}
+use Rattle.board_move_files_laws.proofs.WrittenEffects.{Sized, stays-in, kept_of, kept_in, kept-other}
 use Rattle.board_move_files_laws.proofs.WrittenEffects.{clear_in, member-accessed, member-set}
 
 -- ---- messages: those that b names are added
@@ -64,14 +64,14 @@ module _ (n m : ℕ) (o c : List ℕ) (f : File) (sized : Sized n) (s : Shaped f
   -- accesses 5 to 8: word k of the new file is cleared, and with the last of them all that is pending is old
   module _ (early : suc m ≡ k + 5) where
     abbrev cleared : File
-    cleared = (guestAccess n f Write (eip0 + 2 * k) 0).file
+    cleared = (guest_access n f Write (eip0 + 2 * k) 0).file
 
     clear-empty : (i : ℕ) → Identity n i → i / 64 + 5 ≤ suc m → member cleared.pending i ≡ false
     clear-empty i w h =
         (member-accessed n true f k low s i (λ e. clear_in n f i w) sized 0).0 ∙ at (ℕ_discrete (i / 64) k)
       where
-        at : Dec (i / 64 ≡ k) → keptOf n f.pending k 0 i ≡ false
-        at (yes e) = kept_in n f.pending k 0 i w e ∙ hasBit-nothing (i % 64)
+        at : Dec (i / 64 ≡ k) → kept_of n f.pending k 0 i ≡ false
+        at (yes e) = kept_in n f.pending k 0 i w e ∙ has_bit-nothing (i % 64)
         at (no d) = kept-other n f.pending k 0 i d ∙ r.empty (omega arith) i w (omega arith)
 
     pub shared-clear : Shared n (suc m) o cleared.pending c
@@ -97,9 +97,9 @@ module _ (n m : ℕ) (o c : List ℕ) (f : File) (sized : Sized n) (s : Shaped f
   -- accesses 80 to 83: v, what was pending in word k of the old file, is set in the new one, and then that
   -- word has all that is pending
   module _ (late : suc m ≡ k + 80) (v : ℕ)
-      (saved : (i : ℕ) → Identity n i → i / 64 ≡ k → hasBit v (i % 64) ≡ member o i) where
+      (saved : (i : ℕ) → Identity n i → i / 64 ≡ k → has_bit v (i % 64) ≡ member o i) where
     abbrev after : File
-    after = (guestAccess n f Set (eip0 + 2 * k) v).file
+    after = (guest_access n f Set (eip0 + 2 * k) v).file
 
     set_other : (i : ℕ) → Identity n i → i / 64 ≢ k → member after.pending i ≡ member f.pending i
     set_other i w d =

@@ -10,32 +10,32 @@ use Rattle.words.specs.Every.{every}
 use Rattle.words.proofs.EveryLaws.{every-each}
 use Rattle.board_move_steps.specs.declared.Act.{Act}
 use Rattle.board_move_steps.specs.declared.Act.TheVariants.{Save, Zero, Target, Put}
-use Rattle.board_move_steps.specs.Steps.{accesses, actOf, actWithin}
+use Rattle.board_move_steps.specs.Steps.{accesses, act_of, act_within}
 
-all-within : every (λ n. actWithin (actOf n)) 1 accesses ≡ true
-unfolding every actWithin actOf
+all-within : every (λ n. act_within (act_of n)) 1 accesses ≡ true
+unfolding every act_within act_of
 all-within = refl
 
-pub act-within : (n : ℕ) → 1 ≤ n → n ≤ accesses → actWithin (actOf n) ≡ true
-act-within n l h = every-each (λ k. actWithin (actOf k)) 1 accesses all-within n l (omega arith)
+pub act-within : (n : ℕ) → 1 ≤ n → n ≤ accesses → act_within (act_of n) ≡ true
+act-within n l h = every-each (λ k. act_within (act_of k)) 1 accesses all-within n l (omega arith)
 
 -- step 3 alone rewrites targets
-unfoldable pub isTarget : Act → Bool
-isTarget (Save select place) = false
-isTarget (Zero new select) = false
-isTarget (Target i) = true
-isTarget (Put kind select place) = false
+unfoldable pub is_target : Act → Bool
+is_target (Save select place) = false
+is_target (Zero new select) = false
+is_target (Target i) = true
+is_target (Put kind select place) = false
 
-first_else : every (λ n. not (isTarget (actOf n))) 1 8 ≡ true
-unfolding every isTarget actOf
+first_else : every (λ n. not (is_target (act_of n))) 1 8 ≡ true
+unfolding every is_target act_of
 first_else = refl
 
-last_else : every (λ n. not (isTarget (actOf n))) 72 (accesses - 71) ≡ true
-unfolding every isTarget actOf
+last_else : every (λ n. not (is_target (act_of n))) 72 (accesses - 71) ≡ true
+unfolding every is_target act_of
 last_else = refl
 
-pub act-else : (n : ℕ) → 1 ≤ n → n ≤ accesses → (n ≤ 8) ⊎ (71 < n) → isTarget (actOf n) ≡ false
+pub act-else : (n : ℕ) → 1 ≤ n → n ≤ accesses → (n ≤ 8) ⊎ (71 < n) → is_target (act_of n) ≡ false
 act-else n l h (inl a) =
-    not-true _ (every-each (λ k. not (isTarget (actOf k))) 1 8 first_else n l (omega arith))
+    not-true _ (every-each (λ k. not (is_target (act_of k))) 1 8 first_else n l (omega arith))
 act-else n l h (inr a) =
-    not-true _ (every-each (λ k. not (isTarget (actOf k))) 72 (accesses - 71) last_else n a (omega arith))
+    not-true _ (every-each (λ k. not (is_target (act_of k))) 72 (accesses - 71) last_else n a (omega arith))

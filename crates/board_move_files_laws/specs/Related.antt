@@ -1,7 +1,7 @@
 -- The old and the new file and the saved numbers in the middle of a move, beside the old file of a board with
 -- no move. No contract and no claim cites this file. 01, "The move, with its premises". Assumes nothing.
 --   Three              the old file, the new file, and the saved numbers
---   actedOn n a x      x after the act a, where the files have n identities; a target concerns no file
+--   acted_on n a x      x after the act a, where the files have n identities; a target concerns no file
 --   Identity n i       i is one of the identities of a file that has n
 --   Related n m x c    x after m accesses, where c is the old file of the board with no move and all files
 --                      have n identities; in four parts: Untouched, Shared, Noted, Restored
@@ -9,18 +9,18 @@
 -- from then on it is in the old or in the new, since senders change over; what is read of the old file is
 -- saved; and a word that was set in the new file has all that is pending.
 use Rattle.std.specs.Prelude.{ℕ, ◌+◌, ◌/◌, ◌%◌, ◌≤◌, ◌<◌, ◌≡◌, true, false, cond, ◌||◌, List, length, get_or, set}
-use Rattle.words.specs.Bits.{hasBit}
+use Rattle.words.specs.Bits.{has_bit}
 use Rattle.words.specs.Sets.{member}
 use Rattle.file.specs.declared.File.{File}
 use Rattle.file.specs.declared.register.Access.{Access}
 use Rattle.file.specs.declared.register.Access.TheVariants.{Read, Write}
 use Rattle.file.specs.declared.register.Accessed.{Accessed}
-use Rattle.file.specs.Reply.{replyValue}
+use Rattle.file.specs.Reply.{reply_value}
 use Rattle.file.specs.Register.{accessed}
 use Rattle.board_move_steps.specs.declared.Act.{Act}
 use Rattle.board_move_steps.specs.declared.Act.TheVariants.{Save, Zero, Target, Put}
-use Rattle.sizes.specs.Sizes.{savedSize}
-use Rattle.board_move_steps.specs.Steps.{accesses, deliveryAt, thresholdAt, pendingAt, enableAt}
+use Rattle.sizes.specs.Sizes.{saved_size}
+use Rattle.board_move_steps.specs.Steps.{accesses, delivery_at, threshold_at, pending_at, enable_at}
 
 pub record Three : Type 0 where
   pub old : File
@@ -28,27 +28,27 @@ pub record Three : Type 0 where
   pub numbers : List ℕ
 
 -- an access to a register of a guest's file
-abbrev pub guestAccess : ℕ → File → Access → ℕ → ℕ → Accessed
-guestAccess n f k s v = accessed n true f k s v
+abbrev pub guest_access : ℕ → File → Access → ℕ → ℕ → Accessed
+guest_access n f k s v = accessed n true f k s v
 
-unfoldable pub actedOn : ℕ → Act → Three → Three
-actedOn n (Save select place) x =
+unfoldable pub acted_on : ℕ → Act → Three → Three
+acted_on n (Save select place) x =
     record {
       old = x.old;
       new = x.new;
-      numbers = set x.numbers place (replyValue (guestAccess n x.old Read select 0).answer);
+      numbers = set x.numbers place (reply_value (guest_access n x.old Read select 0).answer);
     }
-actedOn n (Zero new select) x =
+acted_on n (Zero new select) x =
     record {
-      old = cond new x.old (guestAccess n x.old Write select 0).file;
-      new = cond new (guestAccess n x.new Write select 0).file x.new;
+      old = cond new x.old (guest_access n x.old Write select 0).file;
+      new = cond new (guest_access n x.new Write select 0).file x.new;
       numbers = x.numbers;
     }
-actedOn n (Target i) x = x
-actedOn n (Put kind select place) x =
+acted_on n (Target i) x = x
+acted_on n (Put kind select place) x =
     record {
       old = x.old;
-      new = (guestAccess n x.new kind select (get_or x.numbers place 0)).file;
+      new = (guest_access n x.new kind select (get_or x.numbers place 0)).file;
       numbers = x.numbers;
     }
 
@@ -71,13 +71,13 @@ pub record Shared (n m : ℕ) (o f c : List ℕ) : Type 0 where
 
 -- the numbers s that are saved; p is the pending set of the old file
 pub record Noted (n m : ℕ) (s p : List ℕ) (c : File) : Type 0 where
-  pub ten : length s ≡ savedSize
-  pub delivery : 1 ≤ m → get_or s deliveryAt 0 ≡ c.delivery
-  pub threshold : 2 ≤ m → get_or s thresholdAt 0 ≡ c.threshold
+  pub ten : length s ≡ saved_size
+  pub delivery : 1 ≤ m → get_or s delivery_at 0 ≡ c.delivery
+  pub threshold : 2 ≤ m → get_or s threshold_at 0 ≡ c.threshold
   pub pending : (i : ℕ) → Identity n i → i / 64 + 72 ≤ m
-      → hasBit (get_or s (pendingAt (i / 64)) 0) (i % 64) ≡ member p i
+      → has_bit (get_or s (pending_at (i / 64)) 0) (i % 64) ≡ member p i
   pub enable : (i : ℕ) → Identity n i → i / 64 + 76 ≤ m
-      → hasBit (get_or s (enableAt (i / 64)) 0) (i % 64) ≡ member c.enable i
+      → has_bit (get_or s (enable_at (i / 64)) 0) (i % 64) ≡ member c.enable i
 
 -- what is written back to the new file f
 pub record Restored (n m : ℕ) (f c : File) : Type 0 where

@@ -11,63 +11,63 @@ use lib.ListN.{length, get_or, set}
 use lib.Seq.{get_or-set_same, get_or-set_other, set_out}
 use borrow.Author.Tests.{ltb-true, leb-true}
 use Rattle.words.proofs.TestsLaws.{tested, and_first, and_second}
-use Rattle.sizes.specs.Sizes.{identities, fileCount}
-use Rattle.file_select.specs.Select.{selectLegal, registerOf}
+use Rattle.sizes.specs.Sizes.{identities, file_count}
+use Rattle.file_select.specs.Select.{select_legal, register_of}
 use Rattle.file.specs.declared.File.{File}
 use Rattle.file.specs.declared.register.Access.{Access}
 use Rattle.file.specs.declared.register.Access.TheVariants.{Read, Write, Set, Clear}
-use Rattle.file.specs.Reply.{replyValue}
-use Rattle.file.specs.Register.{accessed, accessedAt}
+use Rattle.file.specs.Reply.{reply_value}
+use Rattle.file.specs.Register.{accessed, accessed_at}
 use Rattle.file.specs.Shape.{Shaped}
 use Rattle.file_laws.proofs.Keeps.{held-lt, accessed-shaped, accessed-rules}
-use Rattle.files.specs.Files.{fileNumber, isGuest, theFile}
+use Rattle.files.specs.Files.{file_number, is_guest, the_file}
 use Rattle.wired_rules_laws.specs.Steady.{WiredSteady, WiredQuiet}
-use Rattle.board_move_steps.specs.Steps.{accesses, actOf, actWithin}
+use Rattle.board_move_steps.specs.Steps.{accesses, act_of, act_within}
 use Rattle.board_move_steps.specs.declared.Act.{Act}
 use Rattle.board_move_steps.specs.declared.Act.TheVariants.{Save, Zero, Target, Put}
 use Rattle.board_move_files_laws.proofs.TableLaws.{act-within}
-use Rattle.board_block.specs.Block.{Board, boardSound}
+use Rattle.board_block.specs.Block.{Board, board_sound}
 use Rattle.board_call.specs.declared.Call.TheVariants.{Move}
 use Rattle.board_call.specs.Change.{change}
-use Rattle.board_call.specs.Move.{registerOn, withOne, acted}
+use Rattle.board_call.specs.Move.{register_on, with_one, acted}
 use Rattle.board_move_wired_laws.proofs.StepThree.{retargeted-steady, retargeted-quiet, retargeted-sound}
 use Rattle.board_call.specs.Outcome.{step}
-use Rattle.board_call.specs.Numbers.{isGuestFile, is_move}
+use Rattle.board_call.specs.Numbers.{is_guest_file, is_move}
 use Rattle.board_call_laws.specs.Fit.{Fit, SavedFit, Kept}
 use Rattle.board_call_laws.proofs.CallTests.{quiet}
-use Rattle.board_call_laws.proofs.FitEffects.{fit-steady, fit-rules, fit-withFile, fit-rewired}
+use Rattle.board_call_laws.proofs.FitEffects.{fit-steady, fit-rules, fit-with_file, fit-rewired}
 use Rattle.board_call_laws.proofs.KeepsEffects.{kept_of}
 use Rattle.board_call_laws.proofs.StepEffects.{sound-quiet, settled-quiet}
 
 -- ---- the numbers of a move that is not barred
 
 -- a guest's file is one of the 20
-module _ (h f : ℕ) (there : isGuestFile h f ≡ true) where
+module _ (h f : ℕ) (there : is_guest_file h f ≡ true) where
   abbrev low : Bool
   low = ltb h 4 && leb 2 f
 
   pub guest-hart : h < 4
-  unfolding isGuestFile
+  unfolding is_guest_file
   guest-hart = ltb-true h 4 (and_first (ltb h 4) (leb 2 f) (and_first low (ltb f 5) there))
 
   pub guest-low : 2 ≤ f
-  unfolding isGuestFile
+  unfolding is_guest_file
   guest-low = leb-true 2 f (and_second (ltb h 4) (leb 2 f) (and_first low (ltb f 5) there))
 
   pub guest-high : f < 5
-  unfolding isGuestFile
+  unfolding is_guest_file
   guest-high = ltb-true f 5 (and_second low (ltb f 5) there)
 
-  pub guest-number : fileNumber h f < fileCount
-  unfolding fileNumber
+  pub guest-number : file_number h f < file_count
+  unfolding file_number
   guest-number = omega (arith, guest-hart, guest-high)
 
 module _ (oh of nh nf n : ℕ) (there : is_move oh of nh nf n ≡ true) where
   abbrev old : Bool
-  old = isGuestFile oh of
+  old = is_guest_file oh of
 
   abbrev new : Bool
-  new = isGuestFile nh nf
+  new = is_guest_file nh nf
 
   abbrev apart : Bool
   apart = not (eqb oh nh && eqb of nf)
@@ -76,10 +76,10 @@ module _ (oh of nh nf n : ℕ) (there : is_move oh of nh nf n ≡ true) where
   unfolding is_move
   move-files = and_first (old && new && apart) (leb 1 n) (and_first _ (leb n accesses) there)
 
-  pub move-old : isGuestFile oh of ≡ true
+  pub move-old : is_guest_file oh of ≡ true
   move-old = and_first old new (and_first (old && new) apart move-files)
 
-  pub move_new : isGuestFile nh nf ≡ true
+  pub move_new : is_guest_file nh nf ≡ true
   move_new = and_second old new (and_first (old && new) apart move-files)
 
   pub move-apart : not (eqb oh nh && eqb of nf) ≡ true
@@ -97,15 +97,15 @@ module _ (oh of nh nf n : ℕ) (there : is_move oh of nh nf n ≡ true) where
 
 -- what an access to a register answers has 64 bits
 answered-lt : (g : Bool) (f : File) (k : Access) (s v : ℕ) → Shaped f
-    → replyValue (accessed identities g f k s v).answer < 2 ^ 64
+    → reply_value (accessed identities g f k s v).answer < 2 ^ 64
 unfolding accessed
-answered-lt g f k s v shaped = tested (selectLegal s) (λ t. rw t (at k)) (λ u. rw u (omega arith))
+answered-lt g f k s v shaped = tested (select_legal s) (λ t. rw t (at k)) (λ u. rw u (omega arith))
   where
-    at : (k : Access) → replyValue (accessedAt identities g f k (registerOf identities s) v).answer < 2 ^ 64
-    at Read = unfold accessedAt in held-lt f (registerOf identities s) shaped
-    at Write = unfold accessedAt in omega arith
-    at Set = unfold accessedAt in held-lt f (registerOf identities s) shaped
-    at Clear = unfold accessedAt in held-lt f (registerOf identities s) shaped
+    at : (k : Access) → reply_value (accessed_at identities g f k (register_of identities s) v).answer < 2 ^ 64
+    at Read = unfold accessed_at in held-lt f (register_of identities s) shaped
+    at Write = unfold accessed_at in omega arith
+    at Set = unfold accessed_at in held-lt f (register_of identities s) shaped
+    at Clear = unfold accessed_at in held-lt f (register_of identities s) shaped
 
 saved-set : (s : List ℕ) (p v : ℕ) → SavedFit s → v < 2 ^ 64 → SavedFit (set s p v)
 saved-set s p v fit h k = at (ℕ_discrete k p) (dec_lt p (length s))
@@ -117,21 +117,21 @@ saved-set s p v fit h k = at (ℕ_discrete k p) (dec_lt p (length s))
 
 module _ (b : Board) (fit : Fit b) where
   -- an access to a register of a file that is there
-  fit-register : (h f : ℕ) → isGuestFile h f ≡ true → (k : Access) (s v : ℕ) → v < 2 ^ 64
-      → Fit (withOne b h f (registerOn b h f k s v).file)
+  fit-register : (h f : ℕ) → is_guest_file h f ≡ true → (k : Access) (s v : ℕ) → v < 2 ^ 64
+      → Fit (with_one b h f (register_on b h f k s v).file)
   fit-register h f there k s v small =
-      let n = fileNumber h f in
+      let n = file_number h f in
       let below = guest-number h f there in
-      let x = theFile b.files n in
-      fit-withFile b fit n _
-      (accessed-shaped identities (isGuest n) x v (omega arith) small (fit.files n below) k s)
-      (accessed-rules identities (isGuest n) x v (omega arith) small (fit.files n below) k s
+      let x = the_file b.files n in
+      fit-with_file b fit n _
+      (accessed-shaped identities (is_guest n) x v (omega arith) small (fit.files n below) k s)
+      (accessed-rules identities (is_guest n) x v (omega arith) small (fit.files n below) k s
       (fit-rules b fit n below))
 
-  module _ (oh of nh nf : ℕ) (old : isGuestFile oh of ≡ true) (new : isGuestFile nh nf ≡ true) (s : List ℕ)
+  module _ (oh of nh nf : ℕ) (old : is_guest_file oh of ≡ true) (new : is_guest_file nh nf ≡ true) (s : List ℕ)
       (small : SavedFit s) where
-    pub acted-fit : (a : Act) → actWithin a ≡ true → Fit (acted a oh of nh nf b s).board
-    unfolding acted actWithin
+    pub acted-fit : (a : Act) → act_within a ≡ true → Fit (acted a oh of nh nf b s).board
+    unfolding acted act_within
     acted-fit (Save select place) w = fit
     acted-fit (Zero true select) w = fit-register nh nf new Write select 0 (omega arith)
     acted-fit (Zero false select) w = fit-register oh of old Write select 0 (omega arith)
@@ -148,9 +148,9 @@ module _ (b : Board) (fit : Fit b) where
     pub acted-saved : (a : Act) → SavedFit (acted a oh of nh nf b s).saved
     unfolding acted
     acted-saved (Save select place) =
-        let n = fileNumber oh of in
+        let n = file_number oh of in
         saved-set s place _ small
-        (answered-lt (isGuest n) (theFile b.files n) Read select 0
+        (answered-lt (is_guest n) (the_file b.files n) Read select 0
         (fit.files n (guest-number oh of old)))
     acted-saved (Zero new select) = small
     acted-saved (Target i) = small
@@ -159,10 +159,10 @@ module _ (b : Board) (fit : Fit b) where
 -- ---- the call
 
 -- a board that keeps the rules, whatever the words of its files
-module _ (b : Board) (sound : boardSound b ≡ true) (steady : WiredSteady b.wired) where
-  acted-quiet : (oh of nh nf : ℕ) (s : List ℕ) (a : Act) → actWithin a ≡ true
+module _ (b : Board) (sound : board_sound b ≡ true) (steady : WiredSteady b.wired) where
+  acted-quiet : (oh of nh nf : ℕ) (s : List ℕ) (a : Act) → act_within a ≡ true
       → WiredQuiet (acted a oh of nh nf b s).board.wired
-  unfolding acted actWithin
+  unfolding acted act_within
   acted-quiet oh of nh nf s (Save select place) w = sound-quiet b sound
   acted-quiet oh of nh nf s (Zero new select) w = sound-quiet b sound
   acted-quiet oh of nh nf s (Target i) w =
@@ -173,17 +173,17 @@ module _ (b : Board) (sound : boardSound b ≡ true) (steady : WiredSteady b.wir
 
   -- its access, and nothing sent
   pub step-access : (oh of nh nf n : ℕ) → is_move oh of nh nf n ≡ true → (s : List ℕ)
-      → let x = acted (actOf n) oh of nh nf b s in
+      → let x = acted (act_of n) oh of nh nf b s in
       step (Move oh of nh nf n) b s ≡ quiet x.board 0 x.saved
   unfolding step change
   step-access oh of nh nf n there s =
       settled-quiet _
-      (acted-quiet oh of nh nf s (actOf n)
+      (acted-quiet oh of nh nf s (act_of n)
       (act-within n (move-low oh of nh nf n there) (move-high oh of nh nf n there)))
       refl
 
 pub step_move : (b : Board) → Fit b → (oh of nh nf n : ℕ) → is_move oh of nh nf n ≡ true → (s : List ℕ)
-    → let x = acted (actOf n) oh of nh nf b s in
+    → let x = acted (act_of n) oh of nh nf b s in
     step (Move oh of nh nf n) b s ≡ quiet x.board 0 x.saved
 step_move b fit = step-access b fit.sound (fit-steady b fit)
 
@@ -195,7 +195,7 @@ kept_move b fit s small oh of nh nf n there =
     let within = act-within n (move-low oh of nh nf n there) (move-high oh of nh nf n there) in
     kept_of (step_move b fit oh of nh nf n there s)
     record {
-      fit = acted-fit b fit oh of nh nf old new s small (actOf n) within;
+      fit = acted-fit b fit oh of nh nf old new s small (act_of n) within;
       few = omega arith;
-      saved = acted-saved b fit oh of nh nf old new s small (actOf n);
+      saved = acted-saved b fit oh of nh nf old new s small (act_of n);
     }

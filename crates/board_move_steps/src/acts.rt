@@ -1,6 +1,6 @@
 // Which access is which.
 ghost use Rattle.std.specs.Prelude.{◌≡◌, ◌≤◌};
-ghost use Rattle.board_move_steps.specs.Steps.{actOf};
+ghost use Rattle.board_move_steps.specs.Steps.{act_of};
 
 use super::Act;
 use file::Access;
@@ -9,7 +9,7 @@ use file_select::{EIDELIVERY, EIE0, EIP0, EITHRESHOLD};
 // Accesses 1 to 89, of the six steps: 3, 5, 63, 8, 8 and 2.
 pub fn act_of(access: u64) -> Act
     requires { 1 ≤ access }
-    ensures { result ≡ actOf access }
+    ensures { result ≡ act_of access }
 {
     if access == 1 {
         return Act::Save(EIDELIVERY, 0);
@@ -35,7 +35,7 @@ pub fn act_of(access: u64) -> Act
 // Steps 4 to 6, from access 72 on.
 fn later_of(access: u64) -> Act
     requires { 72 ≤ access }
-    ensures { result ≡ actOf access }
+    ensures { result ≡ act_of access }
 {
     if access <= 75 {
         return Act::Save(EIP0 + 2 * (access - 72), 2 + (access - 72) as usize);

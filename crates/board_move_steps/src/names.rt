@@ -1,12 +1,12 @@
 // The file that a target of the child domain names.
 ghost use Rattle.std.specs.Prelude.{◌≡◌, ◌≤◌, ◌<◌};
-ghost use Rattle.sizes.specs.Sizes.{hartCount, hartFiles};
-ghost use Rattle.board_move_steps.specs.Names.{namesFile, renamed};
+ghost use Rattle.sizes.specs.Sizes.{hart_count, hart_files};
+ghost use Rattle.board_move_steps.specs.Names.{names_file, renamed};
 
 use source_target::{GUEST_AT, HART_AT};
 
 pub fn names_file(target: u32, hart: u64, file: u64) -> bool
-    ensures { result ≡ namesFile target hart file }
+    ensures { result ≡ names_file target hart file }
 {
     (source_target::hart_of(target) as u64 == hart)
         & (source_target::guest_of(target) as u64 + 1 == file)
@@ -14,7 +14,7 @@ pub fn names_file(target: u32, hart: u64, file: u64) -> bool
 
 // The same identity, at file `file` of hart `hart`.
 pub fn renamed(target: u32, hart: u64, file: u64) -> u32
-    requires { (hart < hartCount) × (1 ≤ file) × (file < hartFiles) }
+    requires { (hart < hart_count) × (1 ≤ file) × (file < hart_files) }
     ensures { result ≡ renamed target hart file }
 {
     words::packed32(

@@ -13,96 +13,96 @@ use Rattle.words.proofs.TestsLaws.{tested, and_first, and_second, and_both, not_
 use Rattle.sizes.specs.Sizes.{identities}
 use Rattle.file.specs.declared.File.{File}
 use Rattle.file.specs.Page.{arrived}
-use Rattle.file_message.specs.Message.{identityIn}
-use Rattle.source_target.specs.Target.{hartAt, hartOf, guestOf, number_of, keptTarget, messageOf}
-use Rattle.source_target.proofs.TargetLaws.{hartOf-lt, guestOf-lt, numberOf-lt, kept-child}
-use Rattle.file_message.proofs.MessageLaws.{hartIn-logWord, fileIn-logWord, identityIn-logWord}
-use Rattle.files.specs.Files.{fileNumber, theFile, withFile, named_by, reached}
-use Rattle.board_move_steps.specs.Names.{namesFile, renamed}
+use Rattle.file_message.specs.Message.{identity_in}
+use Rattle.source_target.specs.Target.{hart_at, hart_of, guest_of, number_of, kept_target, message_of}
+use Rattle.source_target.proofs.TargetLaws.{hart_of-lt, guest_of-lt, number_of-lt, kept-child}
+use Rattle.file_message.proofs.MessageLaws.{hart_in-log_word, file_in-log_word, identity_in-log_word}
+use Rattle.files.specs.Files.{file_number, the_file, with_file, named_by, reached}
+use Rattle.board_move_steps.specs.Names.{names_file, renamed}
 
 -- ---- the names of a target
 
 module _ (t h f : ℕ) where
-  pub names-number : namesFile t h f ≡ true → (hartOf t ≡ h) × (guestOf t + 1 ≡ f)
-  unfolding namesFile
+  pub names-number : names_file t h f ≡ true → (hart_of t ≡ h) × (guest_of t + 1 ≡ f)
+  unfolding names_file
   names-number e =
-      let a = eqb (hartOf t) h in
-      let b = eqb (guestOf t + 1) f in
-      (eqb-true (hartOf t) h (and_first a b e), eqb-true (guestOf t + 1) f (and_second a b e))
+      let a = eqb (hart_of t) h in
+      let b = eqb (guest_of t + 1) f in
+      (eqb-true (hart_of t) h (and_first a b e), eqb-true (guest_of t + 1) f (and_second a b e))
 
-  pub number-names : hartOf t ≡ h → guestOf t + 1 ≡ f → namesFile t h f ≡ true
-  unfolding namesFile
-  number-names p q = and_both (eqb (hartOf t) h) (eqb (guestOf t + 1) f) (eq-eqb _ _ p) (eq-eqb _ _ q)
+  pub number-names : hart_of t ≡ h → guest_of t + 1 ≡ f → names_file t h f ≡ true
+  unfolding names_file
+  number-names p q = and_both (eqb (hart_of t) h) (eqb (guest_of t + 1) f) (eq-eqb _ _ p) (eq-eqb _ _ q)
 
   -- file numbers 5 h + f differ for different pairs, as f is below 5
-  pub names-other : f < 5 → namesFile t h f ≡ false → fileNumber (hartOf t) (guestOf t + 1) ≢ fileNumber h f
-  unfolding fileNumber
+  pub names-other : f < 5 → names_file t h f ≡ false → file_number (hart_of t) (guest_of t + 1) ≢ file_number h f
+  unfolding file_number
   names-other hf n e =
-      let small = guestOf-lt t in
-      not_same (namesFile t h f) (number-names (omega arith) (omega arith)) n
+      let small = guest_of-lt t in
+      not_same (names_file t h f) (number-names (omega arith) (omega arith)) n
 
 -- ---- a target that is rewritten
 
 module _ (t h f : ℕ) (hh : h < 4) (lf : 1 ≤ f) (hf : f < 5) where
-  pub hartOf-renamed : hartOf (renamed t h f) ≡ h
-  unfolding hartOf renamed field_of packed
-  hartOf-renamed = omega (arith, numberOf-lt t)
+  pub hart_of-renamed : hart_of (renamed t h f) ≡ h
+  unfolding hart_of renamed field_of packed
+  hart_of-renamed = omega (arith, number_of-lt t)
 
-  pub guestOf-renamed : guestOf (renamed t h f) + 1 ≡ f
-  unfolding guestOf renamed field_of packed
-  guestOf-renamed = omega (arith, numberOf-lt t)
+  pub guest_of-renamed : guest_of (renamed t h f) + 1 ≡ f
+  unfolding guest_of renamed field_of packed
+  guest_of-renamed = omega (arith, number_of-lt t)
 
-  pub numberOf-renamed : number_of (renamed t h f) ≡ number_of t
+  pub number_of-renamed : number_of (renamed t h f) ≡ number_of t
   unfolding number_of renamed field_of packed
-  numberOf-renamed = omega arith
+  number_of-renamed = omega arith
 
   -- the child stores it as it is
-  pub kept-renamed : keptTarget true true (renamed t h f) ≡ renamed t h f
+  pub kept-renamed : kept_target true true (renamed t h f) ≡ renamed t h f
   unfolding renamed
   kept-renamed =
-      let guest : guestOf (renamed t h f) ≡ f - 1 = omega (arith, guestOf-renamed) in
+      let guest : guest_of (renamed t h f) ≡ f - 1 = omega (arith, guest_of-renamed) in
       kept-child true true (renamed t h f) refl refl
-      ∙ ap₂ (λ (x y : ℕ). packed x hartAt y) hartOf-renamed
-      (ap₂ (λ (x y : ℕ). packed x 12 y) guest numberOf-renamed)
+      ∙ ap₂ (λ (x y : ℕ). packed x hart_at y) hart_of-renamed
+      (ap₂ (λ (x y : ℕ). packed x 12 y) guest number_of-renamed)
 
-  pub renamed-names : namesFile (renamed t h f) h f ≡ true
-  renamed-names = number-names (renamed t h f) h f hartOf-renamed guestOf-renamed
+  pub renamed-names : names_file (renamed t h f) h f ≡ true
+  renamed-names = number-names (renamed t h f) h f hart_of-renamed guest_of-renamed
 
   -- and no other file
-  pub renamed-other : (h' f' : ℕ) → (h ≡ h' → f ≡ f' → ⊥) → namesFile (renamed t h f) h' f' ≡ false
+  pub renamed-other : (h' f' : ℕ) → (h ≡ h' → f ≡ f' → ⊥) → names_file (renamed t h f) h' f' ≡ false
   renamed-other h' f' apart =
       let own = renamed t h f in
-      tested (namesFile own h' f')
+      tested (names_file own h' f')
       (λ y. let e = names-number own h' f' y in
-      absurd (apart (sym hartOf-renamed ∙ e.0) (sym guestOf-renamed ∙ e.1)))
+      absurd (apart (sym hart_of-renamed ∙ e.0) (sym guest_of-renamed ∙ e.1)))
       (λ n. n)
 
 -- ---- a message and the file that it names
 
 -- the file of its hart that a domain's target names: the machine file, or 1 + guest index in the child
-abbrev pub fileOf : Bool → ℕ → ℕ
-fileOf c t = cond c (guestOf t + 1) 0
+abbrev pub file_of : Bool → ℕ → ℕ
+file_of c t = cond c (guest_of t + 1) 0
 
 -- a message is the log word of its target
 module _ (c : Bool) (t : ℕ) where
-  file-lt : fileOf c t < 8
-  file-lt = tested c (λ e. rw e (omega (arith, guestOf-lt t))) (λ e. rw e (omega arith))
+  file-lt : file_of c t < 8
+  file-lt = tested c (λ e. rw e (omega (arith, guest_of-lt t))) (λ e. rw e (omega arith))
 
-  pub message-named : named_by (messageOf c t) ≡ fileNumber (hartOf t) (fileOf c t)
-  unfolding named_by messageOf
+  pub message-named : named_by (message_of c t) ≡ file_number (hart_of t) (file_of c t)
+  unfolding named_by message_of
   message-named =
-      ap₂ fileNumber (hartIn-logWord (hartOf t) (fileOf c t) (number_of t) (hartOf-lt t) file-lt (numberOf-lt
+      ap₂ file_number (hart_in-log_word (hart_of t) (file_of c t) (number_of t) (hart_of-lt t) file-lt (number_of-lt
       t))
-      (fileIn-logWord (hartOf t) (fileOf c t) (number_of t) (hartOf-lt t) file-lt (numberOf-lt t))
+      (file_in-log_word (hart_of t) (file_of c t) (number_of t) (hart_of-lt t) file-lt (number_of-lt t))
 
-  message-identity : identityIn (messageOf c t) ≡ number_of t
-  unfolding messageOf
+  message-identity : identity_in (message_of c t) ≡ number_of t
+  unfolding message_of
   message-identity =
-      identityIn-logWord (hartOf t) (fileOf c t) (number_of t) (hartOf-lt t) file-lt (numberOf-lt t)
+      identity_in-log_word (hart_of t) (file_of c t) (number_of t) (hart_of-lt t) file-lt (number_of-lt t)
 
   -- a message reaches the file that its target names: the one law of where it goes
   pub message-reaches : (fs : List File)
-      → let k = fileNumber (hartOf t) (fileOf c t) in
-      reached fs (messageOf c t) ≡ withFile fs k (arrived identities (theFile fs k) (number_of t))
+      → let k = file_number (hart_of t) (file_of c t) in
+      reached fs (message_of c t) ≡ with_file fs k (arrived identities (the_file fs k) (number_of t))
   unfolding reached
   message-reaches fs = rw (message-named, message-identity)

@@ -8,10 +8,10 @@
 --                           has its turn at access i + 8
 -- oh and of are the hart and the file of old, nh and nf those of new.
 use Rattle.std.specs.Prelude.{ℕ, ◌+◌, ◌≤◌, ◌<◌, ◌≡◌, true, false, ◌⊎◌}
-use Rattle.sizes.specs.Sizes.{slotCount}
-use Rattle.domain.specs.Slot.{sourceAt}
+use Rattle.sizes.specs.Sizes.{slot_count}
+use Rattle.domain.specs.Slot.{source_at}
 use Rattle.wired_state.specs.Wires.{Wired}
-use Rattle.board_move_steps.specs.Names.{namesFile, renamed}
+use Rattle.board_move_steps.specs.Names.{names_file, renamed}
 
 pub record TargetsOnly (w u : Wired) : Type 0 where
   pub wires : w.wires ≡ u.wires
@@ -24,16 +24,16 @@ pub record TargetsOnly (w u : Wired) : Type 0 where
 module _ (oh of nh nf : ℕ) where
   pub record Same (n i t u : ℕ) : Type 0 where
     pub same : t ≡ u
-    pub not_new : namesFile u nh nf ≡ false
-    pub not-old : i + 8 ≤ n → namesFile u oh of ≡ false
+    pub not_new : names_file u nh nf ≡ false
+    pub not-old : i + 8 ≤ n → names_file u oh of ≡ false
 
   pub record Rewritten (n i t u : ℕ) : Type 0 where
     pub passed : i + 8 ≤ n
-    pub was-old : namesFile u oh of ≡ true
+    pub was-old : names_file u oh of ≡ true
     pub now-new : t ≡ renamed u nh nf
 
   abbrev pub TargetsMoved : ℕ → Wired → Wired → Type 0
   TargetsMoved n w u =
-      (i : ℕ) → 1 ≤ i → i < slotCount
-      → let t = (sourceAt w.child i).target in
-      let t' = (sourceAt u.child i).target in Same n i t t' ⊎ Rewritten n i t t'
+      (i : ℕ) → 1 ≤ i → i < slot_count
+      → let t = (source_at w.child i).target in
+      let t' = (source_at u.child i).target in Same n i t t' ⊎ Rewritten n i t t'

@@ -9,17 +9,17 @@ use native.Mathlib.Omega.{arith}
 use lib.ListN.{length, length-append, length-drop}
 use Rattle.domain_sending.specs.Sending.{logged}
 use Rattle.board_block.specs.Block.{block_of}
-use Rattle.board_block_laws.proofs.BlockBack.{board-back, length-blockOf}
+use Rattle.board_block_laws.proofs.BlockBack.{board-back, length-block_of}
 use Rattle.board_call.specs.declared.Call.{Call}
 use Rattle.board_call.specs.Outcome.{Stepped, step}
-use Rattle.board_call.specs.Calls.{testsRules, row_of}
-use Rattle.board_call.specs.Refusal.{nameRefusal, refusalOf}
+use Rattle.board_call.specs.Calls.{tests_rules, row_of}
+use Rattle.board_call.specs.Refusal.{name_refusal, refusal_of}
 use Rattle.board_call.proofs.RefusalLaws.{refused-numbers, accepted-present, blocks-sound}
 use Rattle.board_call_laws.specs.Fit.{Fit, Kept}
 use Rattle.board_call_laws.specs.Small.{Small}
 use Rattle.board_call_laws.proofs.OutcomeEffects.{outcome-refused, outcome-done}
 use Rattle.board_runs.specs.Runs.{Lent, after, ran}
-use Rattle.board_runs.specs.Ready.{boardIn, Ready, AllSmall}
+use Rattle.board_runs.specs.Ready.{board_in, Ready, AllSmall}
 use Rattle.board_runs.proofs.KeptEffects.{kept_step}
 
 -- ---- the calls of a run in two parts
@@ -37,21 +37,21 @@ unfolding logged
 length-logged g ms h = simp (length-append, length-drop) (omega arith)
 
 module _ (c : Call) (x : Lent) where
-  pub after-refused : refusalOf c x.block x.log ≢ 0 → after c x ≡ x
+  pub after-refused : refusal_of c x.block x.log ≢ 0 → after c x ≡ x
   unfolding after
   after-refused h = rw (outcome-refused c x.block x.log x.saved _ refl h)
 
   module _ (ready : Ready x) where
     -- on what is ready only the numbers of the call can be refused
-    pub ready-refusal : refusalOf c x.block x.log ≡ nameRefusal c (boardIn x)
+    pub ready-refusal : refusal_of c x.block x.log ≡ name_refusal c (board_in x)
     ready-refusal =
         refused-numbers (row_of c).tests x.block x.log
-        (blocks-sound (testsRules c) x.block x.log ready.long ready.full ready.fit.sound)
+        (blocks-sound (tests_rules c) x.block x.log ready.long ready.full ready.fit.sound)
 
     abbrev stepped : Stepped
-    stepped = step c (boardIn x) x.saved
+    stepped = step c (board_in x) x.saved
 
-    module _ (e : nameRefusal c (boardIn x) ≡ 0) where
+    module _ (e : name_refusal c (board_in x) ≡ 0) where
       abbrev left : Lent
       left =
           record {
@@ -67,13 +67,13 @@ module _ (c : Call) (x : Lent) where
       module _ (small : Small c) where
         kept : Kept stepped
         kept =
-            kept_step (boardIn x) ready.fit x.saved ready.saved c
-            (accepted-present (row_of c).tests (boardIn x) e)
+            kept_step (board_in x) ready.fit x.saved ready.saved c
+            (accepted-present (row_of c).tests (board_in x) e)
             small
 
         -- the board that the next call is made on
-        pub after-board : boardIn (after c x) ≡ stepped.board
-        after-board = ap boardIn after-done ∙ board-back stepped.board kept.fit.shaped
+        pub after-board : board_in (after c x) ≡ stepped.board
+        after-board = ap board_in after-done ∙ board-back stepped.board kept.fit.shaped
 
         pub after-saved : (after c x).saved ≡ stepped.saved
         after-saved = ap (λ (y : Lent). y.saved) after-done
@@ -82,7 +82,7 @@ module _ (c : Call) (x : Lent) where
         ready-done =
             subst Ready (sym after-done)
             record {
-              long = length-blockOf stepped.board kept.fit.shaped;
+              long = length-block_of stepped.board kept.fit.shaped;
               full = length-logged x.log stepped.messages (omega (arith, ready.full, kept.few))
                   ∙ ready.full;
               fit = subst Fit (sym (board-back stepped.board kept.fit.shaped)) kept.fit;
@@ -91,9 +91,9 @@ module _ (c : Call) (x : Lent) where
 
     -- what is ready stays so, whether the call is refused or not
     pub ready-after : Small c → Ready (after c x)
-    ready-after small = at (ℕ_discrete (nameRefusal c (boardIn x)) 0)
+    ready-after small = at (ℕ_discrete (name_refusal c (board_in x)) 0)
       where
-        at : Dec (nameRefusal c (boardIn x) ≡ 0) → Ready (after c x)
+        at : Dec (name_refusal c (board_in x) ≡ 0) → Ready (after c x)
         at (yes e) = ready-done e small
         at (no n) = subst Ready (sym (after-refused (λ q. n (sym ready-refusal ∙ q)))) ready
 

@@ -2,12 +2,12 @@
 -- brings a log and saved numbers of its own; that all three are handed on is a case of it. 01, "Calls and
 -- their refusals". Assumes nothing.
 --   Made               a call as it is made: with the log and the saved numbers of a move that it brings
---   madeOn m l         what it does with the block l
---   leftBy ms l        what the calls ms leave of the block l, in order
+--   made_on m l         what it does with the block l
+--   left_by ms l        what the calls ms leave of the block l, in order
 --   Said, said_of o     what a call answers: refusal, value and count
---   saidWhere p ms l   what those of the calls ms answer that p picks, in order
+--   said_where p ms l   what those of the calls ms answer that p picks, in order
 --   Lent               the block, the log and the saved numbers that a call is lent
---   outcomeOn c x      what the call c does with x
+--   outcome_on c x      what the call c does with x
 --   after c x          what it leaves of x
 --   ran cs x           what the calls cs leave of x, in order, if log and saved numbers are handed on too
 --   handing cs x       these calls as they are made
@@ -20,13 +20,13 @@ pub record Made : Type 0 where
   pub log : List ℕ
   pub saved : List ℕ
 
-abbrev pub madeOn : Made → List ℕ → Outcome
-madeOn m l = outcome m.call l m.log m.saved
+abbrev pub made_on : Made → List ℕ → Outcome
+made_on m l = outcome m.call l m.log m.saved
 
 -- [01 X8]
-unfoldable pub leftBy : List Made → List ℕ → List ℕ
-leftBy [] l = l
-leftBy (m ∷ ms) l = leftBy ms (madeOn m l).block
+unfoldable pub left_by : List Made → List ℕ → List ℕ
+left_by [] l = l
+left_by (m ∷ ms) l = left_by ms (made_on m l).block
 
 pub record Said : Type 0 where
   pub number : ℕ
@@ -36,11 +36,11 @@ pub record Said : Type 0 where
 abbrev pub said_of : Outcome → Said
 said_of o = record { number = o.number; value = o.value; count = o.count }
 
-unfoldable pub saidWhere : (Call → Bool) → List Made → List ℕ → List Said
-saidWhere p [] l = []
-saidWhere p (m ∷ ms) l =
-    let o = madeOn m l in
-    let rest = saidWhere p ms o.block in cond (p m.call) (said_of o ∷ rest) rest
+unfoldable pub said_where : (Call → Bool) → List Made → List ℕ → List Said
+said_where p [] l = []
+said_where p (m ∷ ms) l =
+    let o = made_on m l in
+    let rest = said_where p ms o.block in cond (p m.call) (said_of o ∷ rest) rest
 
 -- ---- one log and the same saved numbers, handed on
 
@@ -49,12 +49,12 @@ pub record Lent : Type 0 where
   pub log : List ℕ
   pub saved : List ℕ
 
-abbrev pub outcomeOn : Call → Lent → Outcome
-outcomeOn c x = outcome c x.block x.log x.saved
+abbrev pub outcome_on : Call → Lent → Outcome
+outcome_on c x = outcome c x.block x.log x.saved
 
 unfoldable pub after : Call → Lent → Lent
 after c x =
-    let o = outcomeOn c x in record { block = o.block; log = o.log; saved = o.saved }
+    let o = outcome_on c x in record { block = o.block; log = o.log; saved = o.saved }
 
 unfoldable pub ran : List Call → Lent → Lent
 ran [] x = x

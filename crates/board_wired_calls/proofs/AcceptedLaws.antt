@@ -10,61 +10,61 @@ use Rattle.files.specs.Files.{Named}
 use Rattle.files.proofs.FilesLaws.{named-of}
 use Rattle.domain_region.specs.Region.{Within}
 use Rattle.domain_region.specs.declared.Word.{Word}
-use Rattle.wired_state.specs.Wires.{Wired, wiredOf}
-use Rattle.wired_rules.specs.Rules.{wiredSound}
+use Rattle.wired_state.specs.Wires.{Wired, wired_of}
+use Rattle.wired_rules.specs.Rules.{wired_sound}
 use Rattle.domain_sending.specs.Sending.{logged}
 use Rattle.domain_sending_laws.proofs.MessageEffects.{logged-back, logged-every, Every}
-use Rattle.wired.specs.Controller.{Out, Leaves, wireCall, readCall, writeCall}
+use Rattle.wired.specs.Controller.{Out, Leaves, wire_call, read_call, write_call}
 use Rattle.wired.proofs.CallLaws.{words-steady, words-quiet, read-silent}
 use Rattle.wired_laws.proofs.OutEffects.{Exists, wire-count, write-count}
-use Rattle.board_block.specs.Block.{withWired, boardOf, boardSound}
-use Rattle.board_block.proofs.BlockLaws.{wired-part, wired-long, wiredPut, put-wired}
+use Rattle.board_block.specs.Block.{with_wired, board_of, board_sound}
+use Rattle.board_block.proofs.BlockLaws.{wired-part, wired-long, wired_put, put-wired}
 use Rattle.board_call.specs.Outcome.{delivered}
 use Rattle.board_call_laws.proofs.StepEffects.{sound-wired}
 use Rattle.board_call_laws.specs.Left.{Left}
-use Rattle.sizes.specs.Sizes.{blockSize, filesSize, wiredSize}
+use Rattle.sizes.specs.Sizes.{block_size, files_size, wired_size}
 
 -- the wired part of a sound board keeps its rules
-pub part_sound : (l : List ℕ) → length l ≡ blockSize → boardSound (boardOf l) ≡ true
-    → wiredSound (wiredOf (take wiredSize (drop filesSize l))) ≡ true
-part_sound l long sound = ap wiredSound (wired-part l long) ∙ sound-wired (boardOf l) sound
+pub part_sound : (l : List ℕ) → length l ≡ block_size → board_sound (board_of l) ≡ true
+    → wired_sound (wired_of (take wired_size (drop files_size l))) ≡ true
+part_sound l long sound = ap wired_sound (wired-part l long) ∙ sound-wired (board_of l) sound
 
 -- and so 63 words suffice for what it sends
-module _ (l : List ℕ) (long : length l ≡ blockSize) (sound : boardSound (boardOf l) ≡ true) (n : ℕ) where
+module _ (l : List ℕ) (long : length l ≡ block_size) (sound : board_sound (board_of l) ≡ true) (n : ℕ) where
   abbrev part : List ℕ
-  part = take wiredSize (drop filesSize l)
+  part = take wired_size (drop files_size l)
 
   pub wire-within : (i : ℕ) → 1 ≤ i → i < 64 → (level : Bool)
-      → n ≡ length (wireCall (wiredOf part) i level).messages → n ≤ 63
+      → n ≡ length (wire_call (wired_of part) i level).messages → n ≤ 63
   wire-within i a b level e =
       let kept = part_sound l long sound in
       omega (
         arith,
         e,
-        wire-count (wiredOf part) (words-steady part (wired-long l long) kept)
+        wire-count (wired_of part) (words-steady part (wired-long l long) kept)
             (words-quiet part (wired-long l long) kept) i a b level,
       )
 
   pub write-within : (c : Bool) (r : Word) → Within r → (v : ℕ)
-      → n ≡ length (writeCall (wiredOf part) c r v).messages → n ≤ 63
+      → n ≡ length (write_call (wired_of part) c r v).messages → n ≤ 63
   write-within c r b v e =
       let kept = part_sound l long sound in
       omega (
         arith,
         e,
-        write-count (wiredOf part) (words-steady part (wired-long l long) kept)
+        write-count (wired_of part) (words-steady part (wired-long l long) kept)
             (words-quiet part (wired-long l long) kept) c r b v,
       )
 
 -- a read sends nothing
-pub read_none : (l : List ℕ) → length l ≡ blockSize → boardSound (boardOf l) ≡ true → (c : Bool) (r : Word)
-    → (readCall (boardOf l).wired c r).messages ≡ []
+pub read_none : (l : List ℕ) → length l ≡ block_size → board_sound (board_of l) ≡ true → (c : Bool) (r : Word)
+    → (read_call (board_of l).wired c r).messages ≡ []
 read_none l long sound c r =
-    let part = take wiredSize (drop filesSize l) in
+    let part = take wired_size (drop files_size l) in
     let kept = part_sound l long sound in
-    ap (λ (w : Wired). (readCall w c r).messages) (sym (wired-part l long))
+    ap (λ (w : Wired). (read_call w c r).messages) (sym (wired-part l long))
     ∙ ap (λ (o : Out). o.messages)
-    (read-silent (wiredOf part) (words-steady part (wired-long l long) kept)
+    (read-silent (wired_of part) (words-steady part (wired-long l long) kept)
     (words-quiet part (wired-long l long) kept) c r)
 
 -- the messages of a call can be delivered from the log that it left
@@ -76,11 +76,11 @@ left-named o w g g' n (a, b, k) exist =
     (λ j h. logged-every Exists o.messages g exist j (omega arith)))
 
 -- the wired part zs came back, and then the messages were delivered, which left the log
-module _ (l zs g g' : List ℕ) (n : ℕ) (long : length l ≡ blockSize) (part : length zs ≡ wiredSize) where
-  pub done-left : (o : Out) → Leaves o (wiredOf zs) g g' n → (l' g'' : List ℕ)
-      → boardOf l' ≡ delivered (boardOf (wiredPut l zs)) (take n g') → g'' ≡ g' → Left o l l' g g'' n
+module _ (l zs g g' : List ℕ) (n : ℕ) (long : length l ≡ block_size) (part : length zs ≡ wired_size) where
+  pub done-left : (o : Out) → Leaves o (wired_of zs) g g' n → (l' g'' : List ℕ)
+      → board_of l' ≡ delivered (board_of (wired_put l zs)) (take n g') → g'' ≡ g' → Left o l l' g g'' n
   done-left o (a, b, k) l' g'' e same =
-      let put = put-wired l zs long part ∙ ap (withWired (boardOf l)) a in
+      let put = put-wired l zs long part ∙ ap (with_wired (board_of l)) a in
       let sent : take n g' ≡ o.messages = ap (take n) b ∙ logged-back o.messages g n k in
       (e ∙ (λ j. delivered (put j) (sent j)), same ∙ b, k)
 

@@ -1,9 +1,9 @@
 // What an accepted write does: that of the wired controller on its part, then the messages at their files.
 ghost use Rattle.std.specs.Prelude.{◌≡◌, true, ◌≤◌, length};
-ghost use Rattle.sizes.specs.Sizes.{blockSize, logSize};
+ghost use Rattle.sizes.specs.Sizes.{block_size, log_size};
 ghost use Rattle.domain_region.specs.Region.{Within};
-ghost use Rattle.wired.specs.Controller.{writeCall};
-ghost use Rattle.board_block.specs.Block.{boardOf, boardSound};
+ghost use Rattle.wired.specs.Controller.{write_call};
+ghost use Rattle.board_block.specs.Block.{board_of, board_sound};
 ghost use Rattle.board_call_laws.specs.Left.{Left};
 
 use super::delivery::delivered;
@@ -12,9 +12,9 @@ use sizes::{WIRED_END, WIRED_PLACE};
 
 // Answers the number of messages.
 pub fn write_done(state: &mut [u32], log: &mut [u32], child: bool, word: Word, value: u32) -> usize
-    requires { (length state.old ≡ blockSize) × (length log.old ≡ logSize) × Within word
-        × (boardSound (boardOf state.old) ≡ true) }
-    ensures { (result ≤ logSize) × Left (writeCall (boardOf state.old).wired child word value)
+    requires { (length state.old ≡ block_size) × (length log.old ≡ log_size) × Within word
+        × (board_sound (board_of state.old) ≡ true) }
+    ensures { (result ≤ log_size) × Left (write_call (board_of state.old).wired child word value)
         state.old state.new log.old log.new result }
 {
     let n = wired::write(&mut state[WIRED_PLACE..WIRED_END], log, child, word, value);

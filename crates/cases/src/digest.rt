@@ -1,6 +1,6 @@
 // One number for all that is lent, so that an answer's line shows a change anywhere.
 ghost use Rattle.std.specs.Prelude.{◌≡◌};
-ghost use Rattle.cases.specs.Digest.{digested, digestOf, halves};
+ghost use Rattle.cases.specs.Digest.{digested, digest_of, halves};
 
 use words::{high32, low32};
 
@@ -11,7 +11,7 @@ fn step(digest: u32, word: u32) -> u32
 }
 
 pub(crate) fn of_words(digest: u32, words: &[u32]) -> u32
-    ensures { result ≡ digestOf digest words.now }
+    ensures { result ≡ digest_of digest words.now }
 {
     let mut d = digest;
     let mut i = 0;
@@ -24,7 +24,7 @@ pub(crate) fn of_words(digest: u32, words: &[u32]) -> u32
 
 // A number counts as its low half, then its high one.
 pub(crate) fn of_numbers(digest: u32, numbers: &[u64]) -> u32
-    ensures { result ≡ digestOf digest (halves numbers.now) }
+    ensures { result ≡ digest_of digest (halves numbers.now) }
 {
     let mut d = digest;
     let mut i = 0;

@@ -7,7 +7,7 @@ mod shown;
 
 ghost use Rattle.std.specs.Prelude.{◌≤◌, ◌<◌, ◌≡◌, length};
 ghost use Rattle.io.specs.Counts.{IsPrefixLen};
-ghost use Rattle.record_lines.specs.Lines.{lineRoom};
+ghost use Rattle.record_lines.specs.Lines.{line_room};
 
 use libc::STDIN_FILENO;
 use lines::Lengths;
@@ -36,10 +36,10 @@ struct Place {
 // The rest of the line, or of the piece, and then the next piece. The last line may lack its end.
 fn take(chunk: &mut [u8], line: &mut [u8; LINE_ROOM], from: Place) -> Place
     requires prefix_len { IsPrefixLen from.size chunk.old }
-    requires at_le_size { (from.at ≤ from.size) × (from.held ≤ lineRoom) × (0 < from.left) }
+    requires at_le_size { (from.at ≤ from.size) × (from.held ≤ line_room) × (0 < from.left) }
     ensures prefix_len_2 { IsPrefixLen result.size chunk.new }
-    ensures at_le_size_2 { (result.at ≤ result.size) × (result.held ≤ lineRoom) × (result.left < from.left) }
-    ensures line_len { length line.new ≡ lineRoom }
+    ensures at_le_size_2 { (result.at ≤ result.size) × (result.held ≤ line_room) × (result.left < from.left) }
+    ensures line_len { length line.new ≡ line_room }
 {
     let size = from.size;
     let taken = cut(&chunk[..size], from.at, line, from.held);

@@ -11,17 +11,17 @@ use Rattle.words.specs.Every.{every}
 use Rattle.words.specs.Sets.{member}
 use Rattle.words.proofs.EveryLaws.{every-each}
 use Rattle.words.proofs.TestsLaws.{tested, and_first, and_second, and_both, or_cases, not_same}
-use Rattle.domain_region.specs.Region.{wordAt}
+use Rattle.domain_region.specs.Region.{word_at}
 use Rattle.domain_region.specs.declared.Word.TheVariants as word
 use Rattle.domain_region.proofs.RegionLaws.{word-within}
-use Rattle.domain.specs.Domain.{Domain, byMessages}
-use Rattle.domain.specs.Slot.{sourceAt}
-use Rattle.wired_state.specs.Wires.{Wired, domainIn, wireSet}
-use Rattle.wired_registers.specs.Wired.{claimed_in, writtenIn}
+use Rattle.domain.specs.Domain.{Domain, by_messages}
+use Rattle.domain.specs.Slot.{source_at}
+use Rattle.wired_state.specs.Wires.{Wired, domain_in, wire_set}
+use Rattle.wired_registers.specs.Wired.{claimed_in, written_in}
 use Rattle.board_move_steps.specs.declared.Act.{Act}
 use Rattle.board_move_steps.specs.declared.Act.TheVariants.{Save, Zero, Target, Put}
-use Rattle.board_move_steps.specs.Names.{namesFile, renamed}
-use Rattle.board_move_steps.specs.Steps.{actOf, actWithin}
+use Rattle.board_move_steps.specs.Names.{names_file, renamed}
+use Rattle.board_move_steps.specs.Steps.{act_of, act_within}
 use Rattle.board_move_files_laws.proofs.TableLaws.{act-within}
 use Rattle.board_block.specs.Block.{Board}
 use Rattle.board_block_laws.specs.Shape.{BoardShaped}
@@ -29,40 +29,40 @@ use Rattle.board_call.proofs.RefusalLaws.{accepted-present}
 use Rattle.board_call.specs.declared.Call.{Call}
 use Rattle.board_call.specs.declared.Call.TheVariants.{Reset, Wire, DomainRead, DomainWrite, PageRead}
 use Rattle.board_call.specs.declared.Call.TheVariants.{PageWrite, Register, Top, Claim, Signals, Move}
-use Rattle.board_call.specs.Numbers.{isWire, is_move}
+use Rattle.board_call.specs.Numbers.{is_wire, is_move}
 use Rattle.board_call.specs.Calls.{present, row_of}
 use Rattle.board_call.specs.Change.{change}
-use Rattle.board_call.specs.Move.{retargetedIn, acted}
+use Rattle.board_call.specs.Move.{retargeted_in, acted}
 use Rattle.board_move_wired_laws.proofs.StepThree.{next-hit, next-miss}
 use Rattle.board_call_laws.proofs.WiredCallEffects.{wire-low, wire-high}
 use Rattle.board_move_laws.proofs.MoveEffects.{move-low, move-high}
 use Rattle.claims_registers.specs.Rules.{Long}
-use Rattle.claims_wired.specs.Kept.{none, sources, writes, writesIn, Spares, Claim-155}
+use Rattle.claims_wired.specs.Kept.{none, sources, writes, writes_in, Spares, Claim-155}
 use Rattle.claims_wired.proofs.Kept.{kept_same}
 use Rattle.claims_wired.proofs.KeptWired.{claim-155}
-use Rattle.claims_board.specs.Closure.{retargets, partTouches, touches, partWire, touchesWire}
+use Rattle.claims_board.specs.Closure.{retargets, part_touches, touches, part_wire, touches_wire}
 use Rattle.claims_board.specs.Closure.{Claim-150}
 
 -- ---- a move: access 8 + i is that of source i
 
-unfoldable sourceIn : Act → ℕ
-sourceIn (Save select place) = 0
-sourceIn (Zero new select) = 0
-sourceIn (Target i) = i
-sourceIn (Put kind select place) = 0
+unfoldable source_in : Act → ℕ
+source_in (Save select place) = 0
+source_in (Zero new select) = 0
+source_in (Target i) = i
+source_in (Put kind select place) = 0
 
-source-table : every (λ n. eqb (sourceIn (actOf n)) 0 || eqb n (8 + sourceIn (actOf n))) 1 89 ≡ true
-unfolding every sourceIn actOf
+source-table : every (λ n. eqb (source_in (act_of n)) 0 || eqb n (8 + source_in (act_of n))) 1 89 ≡ true
+unfolding every source_in act_of
 source-table = refl
 
-access-source : (n i : ℕ) → 1 ≤ n → n ≤ 89 → 1 ≤ i → actOf n ≡ Target i → n ≡ 8 + i
+access-source : (n i : ℕ) → 1 ≤ n → n ≤ 89 → 1 ≤ i → act_of n ≡ Target i → n ≡ 8 + i
 access-source n i l h li e =
-    let named : sourceIn (actOf n) ≡ i = ap sourceIn e ∙ unfold sourceIn in refl in
-    let row = every-each (λ (m : ℕ). eqb (sourceIn (actOf m)) 0 || eqb m (8 + sourceIn (actOf m))) 1 89
+    let named : source_in (act_of n) ≡ i = ap source_in e ∙ unfold source_in in refl in
+    let row = every-each (λ (m : ℕ). eqb (source_in (act_of m)) 0 || eqb m (8 + source_in (act_of m))) 1 89
     source-table n l (omega arith) in
-    ⊎_elim (λ z. absurd (omega (arith, eqb-true (sourceIn (actOf n)) 0 z, named, li)))
-    (λ y. eqb-true n (8 + sourceIn (actOf n)) y ∙ ap (λ (m : ℕ). 8 + m) named)
-    (or_cases (eqb (sourceIn (actOf n)) 0) (eqb n (8 + sourceIn (actOf n))) row)
+    ⊎_elim (λ z. absurd (omega (arith, eqb-true (source_in (act_of n)) 0 z, named, li)))
+    (λ y. eqb-true n (8 + source_in (act_of n)) y ∙ ap (λ (m : ℕ). 8 + m) named)
+    (or_cases (eqb (source_in (act_of n)) 0) (eqb n (8 + source_in (act_of n))) row)
 
 -- what may change besides what does
 kept-targets-more : {d d' : Domain} (q q' : ℕ → Bool) → ((j : ℕ) → q' j ≡ false → q j ≡ false)
@@ -82,18 +82,18 @@ kept-targets-more q q' more x =
 
 module _ (w : Wired) (long : Long w) (oh of nh nf i : ℕ) (l : 1 ≤ i) (h : i ≤ 63) where
   abbrev next : Wired
-  next = retargetedIn oh of nh nf w i
+  next = retargeted_in oh of nh nf w i
 
   abbrev target : ℕ
-  target = (sourceAt w.child i).target
+  target = (source_at w.child i).target
 
   -- where it names old it is written
   abbrev wrote : Wired
-  wrote = writtenIn w true (word.Target i) (renamed target nh nf)
+  wrote = written_in w true (word.Target i) (renamed target nh nf)
 
   module _ (n : ℕ) (e : n ≡ 8 + i) where
-    own : namesFile target oh of ≡ true → (j : ℕ) → retargets oh of n w j ≡ false → eqb i j ≡ false
-    unfolding namesFile
+    own : names_file target oh of ≡ true → (j : ℕ) → retargets oh of n w j ≡ false → eqb i j ≡ false
+    unfolding names_file
     own y j q =
         let there : retargets oh of n w i ≡ true = and_both (eqb n (8 + i)) _ (eq-eqb n (8 + i) e) y in
         tested (eqb i j)
@@ -101,24 +101,24 @@ module _ (w : Wired) (long : Long w) (oh of nh nf i : ℕ) (l : 1 ≤ i) (h : i 
         (subst (λ (k : ℕ). retargets oh of n w k ≡ true) (eqb-true i j t) there) q))
         (λ f. f)
 
-    kept-wrote : namesFile target oh of ≡ true → (c : Bool)
-        → Spares (touches (Move oh of nh nf n) w c) (domainIn w c) (domainIn wrote c)
-    unfolding Claim-155 row_of partTouches writesIn writes
+    kept-wrote : names_file target oh of ≡ true → (c : Bool)
+        → Spares (touches (Move oh of nh nf n) w c) (domain_in w c) (domain_in wrote c)
+    unfolding Claim-155 row_of part_touches writes_in writes
     kept-wrote y true =
         kept-targets-more (eqb i) (retargets oh of n w) (own y)
         ((claim-155 w long true).1 true (word.Target i) (l, h) (renamed target nh nf)).0
     kept-wrote y false = ((claim-155 w long false).1 true (word.Target i) (l, h) (renamed target nh nf)).0
 
     kept-retargeted : (c : Bool)
-        → Spares (touches (Move oh of nh nf n) w c) (domainIn w c) (domainIn next c)
+        → Spares (touches (Move oh of nh nf n) w c) (domain_in w c) (domain_in next c)
     kept-retargeted c =
-        tested (namesFile target oh of) (λ y. rw (next-hit oh of nh nf w i y) (kept-wrote y c))
-        (λ f. rw (next-miss oh of nh nf w i f) (kept_same _ (domainIn w c)))
+        tested (names_file target oh of) (λ y. rw (next-hit oh of nh nf w i y) (kept-wrote y c))
+        (λ f. rw (next-miss oh of nh nf w i f) (kept_same _ (domain_in w c)))
 
   wires-retargeted : next.wires ≡ w.wires
   unfolding Claim-155
   wires-retargeted =
-      tested (namesFile target oh of)
+      tested (names_file target oh of)
       (λ y. rw (next-hit oh of nh nf w i y)
       ((claim-155 w long true).1 true (word.Target i) (l, h) (renamed target nh nf)).1)
       (λ f. rw (next-miss oh of nh nf w i f))
@@ -134,14 +134,14 @@ module _ (b : Board) (shaped : BoardShaped b) (s : List ℕ) where
 
   abbrev Leaves : Call → Wired → Type 0
   Leaves call w' =
-      ((c : Bool) → Spares (touches call w c) (domainIn w c) (domainIn w' c))
-      × ((j : ℕ) → touchesWire call j ≡ false → member w'.wires j ≡ member w.wires j)
+      ((c : Bool) → Spares (touches call w c) (domain_in w c) (domain_in w' c))
+      × ((j : ℕ) → touches_wire call j ≡ false → member w'.wires j ≡ member w.wires j)
 
   leaves-same : (call : Call) → Leaves call w
-  leaves-same call = ((λ c. kept_same (touches call w c) (domainIn w c)), (λ j e. refl))
+  leaves-same call = ((λ c. kept_same (touches call w c) (domain_in w c)), (λ j e. refl))
 
   leaves_all : (w' : Wired) → Leaves Reset w'
-  unfolding row_of partTouches partWire
+  unfolding row_of part_touches part_wire
   leaves_all w' = (
     (λ c. record {
       pending = λ i l h e. absurd (true≢false e);
@@ -161,9 +161,9 @@ module _ (b : Board) (shaped : BoardShaped b) (s : List ℕ) where
   at-wires : {vs : List ℕ} → vs ≡ w.wires → (j : ℕ) → member vs j ≡ member w.wires j
   at-wires e j = ap (λ (ws : List ℕ). member ws j) e
 
-  leaves-wire : (i level : ℕ) → isWire i level ≡ true
-      → Leaves (Wire i level) (wireSet w i (eqb level 1))
-  unfolding Claim-155 row_of partTouches partWire
+  leaves-wire : (i level : ℕ) → is_wire i level ≡ true
+      → Leaves (Wire i level) (wire_set w i (eqb level 1))
+  unfolding Claim-155 row_of part_touches part_wire
   leaves-wire i level there =
       let l = wire-low i level there in
       let h : i ≤ 63 = omega (arith, wire-high i level there) in (
@@ -171,23 +171,23 @@ module _ (b : Board) (shaped : BoardShaped b) (s : List ℕ) where
         (λ j e. ((claim-155 w long true).0 i l h (eqb level 1)).1 j (λ q. eqb-false i j e (sym q))),
       )
 
-  leaves-read : (d a : ℕ) → Leaves (DomainRead d a) (claimed_in w (eqb d 1) (wordAt a))
-  unfolding Claim-155 row_of partTouches
+  leaves-read : (d a : ℕ) → Leaves (DomainRead d a) (claimed_in w (eqb d 1) (word_at a))
+  unfolding Claim-155 row_of part_touches
   leaves-read d a = (
-    (λ c. ((claim-155 w long c).2 (eqb d 1) (wordAt a)).0),
-    (λ j e. at-wires ((claim-155 w long true).2 (eqb d 1) (wordAt a)).1 j),
+    (λ c. ((claim-155 w long c).2 (eqb d 1) (word_at a)).0),
+    (λ j e. at-wires ((claim-155 w long true).2 (eqb d 1) (word_at a)).1 j),
   )
 
-  leaves-write : (d a v : ℕ) → Leaves (DomainWrite d a v) (writtenIn w (eqb d 1) (wordAt a) v)
-  unfolding Claim-155 row_of partTouches
+  leaves-write : (d a v : ℕ) → Leaves (DomainWrite d a v) (written_in w (eqb d 1) (word_at a) v)
+  unfolding Claim-155 row_of part_touches
   leaves-write d a v = (
-    (λ c. ((claim-155 w long c).1 (eqb d 1) (wordAt a) (word-within a) v).0),
-    (λ j e. at-wires ((claim-155 w long true).1 (eqb d 1) (wordAt a) (word-within a) v).1 j),
+    (λ c. ((claim-155 w long c).1 (eqb d 1) (word_at a) (word-within a) v).0),
+    (λ j e. at-wires ((claim-155 w long true).1 (eqb d 1) (word_at a) (word-within a) v).1 j),
   )
 
   leaves-move : (oh of nh nf n : ℕ) → is_move oh of nh nf n ≡ true
-      → Leaves (Move oh of nh nf n) (acted (actOf n) oh of nh nf b s).board.wired
-  leaves-move oh of nh nf n there = at (actOf n) refl
+      → Leaves (Move oh of nh nf n) (acted (act_of n) oh of nh nf b s).board.wired
+  leaves-move oh of nh nf n there = at (act_of n) refl
     where
       low : 1 ≤ n
       low = move-low oh of nh nf n there
@@ -195,12 +195,12 @@ module _ (b : Board) (shaped : BoardShaped b) (s : List ℕ) where
       high : n ≤ 89
       high = move-high oh of nh nf n there
 
-      at : (a : Act) → actOf n ≡ a → Leaves (Move oh of nh nf n) (acted a oh of nh nf b s).board.wired
+      at : (a : Act) → act_of n ≡ a → Leaves (Move oh of nh nf n) (acted a oh of nh nf b s).board.wired
       at (Save select place) e = unfold acted in leaves-same (Move oh of nh nf n)
       at (Zero new select) e = unfold acted in leaves-same (Move oh of nh nf n)
       at (Target i) e =
-          unfold acted actWithin in
-          let in-range = subst (λ (a : Act). actWithin a ≡ true) e (act-within n low high) in
+          unfold acted act_within in
+          let in-range = subst (λ (a : Act). act_within a ≡ true) e (act-within n low high) in
           let l = leb-true 1 i (and_first (leb 1 i) (leb i 63) in-range) in
           let h = leb-true i 63 (and_second (leb 1 i) (leb i 63) in-range) in (
             (λ c. kept-retargeted w long oh of nh nf i l h n (access-source n i low high l e) c),
@@ -221,7 +221,7 @@ module _ (b : Board) (shaped : BoardShaped b) (s : List ℕ) where
   leaves (Claim h f) p = leaves-same (Claim h f)
   leaves (Signals h) p = leaves-same (Signals h)
   leaves (Move oh of nh nf n) p =
-      leaves-move oh of nh nf n (and_first (is_move oh of nh nf n) (byMessages b.wired.child) p)
+      leaves-move oh of nh nf n (and_first (is_move oh of nh nf n) (by_messages b.wired.child) p)
 
 pub claim-150 : Claim-150
 unfolding Claim-150

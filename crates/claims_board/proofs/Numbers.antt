@@ -9,19 +9,19 @@ use lib.Dec.{eqb, leb, ltb}
 use lib.ListN.{replicate}
 use borrow.Author.Tests.{eq-eqb, eqb-true, lt-ltb, ltb-true, le-leb, leb-true}
 use Rattle.words.proofs.TestsLaws.{and_first, and_second, and_both}
-use Rattle.file_select.specs.Select.{selectLegal}
-use Rattle.domain_region.specs.Region.{addressLegal}
+use Rattle.file_select.specs.Select.{select_legal}
+use Rattle.domain_region.specs.Region.{address_legal}
 use Rattle.domain_region.proofs.RegionLaws.{legal-iff}
-use Rattle.board_block.specs.Block.{boardOf, block_of, boardSound}
-use Rattle.board_block.specs.Start.{startBoard}
-use Rattle.board_block_laws.proofs.BlockBack.{board-back, length-blockOf}
+use Rattle.board_block.specs.Block.{board_of, block_of, board_sound}
+use Rattle.board_block.specs.Start.{start_board}
+use Rattle.board_block_laws.proofs.BlockBack.{board-back, length-block_of}
 use Rattle.board_block_laws.proofs.StartEffects.{start-sound, start-shaped}
 use Rattle.board_call.specs.declared.Call.{Call}
 use Rattle.board_call.specs.declared.Call.TheVariants.{Reset, Wire, DomainRead, DomainWrite, PageRead}
 use Rattle.board_call.specs.declared.Call.TheVariants.{PageWrite, Register, Top, Claim, Signals, Move}
-use Rattle.board_call.specs.Numbers.{isWire, isFile, isPageAddress}
-use Rattle.board_call.specs.Calls.{testsRules, row_of}
-use Rattle.board_call.specs.Refusal.{nameRefusal, nameTests, firstFailed, nameRefusalBy}
+use Rattle.board_call.specs.Numbers.{is_wire, is_file, is_page_address}
+use Rattle.board_call.specs.Calls.{tests_rules, row_of}
+use Rattle.board_call.specs.Refusal.{name_refusal, name_tests, first_failed, name_refusal_by}
 use Rattle.board_call.proofs.RefusalLaws.{blocks-sound, refused-numbers}
 use Rattle.board_call_laws.proofs.OutcomeEffects.{outcome-number}
 use Rattle.claims_file.specs.FileFacts.{Claim-30}
@@ -30,8 +30,8 @@ use Rattle.claims_board.specs.Numbers.{Claim-115, Claim-116, AtStart, Claim-117}
 
 -- ---- the tests
 
-wire-iff : (w level : ℕ) → (isWire w level ≡ true) ↔ ((1 ≤ w) × (w ≤ 63) × (level ≤ 1))
-unfolding isWire
+wire-iff : (w level : ℕ) → (is_wire w level ≡ true) ↔ ((1 ≤ w) × (w ≤ 63) × (level ≤ 1))
+unfolding is_wire
 wire-iff w level = (
   (λ e. let first = and_first (leb 1 w && leb w 63) (leb level 1) e in (
     leb-true 1 w (and_first (leb 1 w) (leb w 63) first),
@@ -44,22 +44,22 @@ wire-iff w level = (
 below-iff : (a n : ℕ) → (ltb a n ≡ true) ↔ (a < n)
 below-iff a n = (ltb-true a n, lt-ltb a n)
 
-file-iff : (h f : ℕ) → (isFile h f ≡ true) ↔ ((h < 4) × (f < 5))
-unfolding isFile
+file-iff : (h f : ℕ) → (is_file h f ≡ true) ↔ ((h < 4) × (f < 5))
+unfolding is_file
 file-iff h f = (
   (λ e. (ltb-true h 4 (and_first (ltb h 4) (ltb f 5) e), ltb-true f 5 (and_second (ltb h 4) (ltb f 5) e))),
   (λ p. simp (lt-ltb h 4 p.0, lt-ltb f 5 p.1)),
 )
 
-kind-iff : (h f k : ℕ) → ((isFile h f && ltb k 4) ≡ true) ↔ ((h < 4) × (f < 5) × (k < 4))
+kind-iff : (h f k : ℕ) → ((is_file h f && ltb k 4) ≡ true) ↔ ((h < 4) × (f < 5) × (k < 4))
 kind-iff h f k = (
-  (λ e. let there = (file-iff h f).0 (and_first (isFile h f) (ltb k 4) e) in
-      (there.0, there.1, ltb-true k 4 (and_second (isFile h f) (ltb k 4) e))),
-  (λ p. and_both (isFile h f) (ltb k 4) ((file-iff h f).1 (p.0, p.1)) (lt-ltb k 4 p.2)),
+  (λ e. let there = (file-iff h f).0 (and_first (is_file h f) (ltb k 4) e) in
+      (there.0, there.1, ltb-true k 4 (and_second (is_file h f) (ltb k 4) e))),
+  (λ p. and_both (is_file h f) (ltb k 4) ((file-iff h f).1 (p.0, p.1)) (lt-ltb k 4 p.2)),
 )
 
-page-iff : (a : ℕ) → (isPageAddress a ≡ true) ↔ ((a % 4 ≡ 0) × (a < 4096))
-unfolding isPageAddress
+page-iff : (a : ℕ) → (is_page_address a ≡ true) ↔ ((a % 4 ≡ 0) × (a < 4096))
+unfolding is_page_address
 page-iff a = (
   (λ e. (
     eqb-true (a % 4) 0 (and_first (eqb (a % 4) 0) (ltb a 4096) e),
@@ -83,19 +83,19 @@ claim-115 b = (
   (λ h. below-iff h 4),
 )
 
-rules-iff : (c : Call) → (testsRules c ≡ false) ↔ (c ≡ Reset)
+rules-iff : (c : Call) → (tests_rules c ≡ false) ↔ (c ≡ Reset)
 unfolding row_of
 rules-iff Reset = ((λ e. refl), (λ e. refl))
-rules-iff (Wire w level) = ((λ e. absurd (true≢false e)), (λ e. ap testsRules e))
-rules-iff (DomainRead d a) = ((λ e. absurd (true≢false e)), (λ e. ap testsRules e))
-rules-iff (DomainWrite d a v) = ((λ e. absurd (true≢false e)), (λ e. ap testsRules e))
-rules-iff (PageRead h f a) = ((λ e. absurd (true≢false e)), (λ e. ap testsRules e))
-rules-iff (PageWrite h f a v) = ((λ e. absurd (true≢false e)), (λ e. ap testsRules e))
-rules-iff (Register h f k s v) = ((λ e. absurd (true≢false e)), (λ e. ap testsRules e))
-rules-iff (Top h f) = ((λ e. absurd (true≢false e)), (λ e. ap testsRules e))
-rules-iff (Claim h f) = ((λ e. absurd (true≢false e)), (λ e. ap testsRules e))
-rules-iff (Signals h) = ((λ e. absurd (true≢false e)), (λ e. ap testsRules e))
-rules-iff (Move oh of nh nf n) = ((λ e. absurd (true≢false e)), (λ e. ap testsRules e))
+rules-iff (Wire w level) = ((λ e. absurd (true≢false e)), (λ e. ap tests_rules e))
+rules-iff (DomainRead d a) = ((λ e. absurd (true≢false e)), (λ e. ap tests_rules e))
+rules-iff (DomainWrite d a v) = ((λ e. absurd (true≢false e)), (λ e. ap tests_rules e))
+rules-iff (PageRead h f a) = ((λ e. absurd (true≢false e)), (λ e. ap tests_rules e))
+rules-iff (PageWrite h f a v) = ((λ e. absurd (true≢false e)), (λ e. ap tests_rules e))
+rules-iff (Register h f k s v) = ((λ e. absurd (true≢false e)), (λ e. ap tests_rules e))
+rules-iff (Top h f) = ((λ e. absurd (true≢false e)), (λ e. ap tests_rules e))
+rules-iff (Claim h f) = ((λ e. absurd (true≢false e)), (λ e. ap tests_rules e))
+rules-iff (Signals h) = ((λ e. absurd (true≢false e)), (λ e. ap tests_rules e))
+rules-iff (Move oh of nh nf n) = ((λ e. absurd (true≢false e)), (λ e. ap tests_rules e))
 
 pub claim-116 : Claim-116
 unfolding Claim-116 row_of Claim-30
@@ -127,18 +127,18 @@ claim-116 = (
 
 -- ---- both ends
 
-at-start : (c : Call) (n : ℕ) → nameRefusal c (boardOf (block_of startBoard)) ≡ n → AtStart c n
+at-start : (c : Call) (n : ℕ) → name_refusal c (board_of (block_of start_board)) ≡ n → AtStart c n
 at-start c n e s =
-    let l = block_of startBoard in
+    let l = block_of start_board in
     let g : List ℕ = replicate 63 0 in
     outcome-number c l g s ∙ refused-numbers (row_of c).tests l g
-    (blocks-sound (testsRules c) l g (length-blockOf startBoard start-shaped) refl
-    (ap boardSound (board-back startBoard start-shaped) ∙ start-sound))
+    (blocks-sound (tests_rules c) l g (length-block_of start_board start-shaped) refl
+    (ap board_sound (board-back start_board start-shaped) ∙ start-sound))
     ∙ e
 
 pub claim-117 : Claim-117
-unfolding Claim-117 nameRefusalBy nameTests firstFailed row_of isWire isFile isPageAddress addressLegal
-    selectLegal
+unfolding Claim-117 name_refusal_by name_tests first_failed row_of is_wire is_file is_page_address address_legal
+    select_legal
 claim-117 = (
   (
     at-start (Wire 0 0) 4 refl,

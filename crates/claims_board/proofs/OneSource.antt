@@ -8,16 +8,16 @@ use native.Mathlib.Decide.{ℕ_discrete}
 use native.Mathlib.Omega.{arith}
 use lib.Dec.{eqb}
 use Rattle.words.specs.Sets.{member}
-use Rattle.domain.specs.Slot.{sourceAt}
-use Rattle.wired_state.specs.Wires.{Wired, domainIn, wireSet}
+use Rattle.domain.specs.Slot.{source_at}
+use Rattle.wired_state.specs.Wires.{Wired, domain_in, wire_set}
 use Rattle.domain_sending.specs.Sending.{candidate}
-use Rattle.domain_sending_laws.specs.Candidates.{messageAt, spent}
+use Rattle.domain_sending_laws.specs.Candidates.{message_at, spent}
 use Rattle.wired_rules_laws.proofs.PassEffects.{quiet-candidate}
-use Rattle.wired_rules_laws.proofs.WiredEffects.{steady-domainIn}
-use Rattle.wired_rules_laws.proofs.WiredQuietEffects.{quiet-domainIn}
-use Rattle.wired_rules_laws.proofs.WiredSameEffects.{wireSet-same}
-use Rattle.wired.specs.Controller.{Out, wireCall}
-use Rattle.wired_laws.proofs.WireEffects.{wireSet-other, wire-other, wire-own, wire-message}
+use Rattle.wired_rules_laws.proofs.WiredEffects.{steady-domain_in}
+use Rattle.wired_rules_laws.proofs.WiredQuietEffects.{quiet-domain_in}
+use Rattle.wired_rules_laws.proofs.WiredSameEffects.{wire_set-same}
+use Rattle.wired.specs.Controller.{Out, wire_call}
+use Rattle.wired_laws.proofs.WireEffects.{wire_set-other, wire-other, wire-own, wire-message}
 use Rattle.wired_laws.proofs.WireEffects.{wire-silent, wire-messages}
 use Rattle.wired_laws.proofs.TargetEffects.{target-call, target-wires, target-not, target-own}
 use Rattle.wired_laws.proofs.TargetEffects.{target-other}
@@ -33,28 +33,28 @@ use Rattle.claims_board.specs.OneSource.{SentNone, SentOne, Claim-96, Claim-97, 
 
 stays : (w : Wired) → Sound w → (j : ℕ) → 1 ≤ j → j ≤ 63 → (level : Bool)
     → (i : ℕ) → (i ≡ j → level ≡ member w.wires i)
-    → (c : Bool) → sourceAt (domainIn (wireSet w j level) c) i ≡ sourceAt (domainIn w c) i
+    → (c : Bool) → source_at (domain_in (wire_set w j level) c) i ≡ source_at (domain_in w c) i
 stays w s j l h level i same c = at (ℕ_discrete i j)
   where
-    at : Dec (i ≡ j) → sourceAt (domainIn (wireSet w j level) c) i ≡ sourceAt (domainIn w c) i
+    at : Dec (i ≡ j) → source_at (domain_in (wire_set w j level) c) i ≡ source_at (domain_in w c) i
     at (yes e) =
-        let set = ap (wireSet w j) (same e ∙ ap (member w.wires) e) in
-        ap (λ (x : Wired). sourceAt (domainIn x c) i) (set ∙ wireSet-same w (steady w s) j l (omega arith))
-    at (no n) = wireSet-other w j level c i n
+        let set = ap (wire_set w j) (same e ∙ ap (member w.wires) e) in
+        ap (λ (x : Wired). source_at (domain_in x c) i) (set ∙ wire_set-same w (steady w s) j l (omega arith))
+    at (no n) = wire_set-other w j level c i n
 
 pub claim-96 : Claim-96
 unfolding Claim-96
 claim-96 w s j l h level i k m same c =
     let e = stays w s j l h level i same c in
-    let q = quiet-domainIn w (quiet w s) c in
-    (e, (λ t. ap candidate e ∙ quiet-candidate c (domainIn w c) q t i k (omega arith)))
+    let q = quiet-domain_in w (quiet w s) c in
+    (e, (λ t. ap candidate e ∙ quiet-candidate c (domain_in w c) q t i k (omega arith)))
 
 pub claim-97 : Claim-97
 unfolding Claim-97 spent
 claim-97 w s i l h level =
     let q = quiet w s in
     let own : (c : Bool) → _ = λ c.
-    wire-own w q i l (omega arith) level c (steady-domainIn w (steady w s) c).shaped in (
+    wire-own w q i l (omega arith) level c (steady-domain_in w (steady w s) c).shaped in (
       (λ c j n a b. wire-other w q i l (omega arith) level c j n a (omega arith)),
       (λ c. ((λ t. own c ∙ rw t), (λ f. own c ∙ rw f))),
       (λ c t y. wire-message w (steady w s) q i l (omega arith) level c t y),
@@ -67,27 +67,27 @@ pub claim-98 : Claim-98
 unfolding Claim-98
 claim-98 w s c i l h v =
     let e = target-call w (steady w s) (quiet w s) c i l (omega arith) v in
-    let shaped = (steady-domainIn w (steady w s) c).shaped in (
+    let shaped = (steady-domain_in w (steady w s) c).shaped in (
       ap (λ (o : Out). o.messages) e,
       ap (λ (o : Out). o.wired.wires) e ∙ target-wires w c i v,
-      ap (λ (o : Out). domainIn o.wired (not c)) e ∙ target-not w c i v,
-      (λ j n. ap (λ (o : Out). sourceAt (domainIn o.wired c) j) e ∙ target-other w c i v j n),
-      ap (λ (o : Out). sourceAt (domainIn o.wired c) i) e ∙ target-own w c i v shaped (omega arith),
+      ap (λ (o : Out). domain_in o.wired (not c)) e ∙ target-not w c i v,
+      (λ j n. ap (λ (o : Out). source_at (domain_in o.wired c) j) e ∙ target-other w c i v j n),
+      ap (λ (o : Out). source_at (domain_in o.wired c) i) e ∙ target-own w c i v shaped (omega arith),
     )
 
 -- ---- on the board
 
 module _ (b : Board) (i level : ℕ) (s : List ℕ) where
-  none : (wireCall b.wired i (eqb level 1)).messages ≡ [] → SentNone b (step (Wire i level) b s)
+  none : (wire_call b.wired i (eqb level 1)).messages ≡ [] → SentNone b (step (Wire i level) b s)
   none e = record { messages = wire-sends b i level s ∙ e; files = wire-reaches-none b i level s e }
 
-  one : (c : Bool) → (wireCall b.wired i (eqb level 1)).messages ≡ messageAt c (domainIn b.wired c) i ∷
+  one : (c : Bool) → (wire_call b.wired i (eqb level 1)).messages ≡ message_at c (domain_in b.wired c) i ∷
       []
       → SentOne c i b (step (Wire i level) b s)
   one c e = record { messages = wire-sends b i level s ∙ e; files = wire-reaches-one b i level s _ e }
 
 pub claim-99 : Claim-99
-unfolding Claim-99 domainIn
+unfolding Claim-99 domain_in
 claim-99 b t i l h level s = (
   ap (λ (x : Stepped). x.board.wired) (step-wire b i level s),
   wire-sends b i level s,

@@ -8,23 +8,23 @@
 use Rattle.std.specs.Prelude.{ℕ, ◌+◌, ◌*◌, ◌≤◌, ◌<◌, ◌≡◌, true, false, List, leb, length, get_or}
 use Rattle.file.specs.declared.register.Access.{Access}
 use Rattle.file.specs.declared.register.Access.TheVariants.{Read, Write, Set, Clear}
-use Rattle.file.specs.Page.{pageWritten}
+use Rattle.file.specs.Page.{page_written}
 use Rattle.file.specs.Register.{accessed}
-use Rattle.file.specs.Reply.{replyValue}
+use Rattle.file.specs.Reply.{reply_value}
 use Rattle.file.specs.Top.{top_of, claimed}
-use Rattle.files.specs.Files.{theFile}
-use Rattle.domain_region.specs.Region.{wordAt}
-use Rattle.domain_direct.specs.Direct.{topiOf}
-use Rattle.wired_registers.specs.Wired.{readIn}
-use Rattle.wired.specs.Controller.{Out, wireCall, readCall, writeCall}
-use Rattle.board_block.specs.Block.{Board, boardOf, boardSound}
+use Rattle.files.specs.Files.{the_file}
+use Rattle.domain_region.specs.Region.{word_at}
+use Rattle.domain_direct.specs.Direct.{topi_of}
+use Rattle.wired_registers.specs.Wired.{read_in}
+use Rattle.wired.specs.Controller.{Out, wire_call, read_call, write_call}
+use Rattle.board_block.specs.Block.{Board, board_of, board_sound}
 use Rattle.board_call.specs.declared.Call.{Call}
 use Rattle.board_call.specs.declared.Call.TheVariants.{Reset, Wire, DomainRead, DomainWrite, PageRead}
 use Rattle.board_call.specs.declared.Call.TheVariants.{PageWrite}
 use Rattle.board_call.specs.declared.Call.TheVariants.{Register, Top, Claim, Signals, Move}
-use Rattle.board_call.specs.Change.{signalsTo}
+use Rattle.board_call.specs.Change.{signals_to}
 use Rattle.board_call.specs.Outcome.{Stepped, step, outcome}
-use Rattle.board_call.specs.Refusal.{nameRefusal}
+use Rattle.board_call.specs.Refusal.{name_refusal}
 use Rattle.board_call_laws.specs.Small.{Small}
 use Rattle.board_runs.specs.Runs.{Lent}
 use Rattle.board_runs.specs.Ready.{Ready}
@@ -36,12 +36,12 @@ use Rattle.claims_registers.specs.Registers.{InputRead}
 -- [01 C9 W49 W50 X7 X10]
 unfoldable pub Claim-171 : Type 0
 Claim-171 =
-    (c : Call) (x : Lent) → Ready x → Small c → let b = boardOf x.block in
-    nameRefusal c b ≡ 0
+    (c : Call) (x : Lent) → Ready x → Small c → let b = board_of x.block in
+    name_refusal c b ≡ 0
     → let o = outcome c x.block x.log x.saved in
     let y = step c b x.saved in
     (o.number ≡ 0) × (o.value ≡ y.value) × (o.count ≡ length y.messages) × (o.count ≤ 63)
-    × (boardOf o.block ≡ y.board) × (length o.block ≡ 650) × (o.saved ≡ y.saved)
+    × (board_of o.block ≡ y.board) × (length o.block ≡ 650) × (o.saved ≡ y.saved)
     × ((k : ℕ) → k < o.count → get_or o.log k 0 ≡ get_or y.messages k 0)
     × ((k : ℕ) → o.count ≤ k → get_or o.log k 0 ≡ get_or x.log k 0) × (length o.log ≡ 63)
 
@@ -58,17 +58,17 @@ Claim-172 =
     × ((h f a : ℕ) → (step (PageRead h f a) b s).value ≡ 0)
     × ((h f a v : ℕ) → (step (PageWrite h f a v) b s).value ≡ 0)
     × ((oh of nh nf n : ℕ) → (step (Move oh of nh nf n) b s).value ≡ 0)
-    × ((h f : ℕ) → (step (Top h f) b s).value ≡ top_of 255 (theFile b.files (5 * h + f)))
-    × ((h f : ℕ) → (step (Claim h f) b s).value ≡ top_of 255 (theFile b.files (5 * h + f)))
-    × ((h : ℕ) → (step (Signals h) b s).value ≡ signalsTo b h 5)
+    × ((h f : ℕ) → (step (Top h f) b s).value ≡ top_of 255 (the_file b.files (5 * h + f)))
+    × ((h f : ℕ) → (step (Claim h f) b s).value ≡ top_of 255 (the_file b.files (5 * h + f)))
+    × ((h : ℕ) → (step (Signals h) b s).value ≡ signals_to b h 5)
 
 -- ---- the file or the domain
 
 -- what an access of a kind does to file f of hart h, which is a guest's from file 2 on
 abbrev pub AccessedBy : Access → ℕ → ℕ → Board → Stepped → ℕ → ℕ → ℕ → Type 0
 AccessedBy k h f b x select v number =
-    let r = accessed 255 (leb 2 f) (theFile b.files number) k select v in
-    (x.value ≡ replyValue r.answer) × (theFile x.board.files number ≡ r.file)
+    let r = accessed 255 (leb 2 f) (the_file b.files number) k select v in
+    (x.value ≡ reply_value r.answer) × (the_file x.board.files number ≡ r.file)
 
 -- what a domain call does, c being the child
 abbrev pub DoneBy : Out → Board → Stepped → Type 0
@@ -80,28 +80,28 @@ DoneBy o b x = (x.board.wired ≡ o.wired) × (x.messages ≡ o.messages)
 -- [01 B3 B5 C2 C3]
 unfoldable pub Claim-173 : Type 0
 Claim-173 =
-    (b : Board) → length b.files ≡ 20 → boardSound b ≡ true → (s : List ℕ)
+    (b : Board) → length b.files ≡ 20 → board_sound b ≡ true → (s : List ℕ)
     → ((h f : ℕ) → h < 4 → f < 5
     → let k = 5 * h + f in
     ((a v : ℕ)
-    → theFile (step (PageWrite h f a v) b s).board.files k ≡ pageWritten 255 (theFile b.files k) a v)
-    × (theFile (step (Claim h f) b s).board.files k ≡ claimed 255 (theFile b.files k))
+    → the_file (step (PageWrite h f a v) b s).board.files k ≡ page_written 255 (the_file b.files k) a v)
+    × (the_file (step (Claim h f) b s).board.files k ≡ claimed 255 (the_file b.files k))
     × ((select v : ℕ)
     → AccessedBy Read h f b (step (Register h f 0 select v) b s) select v k
     × AccessedBy Write h f b (step (Register h f 1 select v) b s) select v k
     × AccessedBy Set h f b (step (Register h f 2 select v) b s) select v k
     × AccessedBy Clear h f b (step (Register h f 3 select v) b s) select v k))
     × ((i : ℕ)
-    → DoneBy (wireCall b.wired i false) b (step (Wire i 0) b s)
-    × DoneBy (wireCall b.wired i true) b (step (Wire i 1) b s))
+    → DoneBy (wire_call b.wired i false) b (step (Wire i 0) b s)
+    × DoneBy (wire_call b.wired i true) b (step (Wire i 1) b s))
     × ((a : ℕ)
-    → ((step (DomainRead 0 a) b s).value ≡ readIn b.wired false (wordAt a))
-    × ((step (DomainRead 1 a) b s).value ≡ readIn b.wired true (wordAt a))
-    × DoneBy (readCall b.wired false (wordAt a)) b (step (DomainRead 0 a) b s)
-    × DoneBy (readCall b.wired true (wordAt a)) b (step (DomainRead 1 a) b s))
+    → ((step (DomainRead 0 a) b s).value ≡ read_in b.wired false (word_at a))
+    × ((step (DomainRead 1 a) b s).value ≡ read_in b.wired true (word_at a))
+    × DoneBy (read_call b.wired false (word_at a)) b (step (DomainRead 0 a) b s)
+    × DoneBy (read_call b.wired true (word_at a)) b (step (DomainRead 1 a) b s))
     × ((a v : ℕ)
-    → DoneBy (writeCall b.wired false (wordAt a) v) b (step (DomainWrite 0 a v) b s)
-    × DoneBy (writeCall b.wired true (wordAt a) v) b (step (DomainWrite 1 a v) b s))
+    → DoneBy (write_call b.wired false (word_at a) v) b (step (DomainWrite 0 a v) b s)
+    × DoneBy (write_call b.wired true (word_at a) v) b (step (DomainWrite 1 a v) b s))
 
 -- ---- registers that a call reads
 
@@ -113,10 +113,10 @@ unfoldable pub Claim-174 : Type 0
 Claim-174 =
     (b : Board) (s : List ℕ)
     → ((h : ℕ) → h < 4
-    → ((step (DomainRead 0 (0x4000 + 32 * h + 0x18)) b s).value ≡ topiOf b.wired.machine h)
-    × ((step (DomainRead 1 (0x4000 + 32 * h + 0x18)) b s).value ≡ topiOf b.wired.child h)
-    × ((step (DomainRead 0 (0x4000 + 32 * h + 0x1C)) b s).value ≡ topiOf b.wired.machine h)
-    × ((step (DomainRead 1 (0x4000 + 32 * h + 0x1C)) b s).value ≡ topiOf b.wired.child h))
+    → ((step (DomainRead 0 (0x4000 + 32 * h + 0x18)) b s).value ≡ topi_of b.wired.machine h)
+    × ((step (DomainRead 1 (0x4000 + 32 * h + 0x18)) b s).value ≡ topi_of b.wired.child h)
+    × ((step (DomainRead 0 (0x4000 + 32 * h + 0x1C)) b s).value ≡ topi_of b.wired.machine h)
+    × ((step (DomainRead 1 (0x4000 + 32 * h + 0x1C)) b s).value ≡ topi_of b.wired.child h))
     × ((k n : ℕ) → k < 2 → n < 32
     → let i = 32 * k + n in
     let wires = b.wired.wires in

@@ -7,8 +7,8 @@
 use Rattle.std.specs.Prelude.{ℕ, ◌+◌, ◌*◌, ◌≤◌, ◌<◌, ◌≡◌, true, false, List, ◌↔◌, ◌⊎◌, length}
 use Rattle.words.specs.Sets.{member}
 use Rattle.file.specs.declared.File.{File}
-use Rattle.files.specs.Files.{theFile}
-use Rattle.board_block.specs.Block.{Board, boardOf, boardSound}
+use Rattle.files.specs.Files.{the_file}
+use Rattle.board_block.specs.Block.{Board, board_of, board_sound}
 use Rattle.claims_registers.specs.Rules.{Long, WiredRules}
 
 pub record FileKept (f : ℕ) (x : File) : Type 0 where
@@ -24,6 +24,6 @@ pub record FileKept (f : ℕ) (x : File) : Type 0 where
 unfoldable pub Claim-118 : Type 0
 Claim-118 =
     ((b : Board) → Long b.wired
-    → (boardSound b ≡ true)
-    ↔ (((h f : ℕ) → h < 4 → f < 5 → FileKept f (theFile b.files (5 * h + f))) × WiredRules b.wired))
-    × ((l : List ℕ) → length l ≡ 650 → Long (boardOf l).wired)
+    → (board_sound b ≡ true)
+    ↔ (((h f : ℕ) → h < 4 → f < 5 → FileKept f (the_file b.files (5 * h + f))) × WiredRules b.wired))
+    × ((l : List ℕ) → length l ≡ 650 → Long (board_of l).wired)

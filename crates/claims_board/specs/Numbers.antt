@@ -6,11 +6,11 @@
 -- Premises: none; Claim-117 speaks of one block. No axioms.
 use Rattle.std.specs.Prelude.{ℕ, ◌%◌, ◌≤◌, ◌<◌, ◌≡◌, true, false, List, ◌↔◌, ◌⊎◌, replicate}
 use Rattle.board_block.specs.Block.{Board, block_of}
-use Rattle.board_block.specs.Start.{startBoard}
+use Rattle.board_block.specs.Start.{start_board}
 use Rattle.board_call.specs.declared.Call.{Call}
 use Rattle.board_call.specs.declared.Call.TheVariants.{Reset, Wire, DomainRead, DomainWrite, PageRead}
 use Rattle.board_call.specs.declared.Call.TheVariants.{PageWrite, Register, Top, Claim, Signals, Move}
-use Rattle.board_call.specs.Calls.{testsRules, present, addressed, selected}
+use Rattle.board_call.specs.Calls.{tests_rules, present, addressed, selected}
 use Rattle.board_call.specs.Outcome.{outcome}
 
 -- ---- refusal 4
@@ -58,12 +58,12 @@ Claim-116 =
     × ((h f : ℕ) → selected (Top h f) ≡ true) × ((h f : ℕ) → selected (Claim h f) ≡ true)
     × ((h : ℕ) → selected (Signals h) ≡ true) × ((oh of nh nf n : ℕ) → selected (Move oh of nh nf n) ≡ true)
     -- the state rules
-    × ((c : Call) → (testsRules c ≡ false) ↔ (c ≡ Reset))
+    × ((c : Call) → (tests_rules c ≡ false) ↔ (c ≡ Reset))
 
 -- ---- both ends
 
 abbrev pub AtStart : Call → ℕ → Type 0
-AtStart c n = (s : List ℕ) → (outcome c (block_of startBoard) (replicate 63 0) s).number ≡ n
+AtStart c n = (s : List ℕ) → (outcome c (block_of start_board) (replicate 63 0) s).number ≡ n
 
 -- the last that is there is done, and the first that is not is refused with 4; the last address of a page and
 -- of a region is done, the first past it and one that is no multiple of 4 are refused with 5; the first and

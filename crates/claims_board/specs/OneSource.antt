@@ -7,14 +7,14 @@
 -- refused; and sources 1 to 63. No axioms.
 use Rattle.std.specs.Prelude.{ℕ, ◌≤◌, ◌≡◌, Bool, true, false, cond, not, ◌&&◌, List, [], ◌∷◌, ◌≢◌, ◌⊎◌, eqb}
 use Rattle.words.specs.Sets.{member}
-use Rattle.source_target.specs.Target.{messageOf}
-use Rattle.source.specs.Pending.{withPending, wireChanged, retargeted}
+use Rattle.source_target.specs.Target.{message_of}
+use Rattle.source.specs.Pending.{with_pending, wire_changed, retargeted}
 use Rattle.domain_region.specs.declared.Word.TheVariants.{Target}
-use Rattle.domain.specs.Domain.{isEnabled, byMessages}
-use Rattle.domain.specs.Slot.{sourceAt}
-use Rattle.wired_state.specs.Wires.{Wired, domainIn, wireSet}
+use Rattle.domain.specs.Domain.{is_enabled, by_messages}
+use Rattle.domain.specs.Slot.{source_at}
+use Rattle.wired_state.specs.Wires.{Wired, domain_in, wire_set}
 use Rattle.domain_sending.specs.Sending.{candidate}
-use Rattle.wired.specs.Controller.{wireCall, writeCall}
+use Rattle.wired.specs.Controller.{wire_call, write_call}
 use Rattle.files.specs.Files.{reached}
 use Rattle.board_block.specs.Block.{Board}
 use Rattle.board_call.specs.declared.Call.TheVariants.{Wire}
@@ -28,9 +28,9 @@ unfoldable pub Claim-96 : Type 0
 Claim-96 =
     (w : Wired) → Sound w → (j : ℕ) → 1 ≤ j → j ≤ 63 → (level : Bool)
     → (i : ℕ) → 1 ≤ i → i ≤ 63 → (i ≡ j → level ≡ member w.wires i)
-    → (c : Bool) → let after = sourceAt (domainIn (wireSet w j level) c) i in
-    let d = domainIn w c in
-    (after ≡ sourceAt d i) × ((isEnabled d && byMessages d) ≡ true → candidate after ≡ false)
+    → (c : Bool) → let after = source_at (domain_in (wire_set w j level) c) i in
+    let d = domain_in w c in
+    (after ≡ source_at d i) × ((is_enabled d && by_messages d) ≡ true → candidate after ≡ false)
 
 -- the call on wire i, with its messages: no other source changes, in either domain; source i is what the wire
 -- makes of it, and where the domain sends it is then sent if it is to be. Its message is sent exactly then,
@@ -39,33 +39,33 @@ Claim-96 =
 unfoldable pub Claim-97 : Type 0
 Claim-97 =
     (w : Wired) → Sound w → (i : ℕ) → 1 ≤ i → i ≤ 63 → (level : Bool)
-    → let after = wireCall w i level in
+    → let after = wire_call w i level in
     ((c : Bool) (j : ℕ) → j ≢ i → 1 ≤ j → j ≤ 63
-    → sourceAt (domainIn after.wired c) j ≡ sourceAt (domainIn w c) j)
-    × ((c : Bool) → let d = domainIn w c in
-    let s = wireChanged (sourceAt d i) (byMessages d) (member w.wires i) level in
-    ((isEnabled d && byMessages d) ≡ true
-    → sourceAt (domainIn after.wired c) i ≡ cond (candidate s) (withPending s false) s)
-    × ((isEnabled d && byMessages d) ≡ false → sourceAt (domainIn after.wired c) i ≡ s))
-    × ((c : Bool) → let d = domainIn w c in
-    let s = wireChanged (sourceAt d i) (byMessages d) (member w.wires i) level in
-    (isEnabled d && byMessages d) ≡ true → candidate s ≡ true
-    → after.messages ≡ messageOf c (sourceAt d i).target ∷ [])
-    × (((c : Bool) → let d = domainIn w c in
-    let s = wireChanged (sourceAt d i) (byMessages d) (member w.wires i) level in
-    (isEnabled d && byMessages d && candidate s) ≡ false) → after.messages ≡ [])
+    → source_at (domain_in after.wired c) j ≡ source_at (domain_in w c) j)
+    × ((c : Bool) → let d = domain_in w c in
+    let s = wire_changed (source_at d i) (by_messages d) (member w.wires i) level in
+    ((is_enabled d && by_messages d) ≡ true
+    → source_at (domain_in after.wired c) i ≡ cond (candidate s) (with_pending s false) s)
+    × ((is_enabled d && by_messages d) ≡ false → source_at (domain_in after.wired c) i ≡ s))
+    × ((c : Bool) → let d = domain_in w c in
+    let s = wire_changed (source_at d i) (by_messages d) (member w.wires i) level in
+    (is_enabled d && by_messages d) ≡ true → candidate s ≡ true
+    → after.messages ≡ message_of c (source_at d i).target ∷ [])
+    × (((c : Bool) → let d = domain_in w c in
+    let s = wire_changed (source_at d i) (by_messages d) (member w.wires i) level in
+    (is_enabled d && by_messages d && candidate s) ≡ false) → after.messages ≡ [])
 
 -- a write to a target sends nothing, and changes its own source's target alone: neither the wires, nor the
 -- other domain, nor any other source of its own
 unfoldable pub Claim-98 : Type 0
 Claim-98 =
     (w : Wired) → Sound w → (c : Bool) (i : ℕ) → 1 ≤ i → i ≤ 63 → (v : ℕ)
-    → let after = writeCall w c (Target i) v in
-    let d = domainIn w c in
+    → let after = write_call w c (Target i) v in
+    let d = domain_in w c in
     (after.messages ≡ []) × (after.wired.wires ≡ w.wires)
-    × (domainIn after.wired (not c) ≡ domainIn w (not c))
-    × ((j : ℕ) → j ≢ i → sourceAt (domainIn after.wired c) j ≡ sourceAt d j)
-    × (sourceAt (domainIn after.wired c) i ≡ retargeted (sourceAt d i) c (byMessages d) v)
+    × (domain_in after.wired (not c) ≡ domain_in w (not c))
+    × ((j : ℕ) → j ≢ i → source_at (domain_in after.wired c) j ≡ source_at d j)
+    × (source_at (domain_in after.wired c) i ≡ retargeted (source_at d i) c (by_messages d) v)
 
 -- ---- on the board
 
@@ -74,9 +74,9 @@ pub record SentNone (b : Board) (x : Stepped) : Type 0 where
   pub files : x.board.files ≡ b.files
 
 pub record SentOne (c : Bool) (i : ℕ) (b : Board) (x : Stepped) : Type 0 where
-  pub messages : x.messages ≡ messageOf c (sourceAt (domainIn b.wired c) i).target ∷ []
+  pub messages : x.messages ≡ message_of c (source_at (domain_in b.wired c) i).target ∷ []
   pub files : x.board.files
-      ≡ reached b.files (messageOf c (sourceAt (domainIn b.wired c) i).target)
+      ≡ reached b.files (message_of c (source_at (domain_in b.wired c) i).target)
 
 -- a wire reaches no file, or the one that its source's target names, with that target's identity, once; which
 -- of these it is, Claim-97 says
@@ -85,6 +85,6 @@ unfoldable pub Claim-99 : Type 0
 Claim-99 =
     (b : Board) → Sound b.wired → (i : ℕ) → 1 ≤ i → i ≤ 63 → (level : ℕ) (s : List ℕ)
     → let x = step (Wire i level) b s in
-    let after = wireCall b.wired i (eqb level 1) in
+    let after = wire_call b.wired i (eqb level 1) in
     (x.board.wired ≡ after.wired) × (x.messages ≡ after.messages)
     × (SentNone b x ⊎ SentOne false i b x ⊎ SentOne true i b x)

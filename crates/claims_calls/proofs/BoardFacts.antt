@@ -6,35 +6,35 @@ use mathlib.Core.List.{List, [], ◌∷◌}
 use native.Mathlib.Omega.{arith}
 use lib.ListN.{length, replicate}
 use Rattle.words.specs.Every.{every}
-use Rattle.file_select.specs.Select.{selectLegal}
-use Rattle.file_select.specs.Deliveries.{deliveryLegal}
+use Rattle.file_select.specs.Select.{select_legal}
+use Rattle.file_select.specs.Deliveries.{delivery_legal}
 use Rattle.file.specs.declared.File.{File}
 use Rattle.file.specs.Rules as rules
-use Rattle.file_words.specs.Stored.{fileAt}
-use Rattle.files.specs.Files.{files_of, filesFrom, theFile, filesSound, soundAt, isGuest}
-use Rattle.files.proofs.FilesLaws.{theFile-withFile-other}
-use Rattle.domain_region.specs.Region.{addressLegal}
-use Rattle.board_block.specs.Block.{Board, boardOf, block_of, boardSound}
-use Rattle.board_block.specs.Start.{startDomain, startBoard}
-use Rattle.domain.specs.Domain.{domaincfgOf, byMessages}
-use Rattle.words.specs.Bits.{bit_of, hasBit}
-use Rattle.board_block_laws.proofs.BlockBack.{board-back, length-blockOf}
+use Rattle.file_words.specs.Stored.{file_at}
+use Rattle.files.specs.Files.{files_of, files_from, the_file, files_sound, sound_at, is_guest}
+use Rattle.files.proofs.FilesLaws.{the_file-with_file-other}
+use Rattle.domain_region.specs.Region.{address_legal}
+use Rattle.board_block.specs.Block.{Board, board_of, block_of, board_sound}
+use Rattle.board_block.specs.Start.{start_domain, start_board}
+use Rattle.domain.specs.Domain.{domaincfg_of, by_messages}
+use Rattle.words.specs.Bits.{bit_of, has_bit}
+use Rattle.board_block_laws.proofs.BlockBack.{board-back, length-block_of}
 use Rattle.board_block_laws.proofs.StartEffects.{start-sound, start-shaped}
 use Rattle.board_call.specs.declared.Call.{Call}
 use Rattle.board_call.specs.declared.Call.TheVariants.{Reset, Wire, DomainRead, DomainWrite, PageRead}
 use Rattle.board_call.specs.declared.Call.TheVariants.{PageWrite}
 use Rattle.board_call.specs.declared.Call.TheVariants.{Register, Top, Claim, Signals, Move}
-use Rattle.board_call.specs.Change.{onFile, answering, change}
-use Rattle.board_call.specs.Numbers.{isWire, isFile, isGuestFile, is_move, isPageAddress}
-use Rattle.board_call.specs.Calls.{testsRules, present, addressed, selected, row_of}
-use Rattle.board_call.specs.Refusal.{refusalOf}
+use Rattle.board_call.specs.Change.{on_file, answering, change}
+use Rattle.board_call.specs.Numbers.{is_wire, is_file, is_guest_file, is_move, is_page_address}
+use Rattle.board_call.specs.Calls.{tests_rules, present, addressed, selected, row_of}
+use Rattle.board_call.specs.Refusal.{refusal_of}
 use Rattle.board_call.proofs.RefusalLaws.{numbers-name}
-use Rattle.board_call.specs.Outcome.{Stepped, thenSent, step}
-use Rattle.board_call_laws.proofs.StepEffects.{step-onFile, step-answering}
-use Rattle.board_runs.specs.Ready.{boardIn}
+use Rattle.board_call.specs.Outcome.{Stepped, then_sent, step}
+use Rattle.board_call_laws.proofs.StepEffects.{step-on_file, step-answering}
+use Rattle.board_runs.specs.Ready.{board_in}
 use Rattle.board_runs.proofs.RunsEffects.{ready-refusal}
 use Rattle.move_laws.specs.Premises.{ByMessages}
-use Rattle.move_laws.proofs.ShiftEffects.{lentFrom, started-ready}
+use Rattle.move_laws.proofs.ShiftEffects.{lent_from, started-ready}
 use Rattle.move_cases.specs.Example.{start as shift-start}
 use Rattle.move_cases.proofs.ExampleShift.{example}
 use Rattle.monitor_answer.specs.declared.VskAnswer.{VskAnswer}
@@ -45,17 +45,17 @@ use Rattle.claims_calls.proofs.BoardCalls.{claim-84}
 
 -- ---- one file
 
-module _ (b : Board) (sound : boardSound b ≡ true) where
-  on-file : (k : ℕ) (f : File) (v : ℕ) (u : List ℕ) → OnlyFile k b (thenSent (onFile b k f v u)).board
+module _ (b : Board) (sound : board_sound b ≡ true) where
+  on-file : (k : ℕ) (f : File) (v : ℕ) (u : List ℕ) → OnlyFile k b (then_sent (on_file b k f v u)).board
   on-file k f v u =
-      let e = step-onFile b sound k f v u in
+      let e = step-on_file b sound k f v u in
       record {
-        files = λ j n. ap (λ (s : Stepped). theFile s.board.files j) e
-            ∙ theFile-withFile-other b.files k f j n;
+        files = λ j n. ap (λ (s : Stepped). the_file s.board.files j) e
+            ∙ the_file-with_file-other b.files k f j n;
         wired = ap (λ (s : Stepped). s.board.wired) e;
       }
 
-  answers : (v : ℕ) (u : List ℕ) → (thenSent (answering b v u)).board ≡ b
+  answers : (v : ℕ) (u : List ℕ) → (then_sent (answering b v u)).board ≡ b
   answers v u = ap (λ (s : Stepped). s.board) (step-answering b sound v u)
 
 pub claim-91 : Claim-91
@@ -72,27 +72,27 @@ claim-91 b sound h f u = (
 -- ---- the table
 
 abbrev start : List ℕ
-start = block_of startBoard
+start = block_of start_board
 
 abbrev log : List ℕ
 log = replicate 63 0
 
 start-long : length start ≡ 650
-start-long = length-blockOf startBoard start-shaped
+start-long = length-block_of start_board start-shaped
 
-start-keeps : boardSound (boardOf start) ≡ true
-start-keeps = ap boardSound (board-back startBoard start-shaped) ∙ start-sound
+start-keeps : board_sound (board_of start) ≡ true
+start-keeps = ap board_sound (board-back start_board start-shaped) ∙ start-sound
 
 -- a block whose first file has a delivery that is none
 abbrev broken : List ℕ
 broken = 2 ∷ replicate 649 0
 
-broken-breaks : boardSound (boardOf broken) ≡ false
-unfolding boardSound boardOf files_of filesFrom filesSound every soundAt theFile fileAt isGuest rules.fileSound
-    rules.deliveryRule deliveryLegal
+broken-breaks : board_sound (board_of broken) ≡ false
+unfolding board_sound board_of files_of files_from files_sound every sound_at the_file file_at is_guest rules.file_sound
+    rules.delivery_rule delivery_legal
 broken-breaks = refl
 
-given : (c : Call) (l g : List ℕ) (n : ℕ) → refusalOf c l g ≡ n → Given c n
+given : (c : Call) (l g : List ℕ) (n : ℕ) → refusal_of c l g ≡ n → Given c n
 given c l g n e = record { block = l; log = g; refused = e }
 
 module _ (c : Call) where
@@ -107,44 +107,44 @@ module _ (c : Call) where
   unfolding Claim-84
   two = given c start [] 2 ((claim-84 c start []).1 start-long (λ e. omega arith))
 
-  three : testsRules c ≡ true → Given c 3
+  three : tests_rules c ≡ true → Given c 3
   unfolding Claim-84
   three t = given c broken log 3 ((claim-84 c broken log).2 refl refl t broken-breaks)
 
-  four : present c (boardOf start) ≡ false → Given c 4
+  four : present c (board_of start) ≡ false → Given c 4
   unfolding Claim-84
   four n = given c start log 4 ((claim-84 c start log).3 passes n)
 
-  five : present c (boardOf start) ≡ true → addressed c ≡ false → Given c 5
+  five : present c (board_of start) ≡ true → addressed c ≡ false → Given c 5
   unfolding Claim-84
   five n a = given c start log 5 ((claim-84 c start log).4 passes n a)
 
-  six : present c (boardOf start) ≡ true → addressed c ≡ true → selected c ≡ false → Given c 6
+  six : present c (board_of start) ≡ true → addressed c ≡ true → selected c ≡ false → Given c 6
   unfolding Claim-84
   six n a s = given c start log 6 ((claim-84 c start log).5 passes n a s)
 
-  done : present c (boardOf start) ≡ true → addressed c ≡ true → selected c ≡ true → Given c 0
+  done : present c (board_of start) ≡ true → addressed c ≡ true → selected c ≡ true → Given c 0
   unfolding Claim-84
   done n a s = given c start log 0 ((claim-84 c start log).6 passes n a s)
 
 -- after a reset the child domain is in direct mode
-direct : present (Move 0 2 1 3 1) (boardOf start) ≡ false
-unfolding row_of is_move isGuestFile startBoard startDomain byMessages domaincfgOf hasBit bit_of
-direct = ap (λ (b : Board). byMessages b.wired.child) (board-back startBoard start-shaped)
+direct : present (Move 0 2 1 3 1) (board_of start) ≡ false
+unfolding row_of is_move is_guest_file start_board start_domain by_messages domaincfg_of has_bit bit_of
+direct = ap (λ (b : Board). by_messages b.wired.child) (board-back start_board start-shaped)
 
 -- the shift of Claim-111 starts with a child domain that sends messages
 accepted : Given (Move 0 2 1 3 1) 0
-unfolding row_of is_move isGuestFile ByMessages
+unfolding row_of is_move is_guest_file ByMessages
 accepted =
     let c = Move 0 2 1 3 1 in
     let p = example.premises in
-    let x = lentFrom shift-start.block shift-start.saved in
+    let x = lent_from shift-start.block shift-start.saved in
     given c x.block x.log 0
     (ready-refusal c x (started-ready x.block x.saved p.started)
-    ∙ numbers-name (row_of c).tests (boardIn x) p.messages refl refl)
+    ∙ numbers-name (row_of c).tests (board_in x) p.messages refl refl)
 
 pub claim-92 : Claim-92
-unfolding Claim-92 row_of isWire isFile isGuestFile is_move isPageAddress addressLegal selectLegal
+unfolding Claim-92 row_of is_wire is_file is_guest_file is_move is_page_address address_legal select_legal
 claim-92 = (
   (λ c. (one c, two c)),
   (λ c t. three c t),

@@ -5,7 +5,7 @@ use Rattle.std.specs.Prelude.{ℕ, ◌≡◌, List}
 use Rattle.board_call.specs.declared.Answer.{Answer}
 use Rattle.board_call.specs.declared.Answer.TheVariants.{Done, StateLength, LogLength, BrokenRule, NoSuch}
 use Rattle.board_call.specs.declared.Answer.TheVariants.{BadAddress, IllegalSelect}
-use Rattle.board_call.specs.Answer.{refusalNumber, answerValue, answerCount}
+use Rattle.board_call.specs.Answer.{refusal_number, answer_value, answer_count}
 use Rattle.board_call.specs.declared.Call.{Call}
 use Rattle.board_call.specs.Outcome.{Outcome, outcome, Gives, Does}
 use Rattle.monitor_answer.specs.declared.VskAnswer.{VskAnswer}
@@ -13,7 +13,7 @@ use Rattle.monitor_answer.specs.Told.{Told, Tells}
 
 -- r is the refusal n of the paper's table, with 0 and 0
 abbrev pub RefusedAs : Answer → ℕ → Type 0
-RefusedAs r n = (refusalNumber r ≡ n) × (answerValue r ≡ 0) × (answerCount r ≡ 0)
+RefusedAs r n = (refusal_number r ≡ n) × (answer_value r ≡ 0) × (answer_count r ≡ 0)
 
 -- the number of each case of an answer: done is 0 with its value and count, and the refusals are 1 for the
 -- state block's length, 2 for the log's, 3 for a broken state rule, 4 for what is not there, 5 for an
@@ -23,18 +23,18 @@ RefusedAs r n = (refusalNumber r ≡ n) × (answerValue r ≡ 0) × (answerCount
 unfoldable pub Claim-177 : Type 0
 Claim-177 =
     ((v n : ℕ)
-    → (refusalNumber (Done v n) ≡ 0) × (answerValue (Done v n) ≡ v) × (answerCount (Done v n) ≡ n))
+    → (refusal_number (Done v n) ≡ 0) × (answer_value (Done v n) ≡ v) × (answer_count (Done v n) ≡ n))
     × RefusedAs StateLength 1 × RefusedAs LogLength 2 × RefusedAs BrokenRule 3 × RefusedAs NoSuch 4
     × RefusedAs BadAddress 5 × RefusedAs IllegalSelect 6
     × ((o : Outcome) (r : Answer) (l g s : List ℕ) → Gives o r l g s
-    → (refusalNumber r ≡ o.number) × (answerValue r ≡ o.value) × (answerCount r ≡ o.count)
+    → (refusal_number r ≡ o.number) × (answer_value r ≡ o.value) × (answer_count r ≡ o.count)
     × (l ≡ o.block) × (g ≡ o.log) × (s ≡ o.saved))
     × ((o : Outcome) (r : VskAnswer) (l g s : List ℕ) → Told o r l g s
     → (r.refusal ≡ o.number) × (r.value ≡ o.value) × (r.count ≡ o.count)
     × (l ≡ o.block) × (g ≡ o.log) × (s ≡ o.saved))
     × ((c : Call) (l g l' g' s : List ℕ) (r : Answer) → Does c l g r l' g'
     → let o = outcome c l g s in
-    (refusalNumber r ≡ o.number) × (answerValue r ≡ o.value) × (answerCount r ≡ o.count)
+    (refusal_number r ≡ o.number) × (answer_value r ≡ o.value) × (answer_count r ≡ o.count)
     × (l' ≡ o.block) × (g' ≡ o.log) × (s ≡ o.saved))
     × ((c : Call) (l g l' g' s : List ℕ) (r : VskAnswer) → Tells c l g r l' g'
     → let o = outcome c l g s in

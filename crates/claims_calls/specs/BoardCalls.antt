@@ -11,27 +11,27 @@
 use Rattle.std.specs.Prelude.{ℕ, ◌^◌, ◌≤◌, ◌<◌, ◌≡◌, true, false, List, [], ◌≢◌, ◌↔◌, ◌⊎◌, eqb, length, get_or}
 use contract.Lifetimes.{Lfts}
 use Rattle.std.specs.Borrow.{Bor}
-use Rattle.words.specs.Bits.{hasBit}
+use Rattle.words.specs.Bits.{has_bit}
 use Rattle.words.specs.Sets.{WordsFit}
 use Rattle.file.specs.Shape.{Shaped}
 use Rattle.file.specs.Top.{top_of}
-use Rattle.files.specs.Files.{fileNumber, theFile}
-use Rattle.domain.specs.Domain.{isEnabled, byMessages}
-use Rattle.domain.specs.Structure.{structureAt}
+use Rattle.files.specs.Files.{file_number, the_file}
+use Rattle.domain.specs.Domain.{is_enabled, by_messages}
+use Rattle.domain.specs.Structure.{structure_at}
 use Rattle.domain_laws.specs.Shape.{DomainShaped}
-use Rattle.domain_direct.specs.Direct.{topiOf}
-use Rattle.wired_state.specs.Wires.{domainIn}
-use Rattle.board_block.specs.Block.{Board, boardOf, block_of, boardSound}
-use Rattle.board_block.specs.Start.{startBoard}
+use Rattle.domain_direct.specs.Direct.{topi_of}
+use Rattle.wired_state.specs.Wires.{domain_in}
+use Rattle.board_block.specs.Block.{Board, board_of, block_of, board_sound}
+use Rattle.board_block.specs.Start.{start_board}
 use Rattle.board_block_laws.specs.Shape.{BoardShaped}
 use Rattle.board_call.specs.declared.Answer.{Answer}
 use Rattle.board_call.specs.declared.Call.{Call}
 use Rattle.board_call.specs.declared.Call.TheVariants.{Reset, Wire, DomainRead, DomainWrite, PageRead}
 use Rattle.board_call.specs.declared.Call.TheVariants.{PageWrite}
 use Rattle.board_call.specs.declared.Call.TheVariants.{Register, Top, Claim, Signals}
-use Rattle.board_call.specs.Calls.{testsRules, present, addressed, selected}
-use Rattle.board_call.specs.Refusal.{refusalOf}
-use Rattle.board_call.specs.Change.{signalsTo}
+use Rattle.board_call.specs.Calls.{tests_rules, present, addressed, selected}
+use Rattle.board_call.specs.Refusal.{refusal_of}
+use Rattle.board_call.specs.Change.{signals_to}
 use Rattle.board_call.specs.Outcome.{Outcome, step, outcome, Gives, Does}
 use Rattle.board_call_laws.specs.Small.{Small}
 use Rattle.board_wired_calls.proofs.wire.Reads as wire
@@ -107,30 +107,30 @@ Claim-83 =
 -- both blocks have their lengths, and the block keeps the state rules where they are tested
 abbrev pub Passes : Call → List ℕ → List ℕ → Type 0
 Passes c l g =
-    (length l ≡ 650) × (length g ≡ 63) × (testsRules c ≡ true → boardSound (boardOf l) ≡ true)
+    (length l ≡ 650) × (length g ≡ 63) × (tests_rules c ≡ true → board_sound (board_of l) ≡ true)
 
 -- the table of refusals: each number where it applies and no lower one does, and 0 where none does
 -- [01 B7 B10 C8 C9 C10 C11 C12 C13 C14 C15 C16 C18 C21 X5]
 -- [02 M101.5]
 unfoldable pub Claim-84 : Type 0
 Claim-84 =
-    (c : Call) (l g : List ℕ) → let b = boardOf l in
-    (length l ≢ 650 → refusalOf c l g ≡ 1)
-    × (length l ≡ 650 → length g ≢ 63 → refusalOf c l g ≡ 2)
-    × (length l ≡ 650 → length g ≡ 63 → testsRules c ≡ true → boardSound (boardOf l) ≡ false
-    → refusalOf c l g ≡ 3)
-    × (Passes c l g → present c b ≡ false → refusalOf c l g ≡ 4)
-    × (Passes c l g → present c b ≡ true → addressed c ≡ false → refusalOf c l g ≡ 5)
-    × (Passes c l g → present c b ≡ true → addressed c ≡ true → selected c ≡ false → refusalOf c l g ≡ 6)
-    × (Passes c l g → present c b ≡ true → addressed c ≡ true → selected c ≡ true → refusalOf c l g ≡ 0)
+    (c : Call) (l g : List ℕ) → let b = board_of l in
+    (length l ≢ 650 → refusal_of c l g ≡ 1)
+    × (length l ≡ 650 → length g ≢ 63 → refusal_of c l g ≡ 2)
+    × (length l ≡ 650 → length g ≡ 63 → tests_rules c ≡ true → board_sound (board_of l) ≡ false
+    → refusal_of c l g ≡ 3)
+    × (Passes c l g → present c b ≡ false → refusal_of c l g ≡ 4)
+    × (Passes c l g → present c b ≡ true → addressed c ≡ false → refusal_of c l g ≡ 5)
+    × (Passes c l g → present c b ≡ true → addressed c ≡ true → selected c ≡ false → refusal_of c l g ≡ 6)
+    × (Passes c l g → present c b ≡ true → addressed c ≡ true → selected c ≡ true → refusal_of c l g ≡ 0)
 
 -- a refused call answers its number, 0 and 0, and changes neither block, nor the saved numbers of a move
 -- [01 C19 V4]
 unfoldable pub Claim-85 : Type 0
 Claim-85 =
-    (c : Call) (l g s : List ℕ) → refusalOf c l g ≢ 0
+    (c : Call) (l g s : List ℕ) → refusal_of c l g ≢ 0
     → outcome c l g s
-    ≡ record { number = refusalOf c l g; value = 0; count = 0; block = l; log = g; saved = s }
+    ≡ record { number = refusal_of c l g; value = 0; count = 0; block = l; log = g; saved = s }
 
 -- ---- what an accepted call leaves
 
@@ -140,10 +140,10 @@ Claim-85 =
 unfoldable pub Claim-86 : Type 0
 Claim-86 =
     (l g s : List ℕ) → WordsFit l → ((k : ℕ) → get_or s k 0 < 2 ^ 64) → (c : Call) → Small c
-    → boardSound (boardOf l) ≡ true → refusalOf c l g ≡ 0
-    → let x = step c (boardOf l) s in
-    (boardSound x.board ≡ true) × BoardShaped x.board
-    × ((k : ℕ) → k < 20 → Shaped (theFile x.board.files k)) × (length x.messages ≤ 63)
+    → board_sound (board_of l) ≡ true → refusal_of c l g ≡ 0
+    → let x = step c (board_of l) s in
+    (board_sound x.board ≡ true) × BoardShaped x.board
+    × ((k : ℕ) → k < 20 → Shaped (the_file x.board.files k)) × (length x.messages ≤ 63)
     × ((k : ℕ) → get_or x.saved k 0 < 2 ^ 64)
 
 -- reset leaves the board that the paper describes, whatever the block held, and sends nothing
@@ -151,19 +151,19 @@ Claim-86 =
 unfoldable pub Claim-87 : Type 0
 Claim-87 =
     (b : Board) (s : List ℕ)
-    → (step Reset b s ≡ record { board = startBoard; value = 0; messages = []; saved = s })
-    × (boardSound startBoard ≡ true)
+    → (step Reset b s ≡ record { board = start_board; value = 0; messages = []; saved = s })
+    × (board_sound start_board ≡ true)
 
 -- a board has one block, and a block one board. The lengths of a board are 20 files with eight words in each
 -- of their sets, two words of wires, and those of its domains (Claim-72)
 -- [01 B9]
 unfoldable pub Claim-88 : Type 0
 Claim-88 =
-    ((l : List ℕ) → length l ≡ 650 → block_of (boardOf l) ≡ l)
-    × ((b : Board) → BoardShaped b → (boardOf (block_of b) ≡ b) × (length (block_of b) ≡ 650))
+    ((l : List ℕ) → length l ≡ 650 → block_of (board_of l) ≡ l)
+    × ((b : Board) → BoardShaped b → (board_of (block_of b) ≡ b) × (length (block_of b) ≡ 650))
     × ((b : Board) → BoardShaped b
     ↔ ((length b.files ≡ 20)
-    × ((k : ℕ) → k < 20 → let x = theFile b.files k in
+    × ((k : ℕ) → k < 20 → let x = the_file b.files k in
     (length x.pending ≡ 8) × (length x.enable ≡ 8))
     × (length b.wired.wires ≡ 2) × DomainShaped b.wired.machine × DomainShaped b.wired.child))
 
@@ -176,16 +176,16 @@ Claim-88 =
 unfoldable pub Claim-89 : Type 0
 Claim-89 =
     (b : Board) (h f : ℕ) → f < 5
-    → let x = theFile b.files (fileNumber h f) in
-    let d = domainIn b.wired (eqb f 1) in
-    hasBit (signalsTo b h 5) f ≡ true
+    → let x = the_file b.files (file_number h f) in
+    let d = domain_in b.wired (eqb f 1) in
+    has_bit (signals_to b h 5) f ≡ true
     ↔ (((x.delivery ≡ 1) × (top_of 255 x ≢ 0))
-    ⊎ ((f < 2) × (x.delivery ≡ 0x40000000) × (byMessages d ≡ false) × (isEnabled d ≡ true)
-    × ((structureAt d h).idelivery ≡ 1) × (((structureAt d h).iforce ≢ 0) ⊎ (topiOf d h ≢ 0))))
+    ⊎ ((f < 2) × (x.delivery ≡ 0x40000000) × (by_messages d ≡ false) × (is_enabled d ≡ true)
+    × ((structure_at d h).idelivery ≡ 1) × (((structure_at d h).iforce ≢ 0) ⊎ (topi_of d h ≢ 0))))
 
 -- the signals of a hart, and so what a call on them answers, are below 32
 -- [01 S20]
 unfoldable pub Claim-161 : Type 0
 Claim-161 =
-    ((b : Board) (h : ℕ) → signalsTo b h 5 < 32)
+    ((b : Board) (h : ℕ) → signals_to b h 5 < 32)
     × ((l g s : List ℕ) (h : ℕ) → (outcome (Signals h) l g s).value < 32)

@@ -8,14 +8,14 @@
 use Rattle.std.specs.Prelude.{ℕ, ◌≡◌, true, List, ◌≢◌}
 use contract.Lifetimes.{Lfts}
 use Rattle.std.specs.Borrow.{Bor}
-use Rattle.files.specs.Files.{fileNumber, theFile}
-use Rattle.board_block.specs.Block.{Board, boardSound}
+use Rattle.files.specs.Files.{file_number, the_file}
+use Rattle.board_block.specs.Block.{Board, board_sound}
 use Rattle.board_call.specs.declared.Call.{Call}
 use Rattle.board_call.specs.declared.Call.TheVariants.{Reset, Wire, DomainRead, DomainWrite, PageRead}
 use Rattle.board_call.specs.declared.Call.TheVariants.{PageWrite}
 use Rattle.board_call.specs.declared.Call.TheVariants.{Register, Top, Claim, Signals, Move}
-use Rattle.board_call.specs.Calls.{testsRules}
-use Rattle.board_call.specs.Refusal.{refusalOf}
+use Rattle.board_call.specs.Calls.{tests_rules}
+use Rattle.board_call.specs.Refusal.{refusal_of}
 use Rattle.board_call.specs.Outcome.{Outcome, step}
 use Rattle.monitor_answer.specs.declared.VskAnswer.{VskAnswer}
 use Rattle.monitor_answer.specs.Told.{Told, Tells}
@@ -33,17 +33,17 @@ use Rattle.monitor.proofs.vsk_signals.Reads as vsk-signals
 -- ---- one file
 
 pub record OnlyFile (k : ℕ) (b b' : Board) : Type 0 where
-  pub files : (j : ℕ) → j ≢ k → theFile b'.files j ≡ theFile b.files j
+  pub files : (j : ℕ) → j ≢ k → the_file b'.files j ≡ the_file b.files j
   pub wired : b'.wired ≡ b.wired
 
 -- a page write, a register access and a claim leave every other file and the wired controller; a page read, a
 -- read of the top or of the signals leave the board
 unfoldable pub Claim-91 : Type 0
 Claim-91 =
-    (b : Board) → boardSound b ≡ true → (h f : ℕ) (u : List ℕ)
-    → ((a v : ℕ) → OnlyFile (fileNumber h f) b (step (PageWrite h f a v) b u).board)
-    × ((k s v : ℕ) → OnlyFile (fileNumber h f) b (step (Register h f k s v) b u).board)
-    × OnlyFile (fileNumber h f) b (step (Claim h f) b u).board
+    (b : Board) → board_sound b ≡ true → (h f : ℕ) (u : List ℕ)
+    → ((a v : ℕ) → OnlyFile (file_number h f) b (step (PageWrite h f a v) b u).board)
+    × ((k s v : ℕ) → OnlyFile (file_number h f) b (step (Register h f k s v) b u).board)
+    × OnlyFile (file_number h f) b (step (Claim h f) b u).board
     × ((a : ℕ) → (step (PageRead h f a) b u).board ≡ b)
     × ((step (Top h f) b u).board ≡ b)
     × ((step (Signals h) b u).board ≡ b)
@@ -53,7 +53,7 @@ Claim-91 =
 pub record Given (c : Call) (n : ℕ) : Type 0 where
   pub block : List ℕ
   pub log : List ℕ
-  pub refused : refusalOf c block log ≡ n
+  pub refused : refusal_of c block log ≡ n
 
 -- every line of the table of refusals is given for some input: 1 and 2 by every call, 3 by every call that
 -- tests the rules; 4 for each thing that may not be there, and by a move for each thing that bars it: its
@@ -64,7 +64,7 @@ pub record Given (c : Call) (n : ℕ) : Type 0 where
 unfoldable pub Claim-92 : Type 0
 Claim-92 =
     ((c : Call) → Given c 1 × Given c 2)
-    × ((c : Call) → testsRules c ≡ true → Given c 3)
+    × ((c : Call) → tests_rules c ≡ true → Given c 3)
     × (Given (Wire 0 1) 4 × Given (Wire 64 1) 4 × Given (Wire 1 2) 4)
     × (Given (DomainRead 2 0) 4 × Given (DomainWrite 2 0 0) 4)
     × (Given (PageRead 4 0 0) 4 × Given (PageRead 0 5 0) 4 × Given (PageWrite 4 0 0 1) 4)

@@ -5,40 +5,40 @@ use mathlib.Core.Bool.{true, false, false≢true}
 use mathlib.Core.List.{List, [], ◌∷◌}
 use lib.Dec.{eqb}
 use borrow.Author.Tests.{eqb-true}
-use Rattle.words.specs.Bits.{bit_of, hasBit, withBit, withoutBit}
+use Rattle.words.specs.Bits.{bit_of, has_bit, with_bit, without_bit}
 use Rattle.words.specs.Parts.{reversed, field_of, packed}
 use Rattle.words.specs.Sets.{member, insert, remove, put}
 use Rattle.words.proofs.TestsLaws.{and_first, and_second}
-use Rattle.file_select.specs.Select.{selectLegal, registerOf}
-use Rattle.file.specs.Page.{arrived, pageWritten}
-use Rattle.file.specs.Top.{passes, qualifies, lowest, topIdentity, top_of}
-use Rattle.file.specs.Register.{held, accessedAt, accessed}
-use Rattle.file_words.specs.Stored.{fileWords}
-use Rattle.source_mode.specs.Mode.{isActive}
-use Rattle.file_message.specs.Message.{logWord}
-use Rattle.source_target.specs.Target.{hartOf, guestOf, number_of, receiverOf, keptTarget, messageOf}
+use Rattle.file_select.specs.Select.{select_legal, register_of}
+use Rattle.file.specs.Page.{arrived, page_written}
+use Rattle.file.specs.Top.{passes, qualifies, lowest, top_identity, top_of}
+use Rattle.file.specs.Register.{held, accessed_at, accessed}
+use Rattle.file_words.specs.Stored.{file_words}
+use Rattle.source_mode.specs.Mode.{is_active}
+use Rattle.file_message.specs.Message.{log_word}
+use Rattle.source_target.specs.Target.{hart_of, guest_of, number_of, receiver_of, kept_target, message_of}
 use Rattle.domain_delivery.specs.Delivery.{lets}
 use Rattle.source.specs.Pending.{redelivered}
-use Rattle.domain.specs.Domain.{domaincfgOf, byMessages, withDomaincfg, withGenmsi}
-use Rattle.domain.specs.Slot.{sourceAt, withSource}
-use Rattle.domain.specs.Structure.{structureAt}
-use Rattle.domain_domaincfg.specs.Domaincfg.{keptDomaincfg, redeliveredAt, redeliveredFrom, modeSettled}
-use Rattle.domain_domaincfg.specs.Domaincfg.{domaincfgWritten}
-use Rattle.domain_direct.specs.Direct.{standing, eligible, precedes, topFrom, topSource, topiOf}
-use Rattle.domain_registers.specs.Read.{registerValue as read_of}
-use Rattle.domain_region.specs.Region.{wordAt, word_in, nameIn, registers, addressLegal}
+use Rattle.domain.specs.Domain.{domaincfg_of, by_messages, with_domaincfg, with_genmsi}
+use Rattle.domain.specs.Slot.{source_at, with_source}
+use Rattle.domain.specs.Structure.{structure_at}
+use Rattle.domain_domaincfg.specs.Domaincfg.{kept_domaincfg, redelivered_at, redelivered_from, mode_settled}
+use Rattle.domain_domaincfg.specs.Domaincfg.{domaincfg_written}
+use Rattle.domain_direct.specs.Direct.{standing, eligible, precedes, top_from, top_source, topi_of}
+use Rattle.domain_registers.specs.Read.{register_value as read_of}
+use Rattle.domain_region.specs.Region.{word_at, word_in, name_in, registers, address_legal}
 use Rattle.board_call.specs.Calls.{row_of}
-use Rattle.board_call.specs.Refusal.{nameTests, firstFailed, nameRefusalBy}
+use Rattle.board_call.specs.Refusal.{name_tests, first_failed, name_refusal_by}
 use Rattle.claims_cases.specs.Table.{Claim-170, table, same, holds}
 
 pub table-holds : holds table ≡ true
-unfolding holds table same top_of topIdentity lowest qualifies passes member hasBit bit_of pageWritten
-    arrived insert withBit reversed fileWords accessed accessedAt selectLegal registerOf held topiOf
-    topSource topFrom standing eligible precedes lets structureAt sourceAt byMessages domaincfgOf hartOf
-    guestOf number_of field_of keptTarget receiverOf packed messageOf logWord read_of domaincfgWritten
-    modeSettled keptDomaincfg withDomaincfg withGenmsi redeliveredFrom redeliveredAt redelivered withSource
-    isActive put remove withoutBit wordAt word_in nameIn registers nameRefusalBy nameTests firstFailed
-    row_of addressLegal
+unfolding holds table same top_of top_identity lowest qualifies passes member has_bit bit_of page_written
+    arrived insert with_bit reversed file_words accessed accessed_at select_legal register_of held topi_of
+    top_source top_from standing eligible precedes lets structure_at source_at by_messages domaincfg_of hart_of
+    guest_of number_of field_of kept_target receiver_of packed message_of log_word read_of domaincfg_written
+    mode_settled kept_domaincfg with_domaincfg with_genmsi redelivered_from redelivered_at redelivered with_source
+    is_active put remove without_bit word_at word_in name_in registers name_refusal_by name_tests first_failed
+    row_of address_legal
 table-holds = refl
 
 pub claim-170 : Claim-170

@@ -2,7 +2,7 @@
 -- the block after a reset. 01, "Table cases", "Calls and their refusals".
 --   answered cs c     what the call c answers after the calls cs: refusal, value, count, and then the first
 --                     word of the log
---   fiveAndNineAt t   identities 5 and 9 enabled and sent to guest file 1 of hart 0, and its threshold t
+--   five_and_nine_at t   identities 5 and 9 enabled and sent to guest file 1 of hart 0, and its threshold t
 --   detached i t      source i of the machine domain detached, its target t, enabled and pending
 -- In a register access 0 reads and 1 writes; domain 0 is the machine domain and 1 its child.
 -- Premises: none. No axioms.
@@ -11,16 +11,16 @@ use Rattle.board_call.specs.declared.Call.{Call}
 use Rattle.board_call.specs.declared.Call.TheVariants.{DomainRead, DomainWrite, PageWrite, Register, Top}
 use Rattle.board_call.specs.Outcome.{outcome}
 use Rattle.board_runs.specs.Runs.{ran}
-use Rattle.board_runs.specs.Ready.{atReset}
+use Rattle.board_runs.specs.Ready.{at_reset}
 
 abbrev pub answered : List Call → Call → List ℕ
 answered cs c =
-    let x = ran cs atReset in
+    let x = ran cs at_reset in
     let o = outcome c x.block x.log x.saved in
     o.number ∷ o.value ∷ o.count ∷ get_or o.log 0 0 ∷ []
 
-abbrev pub fiveAndNineAt : ℕ → List Call
-fiveAndNineAt t =
+abbrev pub five_and_nine_at : ℕ → List Call
+five_and_nine_at t =
     Register 0 2 1 0xC0 0x220 ∷ PageWrite 0 2 0 9 ∷ PageWrite 0 2 0 5 ∷ Register 0 2 1 0x72 t ∷ []
 
 abbrev pub detached : ℕ → ℕ → List Call
@@ -40,11 +40,11 @@ delegated =
 unfoldable pub Claim-163 : Type 0
 Claim-163 =
     -- T1, T2, T3
-    (answered (fiveAndNineAt 0) (Top 0 2) ≡ 0 ∷ 0x00050005 ∷ 0 ∷ 0 ∷ [])
-    × (answered (fiveAndNineAt 5) (Top 0 2) ≡ 0 ∷ 0 ∷ 0 ∷ 0 ∷ [])
-    × (answered (fiveAndNineAt 6) (Top 0 2) ≡ 0 ∷ 0x00050005 ∷ 0 ∷ 0 ∷ [])
+    (answered (five_and_nine_at 0) (Top 0 2) ≡ 0 ∷ 0x00050005 ∷ 0 ∷ 0 ∷ [])
+    × (answered (five_and_nine_at 5) (Top 0 2) ≡ 0 ∷ 0 ∷ 0 ∷ 0 ∷ [])
+    × (answered (five_and_nine_at 6) (Top 0 2) ≡ 0 ∷ 0x00050005 ∷ 0 ∷ 0 ∷ [])
     -- T4
-    × (ran (PageWrite 0 2 0 256 ∷ []) atReset ≡ atReset)
+    × (ran (PageWrite 0 2 0 256 ∷ []) at_reset ≡ at_reset)
     -- T5
     × (answered (PageWrite 0 2 4 0x05000000 ∷ []) (Register 0 2 0 0x80 0) ≡ 0 ∷ 0x20 ∷ 0 ∷ 0 ∷ [])
     -- T6, T7

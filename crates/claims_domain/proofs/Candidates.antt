@@ -10,24 +10,24 @@ use lib.Dec.{eqb}
 use lib.ListN.{length, get_or}
 use borrow.Author.Tests.{eqb-true, eq-eqb}
 use Rattle.words.proofs.TestsLaws.{tested, and_first, and_second, and_both, or_cases, or_left, or_right}
-use Rattle.source_mode.specs.Mode.{isActive}
+use Rattle.source_mode.specs.Mode.{is_active}
 use Rattle.source.specs.declared.Source.{Source}
-use Rattle.domain.specs.Slot.{sourceAt}
+use Rattle.domain.specs.Slot.{source_at}
 use Rattle.domain_sending.specs.Sending.{candidate}
 use Rattle.files_laws.specs.Messages.{any_of}
-use Rattle.domain_sending_laws.specs.Candidates.{numbersFrom, thoseWith, candidates}
+use Rattle.domain_sending_laws.specs.Candidates.{numbers_from, those_with, candidates}
 use Rattle.claims_domain.specs.Sending.{Claim-147}
 
 module _ (p : ℕ → Bool) where
   abbrev those : ℕ → ℕ → List ℕ
-  those a n = thoseWith p (numbersFrom a n)
+  those a n = those_with p (numbers_from a n)
 
   those-hit : (a n : ℕ) → p a ≡ true → those a (suc n) ≡ a ∷ those (suc a) n
-  unfolding thoseWith numbersFrom
+  unfolding those_with numbers_from
   those-hit a n t = simp t
 
   those-miss : (a n : ℕ) → p a ≡ false → those a (suc n) ≡ those (suc a) n
-  unfolding thoseWith numbersFrom
+  unfolding those_with numbers_from
   those-miss a n f = simp f
 
   -- ---- in order
@@ -52,7 +52,7 @@ module _ (p : ℕ → Bool) where
   ascends-lower a l s = record { low = λ k h. omega (arith, s.low k h); up = s.up }
 
   ascends : (n a : ℕ) → Ascends a (those a n)
-  unfolding thoseWith numbersFrom
+  unfolding those_with numbers_from
   ascends zero a = record { low = λ k h. absurd (omega (arith, h)); up = λ k h. absurd (omega (arith, h)) }
   ascends (suc n) a =
       tested (p a) (λ t. subst (Ascends a) (sym (those-hit a n t)) (ascends-cons a _ (ascends n (suc a))))
@@ -92,7 +92,7 @@ module _ (p : ℕ → Bool) where
             (λ q. ap (any_of (eqb i)) (those-miss a n q) ∙ rest d)
 
   any-on : (n a i : ℕ) → any_of (eqb i) (those a n) ≡ true → Among n a i
-  unfolding any_of thoseWith numbersFrom
+  unfolding any_of those_with numbers_from
   any-on zero a i e = absurd (false≢true e)
   any-on (suc n) a i e = on-next n a i (any-on n (suc a) i) e
 
@@ -102,20 +102,20 @@ module _ (p : ℕ → Bool) where
       of-next n a i (λ d. any-of n (suc a) i (omega (arith, l, d)) (omega (arith, h)) t) t
 
 module _ (s : Source) where
-  parts : candidate s ≡ true → (isActive s.mode ≡ true) × (s.pending ≡ true) × (s.enabled ≡ true)
+  parts : candidate s ≡ true → (is_active s.mode ≡ true) × (s.pending ≡ true) × (s.enabled ≡ true)
   unfolding candidate
   parts e =
-      let two = and_first (isActive s.mode && s.pending) s.enabled e in (
-        and_first (isActive s.mode) s.pending two,
-        and_second (isActive s.mode) s.pending two,
-        and_second (isActive s.mode && s.pending) s.enabled e,
+      let two = and_first (is_active s.mode && s.pending) s.enabled e in (
+        and_first (is_active s.mode) s.pending two,
+        and_second (is_active s.mode) s.pending two,
+        and_second (is_active s.mode && s.pending) s.enabled e,
       )
 
-  whole : isActive s.mode ≡ true → s.pending ≡ true → s.enabled ≡ true → candidate s ≡ true
+  whole : is_active s.mode ≡ true → s.pending ≡ true → s.enabled ≡ true → candidate s ≡ true
   unfolding candidate
   whole a b c =
-      and_both (isActive s.mode && s.pending) s.enabled
-      (and_both (isActive s.mode) s.pending a b) c
+      and_both (is_active s.mode && s.pending) s.enabled
+      (and_both (is_active s.mode) s.pending a b) c
 
 -- ---- somewhere in a list
 
@@ -140,15 +140,15 @@ pub claim-147 : Claim-147
 unfolding Claim-147 candidates
 claim-147 = (
   (λ d.
-      let p : ℕ → Bool = λ i. candidate (sourceAt d i) in
-      let cs = thoseWith p (numbersFrom 1 63) in (
+      let p : ℕ → Bool = λ i. candidate (source_at d i) in
+      let cs = those_with p (numbers_from 1 63) in (
         (λ k h. subst (λ (j : ℕ). get_or cs k 0 < get_or cs j 0) (omega arith)
             ((ascends p 63 1).up k (omega (arith, h)))),
         (λ i. (
           (λ e. let r = any-on p 63 1 i e in
-              let q = parts (sourceAt d i) r.2 in
+              let q = parts (source_at d i) r.2 in
               (r.0, omega (arith, r.1), q.0, q.1, q.2)),
-          (λ q. any-of p 63 1 i q.0 (omega (arith, q.1)) (whole (sourceAt d i) q.2 q.3 q.4)),
+          (λ q. any-of p 63 1 i q.0 (omega (arith, q.1)) (whole (source_at d i) q.2 q.3 q.4)),
         )),
       )),
   (λ s. (parts s, (λ q. whole s q.0 q.1 q.2))),

@@ -17,19 +17,19 @@ use Rattle.domain_region.specs.declared.Word.TheVariants.{SetipnumBe}
 use Rattle.domain_region.specs.declared.Word.TheVariants.{Genmsi, Target, Idelivery, Iforce, Ithreshold}
 use Rattle.domain_region.specs.declared.Word.TheVariants.{Topi}
 use Rattle.domain_region.specs.declared.Word.TheVariants.{Claimi, Unused}
-use Rattle.domain_region.specs.Region.{Row, registers, nameIn, word_in, wordAt}
+use Rattle.domain_region.specs.Region.{Row, registers, name_in, word_in, word_at}
 use Rattle.domain_region.proofs.RegionLaws.{domaincfg-at, sourcecfg-at, setip-at, setipnum-at, in-clrip-at}
 use Rattle.domain_region.proofs.RegionLaws.{clripnum-at, setie-at, setienum-at, clrie-at, clrienum-at}
 use Rattle.domain_region.proofs.RegionLaws.{config-unused, setipnum-le-at, setipnum-be-at, genmsi-at}
 use Rattle.domain_region.proofs.RegionLaws.{target_at, word-within}
 use Rattle.domain_region.proofs.RegionLaws.{idelivery-at, iforce-at, ithreshold-at, topi-at, claimi-at}
-use Rattle.domain_registers.specs.Read.{registerValue}
-use Rattle.domain_registers.specs.Write.{registerWritten}
+use Rattle.domain_registers.specs.Read.{register_value}
+use Rattle.domain_registers.specs.Write.{register_written}
 use Rattle.claims_domain.specs.Region.{address_of, Numbered, Unnamed, Claim-130, Claim-131}
 
 -- ---- each register is at its address
 
-at_address : (r : Word) → Numbered r → wordAt (address_of r) ≡ r
+at_address : (r : Word) → Numbered r → word_at (address_of r) ≡ r
 at_address Domaincfg n = domaincfg-at
 at_address (Sourcecfg i) n = sourcecfg-at i n.0 n.1
 at_address (Setip k) n = setip-at k n
@@ -64,7 +64,7 @@ All a (r ∷ rs) =
     ((k : ℕ) → r.first ≤ k → k ≤ r.last → a ≡ r.base + r.step * k → Placed a (r.name k)) × All a rs
 
 placed-in : (a : ℕ) (rs : List Row) → All a rs → (word_in rs a ≡ Unused) ⊎ Placed a (word_in rs a)
-unfolding word_in nameIn
+unfolding word_in name_in
 placed-in a [] each = inl refl
 placed-in a (r ∷ rs) each =
     let k = (a - r.base) / r.step in
@@ -80,14 +80,14 @@ both : (a : ℕ) (xs ys : List Row) → All a xs → All a ys → All a (xs ++ y
 both a [] ys left right = right
 both a (x ∷ xs) ys left right = (left.0, both a xs ys left.1 right)
 
-placed : (a : ℕ) → (wordAt a ≡ Unused) ⊎ Placed a (wordAt a)
-unfolding wordAt registers
+placed : (a : ℕ) → (word_at a ≡ Unused) ⊎ Placed a (word_at a)
+unfolding word_at registers
 placed a =
     placed-in a registers (both a (take 7 registers) (drop 7 registers) (omega arith)
     (both a (take 6 (drop 7 registers)) (drop 13 registers) (omega arith) (omega arith)))
 
-unnamed-unused : (a : ℕ) → Unnamed a → wordAt a ≡ Unused
-unnamed-unused a n = ⊎_elim (λ e. e) (λ p. absurd (n (wordAt a) p.0 p.1)) (placed a)
+unnamed-unused : (a : ℕ) → Unnamed a → word_at a ≡ Unused
+unnamed-unused a n = ⊎_elim (λ e. e) (λ p. absurd (n (word_at a) p.0 p.1)) (placed a)
 
 pub claim-130 : Claim-130
 unfolding Claim-130
@@ -105,7 +105,7 @@ claim-130 = (
 -- ---- what reads 0
 
 pub claim-131 : Claim-131
-unfolding Claim-131 registerValue registerWritten
+unfolding Claim-131 register_value register_written
 claim-131 c d wires = (
   refl,
   refl,
@@ -117,8 +117,8 @@ claim-131 c d wires = (
   refl,
   λ v. refl,
   (λ a n. (
-    ap (registerValue d wires) (unnamed-unused a n),
-    λ v. ap (λ (r : Word). registerWritten c d wires r v) (unnamed-unused a n),
+    ap (register_value d wires) (unnamed-unused a n),
+    λ v. ap (λ (r : Word). register_written c d wires r v) (unnamed-unused a n),
   )),
   λ h v. (refl, refl),
 )

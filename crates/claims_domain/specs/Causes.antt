@@ -10,7 +10,7 @@
 use Rattle.std.specs.Prelude.{ℕ, ◌+◌, ◌≡◌, Bool, true, false, cond, ◌&&◌, List, [], ◌∷◌, ◌++◌, eqb}
 use Rattle.std.specs.Bool.{beq}
 use Rattle.source.specs.declared.Source.{Source}
-use Rattle.source.specs.Pending.{withPending, wireChanged, pended, cleared}
+use Rattle.source.specs.Pending.{with_pending, wire_changed, pended, cleared}
 
 pub data Cause : Type 0 where
   wire : Bool → Bool → Cause
@@ -21,16 +21,16 @@ pub data Effect : Type 0 where
   sets clears keeps : Effect
 
 unfoldable pub happens : Source → Bool → Cause → Source
-happens s m (wire was is) = wireChanged s m was is
+happens s m (wire was is) = wire_changed s m was is
 happens s m (setip level) = pended s m level
 happens s m clrip = cleared s m
 happens s m claim = cleared s m
-happens s m sent = withPending s false
+happens s m sent = with_pending s false
 
-unfoldable pub bitAfter : Effect → Bool → Bool
-bitAfter sets p = true
-bitAfter clears p = false
-bitAfter keeps p = p
+unfoldable pub bit_after : Effect → Bool → Bool
+bit_after sets p = true
+bit_after clears p = false
+bit_after keeps p = p
 
 pub record Row : Type 0 where
   pub modes : List ℕ
@@ -53,8 +53,8 @@ messages = true ∷ []
 abbrev pub any : List Bool
 any = direct ++ messages
 
-abbrev pub anyWrite : List Cause
-anyWrite = setip low ∷ setip high ∷ []
+abbrev pub any_write : List Cause
+any_write = setip low ∷ setip high ∷ []
 
 -- the wire becomes high, or low, whatever it was
 abbrev pub up : List Cause
@@ -74,7 +74,7 @@ table =
     ∷ record { modes = 5 ∷ []; deliveries = any; causes = wire high low ∷ []; effect = sets }
     ∷ record { modes = 5 ∷ []; deliveries = any; causes = wire low low ∷ up; effect = keeps }
     -- these three are set by a setip write, and cleared by an in_clrip write, a claim, or sending
-    ∷ record { modes = 1 ∷ 4 ∷ 5 ∷ []; deliveries = any; causes = anyWrite; effect = sets }
+    ∷ record { modes = 1 ∷ 4 ∷ 5 ∷ []; deliveries = any; causes = any_write; effect = sets }
     ∷ record { modes = 1 ∷ 4 ∷ 5 ∷ []; deliveries = direct; causes = clrip ∷ claim ∷ []; effect = clears }
     ∷ record { modes = 1 ∷ 4 ∷ 5 ∷ []; deliveries = messages; causes = clrip ∷ sent ∷ []; effect = clears }
     -- Level1 and Level0, direct: a copy of the rectified value, which no write and no claim changes
@@ -82,7 +82,7 @@ table =
     ∷ record { modes = 6 ∷ []; deliveries = direct; causes = down; effect = clears }
     ∷ record { modes = 7 ∷ []; deliveries = direct; causes = down; effect = sets }
     ∷ record { modes = 7 ∷ []; deliveries = direct; causes = up; effect = clears }
-    ∷ record { modes = 6 ∷ 7 ∷ []; deliveries = direct; causes = clrip ∷ claim ∷ anyWrite; effect = keeps }
+    ∷ record { modes = 6 ∷ 7 ∷ []; deliveries = direct; causes = clrip ∷ claim ∷ any_write; effect = keeps }
     -- Level1 and Level0, by messages: set by a rise, cleared whenever the rectified value is low
     ∷ record { modes = 6 ∷ []; deliveries = messages; causes = wire low high ∷ []; effect = sets }
     ∷ record { modes = 6 ∷ []; deliveries = messages; causes = wire high high ∷ []; effect = keeps }
@@ -111,46 +111,46 @@ both = false ∷ true ∷ []
 unfoldable pub source_of : ℕ → Bool → Bool → Source
 source_of mode p e = record { mode = mode; target = 0; pending = p; enabled = e }
 
-unfoldable pub rowHolds : Row → Bool
-rowHolds r =
+unfoldable pub row_holds : Row → Bool
+row_holds r =
     every (λ mode. every (λ m. every (λ k. every (λ p. every (λ e.
-    beq (happens (source_of mode p e) m k).pending (bitAfter r.effect p)) both) both)
+    beq (happens (source_of mode p e) m k).pending (bit_after r.effect p)) both) both)
     r.causes) r.deliveries) r.modes
 
 -- the table holds: each mode, delivery mode and cause of a row has the row's effect on the pending bit,
 -- whatever the bits were
 -- [01 W28 S12 M2 M5]
 unfoldable pub Claim-40 : Type 0
-Claim-40 = every rowHolds table ≡ true
+Claim-40 = every row_holds table ≡ true
 
 -- ---- nothing is left out: each mode, delivery mode and cause has one row and no more
 
-unfoldable pub sameCause : Cause → Cause → Bool
-sameCause (wire a b) (wire c d) = beq a c && beq b d
-sameCause (wire a b) (setip c) = false
-sameCause (wire a b) clrip = false
-sameCause (wire a b) claim = false
-sameCause (wire a b) sent = false
-sameCause (setip a) (wire c d) = false
-sameCause (setip a) (setip c) = beq a c
-sameCause (setip a) clrip = false
-sameCause (setip a) claim = false
-sameCause (setip a) sent = false
-sameCause clrip (wire c d) = false
-sameCause clrip (setip c) = false
-sameCause clrip clrip = true
-sameCause clrip claim = false
-sameCause clrip sent = false
-sameCause claim (wire c d) = false
-sameCause claim (setip c) = false
-sameCause claim clrip = false
-sameCause claim claim = true
-sameCause claim sent = false
-sameCause sent (wire c d) = false
-sameCause sent (setip c) = false
-sameCause sent clrip = false
-sameCause sent claim = false
-sameCause sent sent = true
+unfoldable pub same_cause : Cause → Cause → Bool
+same_cause (wire a b) (wire c d) = beq a c && beq b d
+same_cause (wire a b) (setip c) = false
+same_cause (wire a b) clrip = false
+same_cause (wire a b) claim = false
+same_cause (wire a b) sent = false
+same_cause (setip a) (wire c d) = false
+same_cause (setip a) (setip c) = beq a c
+same_cause (setip a) clrip = false
+same_cause (setip a) claim = false
+same_cause (setip a) sent = false
+same_cause clrip (wire c d) = false
+same_cause clrip (setip c) = false
+same_cause clrip clrip = true
+same_cause clrip claim = false
+same_cause clrip sent = false
+same_cause claim (wire c d) = false
+same_cause claim (setip c) = false
+same_cause claim clrip = false
+same_cause claim claim = true
+same_cause claim sent = false
+same_cause sent (wire c d) = false
+same_cause sent (setip c) = false
+same_cause sent clrip = false
+same_cause sent claim = false
+same_cause sent sent = true
 
 -- how many of a list pass a test
 unfoldable pub count {ℓ} : {A : Type ℓ} → (A → Bool) → List A → ℕ
@@ -160,13 +160,13 @@ count p (x ∷ xs) = cond (p x) 1 0 + count p xs
 unfoldable pub rows_of : ℕ → Bool → Cause → ℕ
 rows_of mode m k =
     count (λ r. eqb (count (eqb mode) r.modes) 1 && eqb (count (beq m) r.deliveries) 1
-    && eqb (count (sameCause k) r.causes) 1) table
+    && eqb (count (same_cause k) r.causes) 1) table
 
 -- nothing is left out of the table: each active mode, delivery mode and cause has one row and no more
 unfoldable pub Claim-41 : Type 0
 Claim-41 =
-    every (λ mode. every (λ k. eqb (rows_of mode false k) 1) (clrip ∷ claim ∷ anyWrite ++ up ++ down)
-    && every (λ k. eqb (rows_of mode true k) 1) (clrip ∷ sent ∷ anyWrite ++ up ++ down))
+    every (λ mode. every (λ k. eqb (rows_of mode false k) 1) (clrip ∷ claim ∷ any_write ++ up ++ down)
+    && every (λ k. eqb (rows_of mode true k) 1) (clrip ∷ sent ∷ any_write ++ up ++ down))
     (1 ∷ 4 ∷ 5 ∷ 6 ∷ 7 ∷ []) ≡ true
 
 -- ---- the pending bit afterwards depends on the mode and the bits alone

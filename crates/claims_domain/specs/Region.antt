@@ -14,10 +14,10 @@ use Rattle.domain_region.specs.declared.Word.TheVariants.{SetipnumBe}
 use Rattle.domain_region.specs.declared.Word.TheVariants.{Genmsi, Target, Idelivery, Iforce, Ithreshold}
 use Rattle.domain_region.specs.declared.Word.TheVariants.{Topi}
 use Rattle.domain_region.specs.declared.Word.TheVariants.{Claimi, Unused}
-use Rattle.domain_region.specs.Region.{wordAt, Within}
+use Rattle.domain_region.specs.Region.{word_at, Within}
 use Rattle.domain.specs.Domain.{Domain}
-use Rattle.domain_registers.specs.Read.{registerValue}
-use Rattle.domain_registers.specs.Write.{registerWritten}
+use Rattle.domain_registers.specs.Read.{register_value}
+use Rattle.domain_registers.specs.Write.{register_written}
 
 -- the map, each line as the paper has it; what is not a register has no address, and its line is not read
 abbrev pub address_of : Word → ℕ
@@ -73,11 +73,11 @@ Unnamed a = (r : Word) → Numbered r → a ≢ address_of r
 -- [01 B4 B14 W1 W2 W3 W4 W5 W6 W7 S1 S4]
 unfoldable pub Claim-130 : Type 0
 Claim-130 =
-    ((r : Word) → Numbered r → wordAt (address_of r) ≡ r)
-    × ((a : ℕ) → wordAt a ≢ Unused → Numbered (wordAt a) × (a ≡ address_of (wordAt a)))
-    × ((a : ℕ) → Unnamed a → wordAt a ≡ Unused)
-    × (wordAt 0x1BC0 ≡ Unused) × (wordAt 0x1BC4 ≡ Unused) × (wordAt 0x1BC8 ≡ Unused)
-    × (wordAt 0x1BCC ≡ Unused) × ((a : ℕ) → Within (wordAt a))
+    ((r : Word) → Numbered r → word_at (address_of r) ≡ r)
+    × ((a : ℕ) → word_at a ≢ Unused → Numbered (word_at a) × (a ≡ address_of (word_at a)))
+    × ((a : ℕ) → Unnamed a → word_at a ≡ Unused)
+    × (word_at 0x1BC0 ≡ Unused) × (word_at 0x1BC4 ≡ Unused) × (word_at 0x1BC8 ≡ Unused)
+    × (word_at 0x1BCC ≡ Unused) × ((a : ℕ) → Within (word_at a))
 
 -- the number registers, clrie and every address with no register read 0; such an address, topi and claimi
 -- ignore writes
@@ -85,10 +85,10 @@ Claim-130 =
 unfoldable pub Claim-131 : Type 0
 Claim-131 =
     (c : Bool) (d : Domain) (wires : List ℕ)
-    → let reads : Word → ℕ = registerValue d wires in
-    let written : Word → ℕ → Domain = registerWritten c d wires in
+    → let reads : Word → ℕ = register_value d wires in
+    let written : Word → ℕ → Domain = register_written c d wires in
     (reads Setipnum ≡ 0) × (reads Clripnum ≡ 0) × (reads Setienum ≡ 0) × (reads Clrienum ≡ 0)
     × (reads SetipnumLe ≡ 0) × (reads SetipnumBe ≡ 0) × ((k : ℕ) → reads (Clrie k) ≡ 0)
     × (reads Unused ≡ 0) × ((v : ℕ) → written Unused v ≡ d)
-    × ((a : ℕ) → Unnamed a → (reads (wordAt a) ≡ 0) × ((v : ℕ) → written (wordAt a) v ≡ d))
+    × ((a : ℕ) → Unnamed a → (reads (word_at a) ≡ 0) × ((v : ℕ) → written (word_at a) v ≡ d))
     × ((h v : ℕ) → (written (Topi h) v ≡ d) × (written (Claimi h) v ≡ d))

@@ -5,13 +5,13 @@
 -- Premises: none but IE and DM, as each line says. No axioms.
 use Rattle.std.specs.Prelude.{ℕ, ◌+◌, ◌*◌, ◌/◌, ◌%◌, ◌≤◌, ◌<◌, ◌≡◌, Bool, true, false, cond, not, ◌&&◌, List, [], ◌∷◌, map, ◌↔◌, eqb, length, get_or}
 use Rattle.words.specs.Sets.{member}
-use Rattle.source_mode.specs.Mode.{isActive}
-use Rattle.source_target.specs.Target.{hartOf, number_of, messageOf}
+use Rattle.source_mode.specs.Mode.{is_active}
+use Rattle.source_target.specs.Target.{hart_of, number_of, message_of}
 use Rattle.source.specs.declared.Source.{Source}
-use Rattle.domain.specs.Domain.{Domain, isEnabled, byMessages}
-use Rattle.domain.specs.Slot.{sourceAt}
+use Rattle.domain.specs.Domain.{Domain, is_enabled, by_messages}
+use Rattle.domain.specs.Slot.{source_at}
 use Rattle.domain_sending.specs.Sending.{candidate, sent}
-use Rattle.domain_genmsi.specs.Genmsi.{genmsiSent}
+use Rattle.domain_genmsi.specs.Genmsi.{genmsi_sent}
 use Rattle.files_laws.specs.Messages.{any_of}
 use Rattle.domain_sending_laws.specs.Candidates.{candidates}
 
@@ -22,9 +22,9 @@ use Rattle.domain_sending_laws.specs.Candidates.{candidates}
 unfoldable pub Claim-50 : Type 0
 Claim-50 =
     (c : Bool) (d : Domain)
-    → ((isEnabled d && byMessages d) ≡ true
-    → (sent c d).messages ≡ map (λ i. messageOf c (sourceAt d i).target) (candidates d))
-    × ((isEnabled d && byMessages d) ≡ false → ((sent c d).messages ≡ []) × ((sent c d).domain ≡ d))
+    → ((is_enabled d && by_messages d) ≡ true
+    → (sent c d).messages ≡ map (λ i. message_of c (source_at d i).target) (candidates d))
+    × ((is_enabled d && by_messages d) ≡ false → ((sent c d).messages ≡ []) × ((sent c d).domain ≡ d))
 
 -- the sources that a domain sends are in ascending order, and exactly those of 1 to 63 that are active,
 -- pending and enabled. `candidate` says of one source that it is all three, and `any_of` of a list that a test
@@ -35,10 +35,10 @@ Claim-147 =
     ((d : Domain) → let cs = candidates d in
     ((k : ℕ) → k + 1 < length cs → get_or cs k 0 < get_or cs (k + 1) 0)
     × ((i : ℕ) → (any_of (eqb i) cs ≡ true)
-    ↔ ((1 ≤ i) × (i ≤ 63) × (isActive (sourceAt d i).mode ≡ true) × ((sourceAt d i).pending ≡ true)
-    × ((sourceAt d i).enabled ≡ true))))
+    ↔ ((1 ≤ i) × (i ≤ 63) × (is_active (source_at d i).mode ≡ true) × ((source_at d i).pending ≡ true)
+    × ((source_at d i).enabled ≡ true))))
     × ((s : Source) → (candidate s ≡ true)
-    ↔ ((isActive s.mode ≡ true) × (s.pending ≡ true) × (s.enabled ≡ true)))
+    ↔ ((is_active s.mode ≡ true) × (s.pending ≡ true) × (s.enabled ≡ true)))
     × ((test : ℕ → Bool) (ms : List ℕ) → (any_of test ms ≡ true)
     ↔ ((k : ℕ) × (k < length ms) × (test (get_or ms k 0) ≡ true)))
 
@@ -46,8 +46,8 @@ Claim-147 =
 -- [01 R8]
 unfoldable pub Claim-51 : Type 0
 Claim-51 =
-    (c : Bool) (d : Domain) → (isEnabled d && byMessages d) ≡ true
-    → (i : ℕ) → 1 ≤ i → i < 64 → candidate (sourceAt (sent c d).domain i) ≡ false
+    (c : Bool) (d : Domain) → (is_enabled d && by_messages d) ≡ true
+    → (i : ℕ) → 1 ≤ i → i < 64 → candidate (source_at (sent c d).domain i) ≡ false
 
 -- 63 log words always suffice, and each message names a file that there is: 0 from the machine domain, 1 to 4
 -- from the child
@@ -66,8 +66,8 @@ Claim-53 =
     (c : Bool) (d : Domain) → let d' = (sent c d).domain in
     (d'.source ≡ d.source) × (d'.target ≡ d.target) × (d'.enable ≡ d.enable)
     × (d'.delivery ≡ d.delivery)
-    × ((isEnabled d && byMessages d) ≡ true → (i : ℕ) → 1 ≤ i → i ≤ 63
-    → member d'.pending i ≡ (member d.pending i && not (candidate (sourceAt d i))))
+    × ((is_enabled d && by_messages d) ≡ true → (i : ℕ) → 1 ≤ i → i ≤ 63
+    → member d'.pending i ≡ (member d.pending i && not (candidate (source_at d i))))
 
 -- a write to genmsi sends one message by messages, whatever IE is, to the machine or the supervisor file of a
 -- hart, and none in direct mode
@@ -75,5 +75,5 @@ Claim-53 =
 unfoldable pub Claim-54 : Type 0
 Claim-54 =
     (c : Bool) (d : Domain) (v : ℕ)
-    → (byMessages d ≡ true → genmsiSent c d v ≡ (hartOf v * 2048 + cond c 1 0 * 256 + number_of v) ∷ [])
-    × (byMessages d ≡ false → genmsiSent c d v ≡ [])
+    → (by_messages d ≡ true → genmsi_sent c d v ≡ (hart_of v * 2048 + cond c 1 0 * 256 + number_of v) ∷ [])
+    × (by_messages d ≡ false → genmsi_sent c d v ≡ [])

@@ -10,13 +10,13 @@ use lib.ListN.{length}
 use borrow.Author.Tests.{eq-eqb, ne_eqb, eqb-true, eqb-false, ltb-true, lt-ltb, not-true, not-false}
 use Rattle.words.specs.Sets.{member}
 use Rattle.words.proofs.TestsLaws.{tested, not_same, and_first, and_second, and_both, or_cases}
-use Rattle.file_select.specs.Select.{selectLegal}
+use Rattle.file_select.specs.Select.{select_legal}
 use Rattle.file_select.proofs.SelectLaws.{legal-below, legal-above, legal-named, legal-words}
 use Rattle.file.specs.declared.File.{File}
-use Rattle.file.specs.Top.{passes, qualifies, topIdentity, top_of, signals}
+use Rattle.file.specs.Top.{passes, qualifies, top_identity, top_of, signals}
 use Rattle.file.specs.Register.{written}
 use Rattle.file.proofs.TopLaws.{qualifies-pending, qualifies-enabled, qualifies-passes, qualifies-standing}
-use Rattle.file.proofs.TopLaws.{topOf-zero-1, topOf-zero-2, claimed-none}
+use Rattle.file.proofs.TopLaws.{top_of-zero-1, top_of-zero-2, claimed-none}
 use Rattle.file.proofs.RegisterLaws.{written-illegal, accessed-illegal}
 use Rattle.file_laws.proofs.PageEffects.{arrived-pending, arrived-rest, arrived-delivery}
 use Rattle.file_laws.proofs.TopEffects.{top-zero-iff, top-is, top-qualifies, top-lowest, top_within}
@@ -67,8 +67,8 @@ claim-20 n f = (
 pub claim-21 : Claim-21
 unfolding Claim-21
 claim-21 n f h =
-    let i = topIdentity n f in
-    let there : i ≢ 0 = λ z. h (topOf-zero-2 n f z) in
+    let i = top_identity n f in
+    let there : i ≢ 0 = λ z. h (top_of-zero-2 n f z) in
     let within = top_within n f there in (
       i,
       top-is n f,
@@ -96,9 +96,9 @@ pub claim-23 : Claim-23
 unfolding Claim-23
 claim-23 f s =
     let rest = claimed-rest 255 f in
-    let same : (j : ℕ) → eqb j (topIdentity 255 f) ≡ eqb (j * 65536 + j) (top_of 255 f) =
-    λ j. twice_same j (topIdentity 255 f) ∙ ap (eqb (j * 65536 + j)) (sym (top-is 255 f)) in (
-      (λ j l. claimed-pending 255 f j l (omega (arith, s.pendingLong))
+    let same : (j : ℕ) → eqb j (top_identity 255 f) ≡ eqb (j * 65536 + j) (top_of 255 f) =
+    λ j. twice_same j (top_identity 255 f) ∙ ap (eqb (j * 65536 + j)) (sym (top-is 255 f)) in (
+      (λ j l. claimed-pending 255 f j l (omega (arith, s.pending_long))
           ∙ ap (λ (b : Bool). member f.pending j && not b) (same j)),
       rest.0,
       rest.1,
@@ -107,13 +107,13 @@ claim-23 f s =
 
 pub claim-24 : Claim-24
 unfolding Claim-24
-claim-24 n f z = claimed-none n f (topOf-zero-1 n f z)
+claim-24 n f z = claimed-none n f (top_of-zero-1 n f z)
 
 pub claim-25 : Claim-25
 unfolding Claim-25
 claim-25 f i s =
     let rest = arrived-rest 255 f i in
-    ((λ j. arrived-pending 255 f i j (omega (arith, s.pendingLong))), rest.0, rest.1, rest.2)
+    ((λ j. arrived-pending 255 f i j (omega (arith, s.pending_long))), rest.0, rest.1, rest.2)
 
 pub claim-26 : Claim-26
 unfolding Claim-26
@@ -128,13 +128,13 @@ claim-27 g f v = (delivery-back 255 g f v, written-illegal 255 g f v, threshold-
 pub claim-28 : Claim-28
 unfolding Claim-28 written
 claim-28 g f j v s h =
-    let fits : 2 * j + 1 < length f.pending = omega (arith, s.pendingLong) in
+    let fits : 2 * j + 1 < length f.pending = omega (arith, s.pending_long) in
     (pending-back 255 g f v j fits, member-put f.pending j v fits, member-put-other f.pending j v fits)
 
 pub claim-29 : Claim-29
 unfolding Claim-29 written
 claim-29 g f j v s h =
-    let fits : 2 * j + 1 < length f.enable = omega (arith, s.enableLong) in
+    let fits : 2 * j + 1 < length f.enable = omega (arith, s.enable_long) in
     (enable-back 255 g f v j fits, member-put f.enable j v fits, member-put-other f.enable j v fits)
 
 pub claim-30 : Claim-30
@@ -144,11 +144,11 @@ claim-30 s = (
   ⊎_elim (legal-below s) (⊎_elim (legal-above s) (λ w. odd w (dec_lt 0xFF s))),
 )
   where
-    illegal : Dec (s < 0x70) → Dec (0xFF < s) → Dec (s < 0x80) → selectLegal s ≡ false
+    illegal : Dec (s < 0x70) → Dec (0xFF < s) → Dec (s < 0x80) → select_legal s ≡ false
         → (s < 0x70) ⊎ ((0xFF < s) ⊎ ((0x80 ≤ s) × (s % 2 ≡ 1)))
     illegal (yes a) b d e = inl a
     illegal (no a) (yes b) d e = inr (inl b)
-    illegal (no a) (no b) (yes d) e = absurd (not_same (selectLegal s) (legal-named s (omega arith) d) e)
+    illegal (no a) (no b) (yes d) e = absurd (not_same (select_legal s) (legal-named s (omega arith) d) e)
     illegal (no a) (no b) (no d) e =
         let words : 0x80 ≤ s = omega arith in
         inr
@@ -157,7 +157,7 @@ claim-30 s = (
           eqb-true (s % 2) 1 (not-false (eqb (s % 2) 1) (sym (legal-words s words (omega arith)) ∙ e)),
         ))
 
-    odd : (0x80 ≤ s) × (s % 2 ≡ 1) → Dec (0xFF < s) → selectLegal s ≡ false
+    odd : (0x80 ≤ s) × (s % 2 ≡ 1) → Dec (0xFF < s) → select_legal s ≡ false
     odd w (yes b) = legal-above s b
     odd w (no b) = legal-words s w.0 (omega arith) ∙ ap not (eq-eqb (s % 2) 1 w.1)
 

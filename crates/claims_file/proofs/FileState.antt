@@ -10,18 +10,18 @@ use lib.Arith.{digits_mod}
 use lib.Dec.{eqb, leb}
 use lib.ListN.{length}
 use borrow.Author.Tests.{eq-eqb, ne_eqb, eqb-true, not-true, lt-leb}
-use Rattle.words.specs.Bits.{bit_of, hasBit}
+use Rattle.words.specs.Bits.{bit_of, has_bit}
 use Rattle.words.specs.Parts.{reversed}
 use Rattle.words.specs.Sets.{member, WordsFit}
 use Rattle.words.proofs.PartsLaws.{reversed-lt, reversed-bytes, reversed-back}
 use Rattle.words.proofs.SetsLaws.{member-ext}
 use Rattle.words.proofs.TestsLaws.{tested, and_first, and_second, or_cases}
-use Rattle.file_select.specs.Deliveries.{deliveryLegal}
+use Rattle.file_select.specs.Deliveries.{delivery_legal}
 use Rattle.file.specs.declared.File.{File}
 use Rattle.file.specs.Shape.{Shaped}
-use Rattle.file.specs.Parts.{withDelivery}
-use Rattle.file.specs.Page.{arrived, pageWritten, pageRead}
-use Rattle.file.specs.Top.{qualifies, topIdentity, top_of, claimed}
+use Rattle.file.specs.Parts.{with_delivery}
+use Rattle.file.specs.Page.{arrived, page_written, page_read}
+use Rattle.file.specs.Top.{qualifies, top_identity, top_of, claimed}
 use Rattle.file.proofs.PageLaws.{written-little, written-big, written-elsewhere}
 use Rattle.file.proofs.TopLaws.{signals-off}
 use Rattle.file_laws.proofs.PageEffects.{arrived-pending, arrived-rest}
@@ -75,18 +75,18 @@ big-test j v h = at (ℕ_discrete j (reversed v)) (dec_lt 255 j)
 
 -- what holds of the file and after every message holds after every write to the page
 page-cases : (P : File → Type 0) (f : File) (a v : ℕ) → P f → ((i : ℕ) → P (arrived 255 f i))
-    → P (pageWritten 255 f a v)
+    → P (page_written 255 f a v)
 page-cases P f a v same comes = at (ℕ_discrete a 0) (ℕ_discrete a 4)
   where
-    at : Dec (a ≡ 0) → Dec (a ≡ 4) → P (pageWritten 255 f a v)
+    at : Dec (a ≡ 0) → Dec (a ≡ 4) → P (page_written 255 f a v)
     at (yes e) d = rw (written-little 255 f a v e) (comes v)
     at (no n) (yes e) = rw (written-big 255 f a v e) (comes (reversed v))
     at (no n) (no m) = rw (written-elsewhere 255 f a v n m) same
 
 page-words : (f : File) (a v : ℕ) → Shaped f → PageWords f a v
-unfolding pageRead
+unfolding page_read
 page-words f a v s =
-    let fits : 255 < 32 * length f.pending = omega (arith, s.pendingLong) in
+    let fits : 255 < 32 * length f.pending = omega (arith, s.pending_long) in
     record {
       little = λ j. ap (λ (h : File). member h.pending j) (written-little 255 f 0 v refl)
           ∙ arrived-pending 255 f v j fits ∙ ap (λ (b : Bool). member f.pending j || b) (little-test j v);
@@ -148,8 +148,8 @@ claim-126 = (page-words, bytes-reversed)
 
 -- ---- the state rules
 
-pub delivery-allowed : (g : Bool) (d : ℕ) → deliveryLegal g d ≡ true → LegalDelivery g d
-unfolding deliveryLegal
+pub delivery-allowed : (g : Bool) (d : ℕ) → delivery_legal g d ≡ true → LegalDelivery g d
+unfolding delivery_legal
 delivery-allowed g d e =
     ⊎_elim
     (λ two. ⊎_elim (λ z. inl (eqb-true d 0 z)) (λ o. inr (inl (eqb-true d 1 o)))
@@ -161,14 +161,14 @@ delivery-allowed g d e =
     )))
     (or_cases (eqb d 0 || eqb d 1) (not g && eqb d 0x40000000) e)
 
-pub legal-delivery : (g : Bool) (d : ℕ) → LegalDelivery g d → deliveryLegal g d ≡ true
-unfolding deliveryLegal
+pub legal-delivery : (g : Bool) (d : ℕ) → LegalDelivery g d → delivery_legal g d ≡ true
+unfolding delivery_legal
 legal-delivery g d =
     ⊎_elim (λ z. simp (eq-eqb d 0 z))
     (⊎_elim (λ o. simp (eq-eqb d 1 o, or-true)) (λ w. simp (w.0, eq-eqb d 0x40000000 w.1, or-true)))
 
-pub illegal-delivery : (g : Bool) (d : ℕ) → (LegalDelivery g d → ⊥) → deliveryLegal g d ≡ false
-illegal-delivery g d n = tested (deliveryLegal g d) (λ t. absurd (n (delivery-allowed g d t))) (λ u. u)
+pub illegal-delivery : (g : Bool) (d : ℕ) → (LegalDelivery g d → ⊥) → delivery_legal g d ≡ false
+illegal-delivery g d n = tested (delivery_legal g d) (λ t. absurd (n (delivery-allowed g d t))) (λ u. u)
 
 pub claim-127 : Claim-127
 unfolding Claim-127
@@ -177,74 +177,74 @@ claim-127 g f = (
       record {
         delivery = delivery-allowed g f.delivery r.legal;
         threshold = r.below;
-        pendingZero = r.pendingZero;
-        enableZero = r.enableZero;
+        pending_zero = r.pending_zero;
+        enable_zero = r.enable_zero;
       }),
   (λ r. sound-of 255 g f
       (record {
         legal = legal-delivery g f.delivery r.delivery;
         below = r.threshold;
-        pendingZero = r.pendingZero;
-        enableZero = r.enableZero;
+        pending_zero = r.pending_zero;
+        enable_zero = r.enable_zero;
       })),
 )
 
 -- ---- delivery
 
 module _ (f : File) (d : ℕ) where
-  identity-apart : topIdentity 255 (withDelivery f d) ≡ topIdentity 255 f
-  unfolding topIdentity qualifies
+  identity-apart : top_identity 255 (with_delivery f d) ≡ top_identity 255 f
+  unfolding top_identity qualifies
   identity-apart = refl
 
-  top_apart : top_of 255 (withDelivery f d) ≡ top_of 255 f
+  top_apart : top_of 255 (with_delivery f d) ≡ top_of 255 f
   unfolding top_of
   top_apart = ap (λ (i : ℕ). i * 65536 + i) identity-apart
 
-  claim-apart : claimed 255 (withDelivery f d) ≡ withDelivery (claimed 255 f) d
+  claim-apart : claimed 255 (with_delivery f d) ≡ with_delivery (claimed 255 f) d
   unfolding claimed
-  claim-apart = rw identity-apart (tested (eqb (topIdentity 255 f) 0) (λ t. simp t) (λ u. simp u))
+  claim-apart = rw identity-apart (tested (eqb (top_identity 255 f) 0) (λ t. simp t) (λ u. simp u))
 
 pub claim-128 : Claim-128
 unfolding Claim-128 Claim-33
 claim-128 f d =
     let same = top_apart f 1 in
-    let signal = claim-33 255 (withDelivery f 1) in
+    let signal = claim-33 255 (with_delivery f 1) in
     record {
       top = top_apart f d;
       claim = claim-apart f d;
       on = ((λ e z. (signal.0 e).1 (same ∙ z)), (λ n. signal.1 (refl, (λ z. n (sym same ∙ z)))));
-      off = signals-off 255 (withDelivery f d);
+      off = signals-off 255 (with_delivery f d);
     }
 
 -- ---- bit by bit
 
 pub claim-129 : Claim-129
-unfolding Claim-129 hasBit bit_of member WordsFit
+unfolding Claim-129 has_bit bit_of member WordsFit
 claim-129 = (
   (λ w k. (eqb-true (w / 2 ^ k % 2) 1, eq-eqb (w / 2 ^ k % 2) 1)),
   (λ ws i. refl),
   (λ ws. ((λ h. h), (λ h. h))),
   (λ f. (
     (λ s. (
-      s.deliveryFit,
-      s.thresholdFit,
-      record { long = s.pendingLong; fit = s.pendingFit },
-      record { long = s.enableLong; fit = s.enableFit },
+      s.delivery_fit,
+      s.threshold_fit,
+      record { long = s.pending_long; fit = s.pending_fit },
+      record { long = s.enable_long; fit = s.enable_fit },
     )),
     (λ h. record {
-      deliveryFit = h.0;
-      thresholdFit = h.1;
-      pendingLong = h.2.long;
-      pendingFit = h.2.fit;
-      enableLong = h.3.long;
-      enableFit = h.3.fit;
+      delivery_fit = h.0;
+      threshold_fit = h.1;
+      pending_long = h.2.long;
+      pending_fit = h.2.fit;
+      enable_long = h.3.long;
+      enable_fit = h.3.fit;
     }),
   )),
   (λ f f' s s' d t p e. file-path d t
-      (member-ext f.pending f'.pending (s.pendingLong ∙ sym s'.pendingLong) s.pendingFit
-      s'.pendingFit (λ i h. p i (omega (arith, s.pendingLong))))
-      (member-ext f.enable f'.enable (s.enableLong ∙ sym s'.enableLong) s.enableFit
-      s'.enableFit (λ i h. e i (omega (arith, s.enableLong))))),
+      (member-ext f.pending f'.pending (s.pending_long ∙ sym s'.pending_long) s.pending_fit
+      s'.pending_fit (λ i h. p i (omega (arith, s.pending_long))))
+      (member-ext f.enable f'.enable (s.enable_long ∙ sym s'.enable_long) s.enable_fit
+      s'.enable_fit (λ i h. e i (omega (arith, s.enable_long))))),
   (λ g f s. record {
     message = λ a v. page-shaped 255 f a v s;
     claim = claimed-shaped 255 f s;

@@ -11,17 +11,17 @@ use Rattle.std.specs.Prelude.{ℕ, ◌≡◌, Bool, List}
 use contract.Lifetimes.{Lfts}
 use Rattle.std.specs.Borrow.{Bor}
 use Rattle.file_select.specs.declared.Register.{Register}
-use Rattle.file_select.specs.Select.{selectLegal, registerOf}
-use Rattle.file_select.specs.Deliveries.{deliveryLegal}
+use Rattle.file_select.specs.Select.{select_legal, register_of}
+use Rattle.file_select.specs.Deliveries.{delivery_legal}
 use Rattle.file.specs.declared.File.{File}
 use Rattle.file.specs.declared.register.Access.{Access}
 use Rattle.file.specs.declared.register.Accessed.{Accessed}
 use Rattle.file.specs.declared.top.Claimed.{Claimed}
-use Rattle.file.specs.Page.{arrived, pageWritten, pageRead}
-use Rattle.file.specs.Top.{topIdentity, top_of, claimed, signals}
-use Rattle.file.specs.Rules.{fileSound}
+use Rattle.file.specs.Page.{arrived, page_written, page_read}
+use Rattle.file.specs.Top.{top_identity, top_of, claimed, signals}
+use Rattle.file.specs.Rules.{file_sound}
 use Rattle.file.specs.Register.{accessed}
-use Rattle.file_words.specs.Stored.{fileAt, putFile}
+use Rattle.file_words.specs.Stored.{file_at, put_file}
 use Rattle.file.proofs.File.arrive.Reads as arrive
 use Rattle.file.proofs.File.page_write.Reads as page-write
 use Rattle.file.proofs.File.page_read.Reads as page-read
@@ -30,7 +30,7 @@ use Rattle.file.proofs.File.top.Reads as top
 use Rattle.file.proofs.File.claim.Reads as claim
 use Rattle.file.proofs.File.signals.Reads as signals-of
 use Rattle.file_select.proofs.select_legal.Reads as select-legal
-use Rattle.file_select.proofs.register_of.Reads as register_of
+use Rattle.file_select.proofs.register_of.Reads as register-of
 use Rattle.file_select.proofs.delivery_legal.Reads as delivery-legal
 use Rattle.file.proofs.File.access.Reads as access
 use Rattle.file.proofs.File.sound.Reads as sound
@@ -45,17 +45,17 @@ Claim-1 = (f r : File) (i : ℕ) → arrive.Learnt tt (f, (i, tt)) r (f, (i, tt)
 -- `page_write` gives the file after a word of its page was written
 unfoldable pub Claim-2 : Type 0
 Claim-2 = (f r : File) (a v : ℕ) → page-write.Learnt tt (f, (a, (v, tt))) r (f, (a, (v, tt)))
-    → r ≡ pageWritten 255 f a v
+    → r ≡ page_written 255 f a v
 
 -- `page_read` answers what a word of the page reads
 -- [01 F3]
 unfoldable pub Claim-3 : Type 0
-Claim-3 = (f : File) (a r : ℕ) → page-read.Learnt tt (f, (a, tt)) r (f, (a, tt)) → r ≡ pageRead f a
+Claim-3 = (f : File) (a r : ℕ) → page-read.Learnt tt (f, (a, tt)) r (f, (a, tt)) → r ≡ page_read f a
 
 -- `top_identity` answers the identity of the file's top, or 0
 -- [01 F16]
 unfoldable pub Claim-4 : Type 0
-Claim-4 = (f : File) (r : ℕ) → top-identity.Learnt tt (f, tt) r (f, tt) → r ≡ topIdentity 255 f
+Claim-4 = (f : File) (r : ℕ) → top-identity.Learnt tt (f, tt) r (f, tt) → r ≡ top_identity 255 f
 
 -- `top` answers the file's top: that identity twice
 unfoldable pub Claim-5 : Type 0
@@ -73,15 +73,15 @@ Claim-7 = (f : File) (r : Bool) → signals-of.Learnt tt (f, tt) r (f, tt) → r
 
 -- `select_legal` answers whether a select number is legal
 unfoldable pub Claim-8 : Type 0
-Claim-8 = (s : ℕ) (r : Bool) → select-legal.Learnt tt (s, tt) r (s, tt) → r ≡ selectLegal s
+Claim-8 = (s : ℕ) (r : Bool) → select-legal.Learnt tt (s, tt) r (s, tt) → r ≡ select_legal s
 
 -- `register_of` answers which register a legal select number names
 unfoldable pub Claim-9 : Type 0
-Claim-9 = (s : ℕ) (r : Register) → register_of.Learnt tt (s, tt) r (s, tt) → r ≡ registerOf 255 s
+Claim-9 = (s : ℕ) (r : Register) → register-of.Learnt tt (s, tt) r (s, tt) → r ≡ register_of 255 s
 
 -- `delivery_legal` answers whether a delivery is legal
 unfoldable pub Claim-10 : Type 0
-Claim-10 = (g r : Bool) (d : ℕ) → delivery-legal.Learnt tt (g, (d, tt)) r (g, (d, tt)) → r ≡ deliveryLegal g d
+Claim-10 = (g r : Bool) (d : ℕ) → delivery-legal.Learnt tt (g, (d, tt)) r (g, (d, tt)) → r ≡ delivery_legal g d
 
 -- `access` gives the answer of an access to a register, and the file after it
 -- [01 X2]
@@ -92,15 +92,15 @@ Claim-11 =
 
 -- `sound` of a file answers whether it keeps its state rules
 unfoldable pub Claim-12 : Type 0
-Claim-12 = (f : File) (g r : Bool) → sound.Learnt tt (f, (g, tt)) r (f, (g, tt)) → r ≡ fileSound 255 g f
+Claim-12 = (f : File) (g r : Bool) → sound.Learnt tt (f, (g, tt)) r (f, (g, tt)) → r ≡ file_sound 255 g f
 
 -- `load` gives the file whose words stand at a place of a block
 unfoldable pub Claim-13 : Type 0
 Claim-13 = (l : Lfts 1) (b : Bor (List ℕ)) (at : ℕ) (r : File) → load.Learnt l (b, (at, tt)) r (b, (at, tt))
-    → r ≡ fileAt b.now at
+    → r ≡ file_at b.now at
 
 -- `store` leaves the block with a file's words at a place
 unfoldable pub Claim-14 : Type 0
 Claim-14 =
     (l : Lfts 1) (b b' : Bor (List ℕ)) (at : ℕ) (f : File)
-    → store.Learnt l (b, (at, (f, tt))) tt (b', (at, (f, tt))) → b'.now ≡ putFile b.now at f
+    → store.Learnt l (b, (at, (f, tt))) tt (b', (at, (f, tt))) → b'.now ≡ put_file b.now at f

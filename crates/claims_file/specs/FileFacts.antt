@@ -8,21 +8,21 @@
 -- bits for its registers; in Claim 34 a file that lies within the block.
 -- No axioms.
 use Rattle.std.specs.Prelude.{ℕ, ◌+◌, ◌*◌, ◌/◌, ◌%◌, ◌^◌, ◌≤◌, ◌<◌, ◌≡◌, Bool, true, false, not, cond, ◌&&◌, ◌||◌, List, ◌≢◌, ◌↔◌, ◌⊎◌, eqb, leb, length}
-use Rattle.words.specs.Bits.{hasBit, withoutBit}
+use Rattle.words.specs.Bits.{has_bit, without_bit}
 use Rattle.words.specs.Sets.{member, WordsFit}
 use Rattle.file_select.specs.declared.Register.TheVariants.{Delivery, Threshold, Pending, Enable}
-use Rattle.file_select.specs.Select.{selectLegal}
-use Rattle.file_select.specs.Deliveries.{deliveryLegal}
+use Rattle.file_select.specs.Select.{select_legal}
+use Rattle.file_select.specs.Deliveries.{delivery_legal}
 use Rattle.file.specs.declared.File.{File}
 use Rattle.file.specs.declared.register.Access.{Access}
 use Rattle.file.specs.declared.register.Reply.TheVariants.{Illegal}
 use Rattle.file.specs.Shape.{Shaped}
-use Rattle.file.specs.Parts.{withDelivery}
-use Rattle.file.specs.Page.{arrived, pageWritten}
+use Rattle.file.specs.Parts.{with_delivery}
+use Rattle.file.specs.Page.{arrived, page_written}
 use Rattle.file.specs.Top.{top_of, claimed, signals}
-use Rattle.file.specs.Rules.{fileSound}
+use Rattle.file.specs.Rules.{file_sound}
 use Rattle.file.specs.Register.{held, written, accessed}
-use Rattle.file_words.specs.Stored.{fileAt, putFile}
+use Rattle.file_words.specs.Stored.{file_at, put_file}
 
 -- identity i is pending, it is enabled, and it passes the threshold: that is 0, or greater than i
 pub record Stands (f : File) (i : ℕ) : Type 0 where
@@ -79,15 +79,15 @@ Claim-25 =
 -- arrival does not depend on delivery
 -- [01 F4]
 unfoldable pub Claim-26 : Type 0
-Claim-26 = (n : ℕ) (f : File) (i d : ℕ) → arrived n (withDelivery f d) i ≡ withDelivery (arrived n f i) d
+Claim-26 = (n : ℕ) (f : File) (i d : ℕ) → arrived n (with_delivery f d) i ≡ with_delivery (arrived n f i) d
 
 -- delivery: a legal number reads back, any other keeps the old one; the threshold keeps the low 8 bits. A
 -- corollary of claims 120 and 121, which have the select numbers, the legal numbers and what else stays
 unfoldable pub Claim-27 : Type 0
 Claim-27 =
     (g : Bool) (f : File) (v : ℕ)
-    → (deliveryLegal g v ≡ true → held (written 255 g f Delivery v) Delivery ≡ v)
-    × (deliveryLegal g v ≡ false → written 255 g f Delivery v ≡ f)
+    → (delivery_legal g v ≡ true → held (written 255 g f Delivery v) Delivery ≡ v)
+    × (delivery_legal g v ≡ false → written 255 g f Delivery v ≡ f)
     × (held (written 255 g f Threshold v) Threshold ≡ v % 2 ^ 8)
 
 -- the j-th pending register: what is written reads back, but for identity 0; bit k is identity 64j + k; the
@@ -95,9 +95,9 @@ Claim-27 =
 unfoldable pub Claim-28 : Type 0
 Claim-28 =
     (g : Bool) (f : File) (j v : ℕ) → Shaped f → j < 4
-    → (held (written 255 g f (Pending j) v) (Pending j) ≡ cond (eqb j 0) (withoutBit v 0) v)
+    → (held (written 255 g f (Pending j) v) (Pending j) ≡ cond (eqb j 0) (without_bit v 0) v)
     × ((k : ℕ) → k < 64 → 64 * j + k ≢ 0
-    → member (written 255 g f (Pending j) v).pending (64 * j + k) ≡ hasBit v k)
+    → member (written 255 g f (Pending j) v).pending (64 * j + k) ≡ has_bit v k)
     × ((i : ℕ) → i / 64 ≢ j → member (written 255 g f (Pending j) v).pending i ≡ member f.pending i)
 
 -- the j-th enable register: the same for the enable bits. A corollary of claims 123 and 124, which have its
@@ -105,33 +105,33 @@ Claim-28 =
 unfoldable pub Claim-29 : Type 0
 Claim-29 =
     (g : Bool) (f : File) (j v : ℕ) → Shaped f → j < 4
-    → (held (written 255 g f (Enable j) v) (Enable j) ≡ cond (eqb j 0) (withoutBit v 0) v)
+    → (held (written 255 g f (Enable j) v) (Enable j) ≡ cond (eqb j 0) (without_bit v 0) v)
     × ((k : ℕ) → k < 64 → 64 * j + k ≢ 0
-    → member (written 255 g f (Enable j) v).enable (64 * j + k) ≡ hasBit v k)
+    → member (written 255 g f (Enable j) v).enable (64 * j + k) ≡ has_bit v k)
     × ((i : ℕ) → i / 64 ≢ j → member (written 255 g f (Enable j) v).enable i ≡ member f.enable i)
 
 -- the illegal select numbers are those below 0x70, those above 0xFF, and the odd ones from 0x80 on
 -- [01 F10 F14 F15]
 unfoldable pub Claim-30 : Type 0
-Claim-30 = (s : ℕ) → (selectLegal s ≡ false) ↔ ((s < 0x70) ⊎ ((0xFF < s) ⊎ ((0x80 ≤ s) × (s % 2 ≡ 1))))
+Claim-30 = (s : ℕ) → (select_legal s ≡ false) ↔ ((s < 0x70) ⊎ ((0xFF < s) ⊎ ((0x80 ≤ s) × (s % 2 ≡ 1))))
 
 -- an access by an illegal select number answers so and changes nothing
 -- [01 F10 F15]
 unfoldable pub Claim-31 : Type 0
 Claim-31 =
-    (n : ℕ) (g : Bool) (f : File) (k : Access) (s v : ℕ) → selectLegal s ≡ false
+    (n : ℕ) (g : Bool) (f : File) (k : Access) (s v : ℕ) → select_legal s ≡ false
     → accessed n g f k s v ≡ record { answer = Illegal; file = f }
 
 -- a message, a claim and any access leave a file that keeps the rules
 pub record KeepsRules (g : Bool) (f : File) : Type 0 where
-  pub message : (a v : ℕ) → fileSound 255 g (pageWritten 255 f a v) ≡ true
-  pub claim : fileSound 255 g (claimed 255 f) ≡ true
-  pub access : (k : Access) (s v : ℕ) → v < 2 ^ 64 → fileSound 255 g (accessed 255 g f k s v).file ≡ true
+  pub message : (a v : ℕ) → file_sound 255 g (page_written 255 f a v) ≡ true
+  pub claim : file_sound 255 g (claimed 255 f) ≡ true
+  pub access : (k : Access) (s v : ℕ) → v < 2 ^ 64 → file_sound 255 g (accessed 255 g f k s v).file ≡ true
 
 -- every operation on a file keeps its state rules, and with them identity 0 clear
 -- [01 F13]
 unfoldable pub Claim-32 : Type 0
-Claim-32 = (g : Bool) (f : File) → Shaped f → fileSound 255 g f ≡ true → KeepsRules g f
+Claim-32 = (g : Bool) (f : File) → Shaped f → file_sound 255 g f ≡ true → KeepsRules g f
 
 -- a file signals by itself exactly if its delivery is 1 and its top is not 0; how files 0 and 1 signal for
 -- the wired controller, with delivery 0x40000000, is in Claim 89
@@ -141,11 +141,11 @@ Claim-33 = (n : ℕ) (f : File) → (signals n f ≡ true) ↔ ((f.delivery ≡ 
 
 -- what is stored is loaded, what is loaded is stored as it was, and a file that stands apart stays
 pub record RoundTrips (l : List ℕ) (at : ℕ) : Type 0 where
-  pub file : (f : File) → Shaped f → fileAt (putFile l at f) at ≡ f
-  pub block : putFile l at (fileAt l at) ≡ l
+  pub file : (f : File) → Shaped f → file_at (put_file l at f) at ≡ f
+  pub block : put_file l at (file_at l at) ≡ l
   pub apart : (f : File) → Shaped f → (i : ℕ) → i + 18 ≤ length l → (i + 18 ≤ at) ⊎ (at + 18 ≤ i)
-      → fileAt (putFile l at f) i ≡ fileAt l i
-  pub shape : WordsFit l → Shaped (fileAt l at)
+      → file_at (put_file l at f) i ≡ file_at l i
+  pub shape : WordsFit l → Shaped (file_at l at)
 
 -- a file's words in a block: what is stored is loaded, what is loaded is stored as it was, and what stands
 -- apart stays

@@ -7,17 +7,17 @@
 -- speaks of pending or enable bits. g says that the file is a guest's.
 -- No axioms.
 use Rattle.std.specs.Prelude.{ℕ, ◌+◌, ◌*◌, ◌/◌, ◌%◌, ◌^◌, ◌≤◌, ◌<◌, ◌≡◌, Bool, true, not, cond, ◌&&◌, ◌||◌, List, ◌↔◌, ◌⊎◌, eqb, leb}
-use Rattle.words.specs.Bits.{hasBit}
+use Rattle.words.specs.Bits.{has_bit}
 use Rattle.words.specs.Sets.{member}
-use Rattle.file_select.specs.Select.{selectLegal}
-use Rattle.file_select.specs.Deliveries.{deliveryLegal}
+use Rattle.file_select.specs.Select.{select_legal}
+use Rattle.file_select.specs.Deliveries.{delivery_legal}
 use Rattle.file.specs.declared.File.{File}
 use Rattle.file.specs.declared.register.Access.{Access}
 use Rattle.file.specs.declared.register.Access.TheVariants.{Read, Write, Set, Clear}
 use Rattle.file.specs.declared.register.Reply.TheVariants.{Value, Illegal}
 use Rattle.file.specs.Shape.{Shaped}
-use Rattle.file.specs.Parts.{withDelivery, withThreshold}
-use Rattle.file.specs.Reply.{replyNumber, replyValue}
+use Rattle.file.specs.Parts.{with_delivery, with_threshold}
+use Rattle.file.specs.Reply.{reply_number, reply_value}
 use Rattle.file.specs.Register.{accessed}
 use Rattle.claims_file.specs.FileState.{LegalDelivery}
 
@@ -26,14 +26,14 @@ use Rattle.claims_file.specs.FileState.{LegalDelivery}
 -- select 0x70: a write of a legal number replaces the delivery and nothing else, one of any other number
 -- nothing at all
 pub record DeliveryRegister (g : Bool) (f : File) (v : ℕ) : Type 0 where
-  pub alone : withDelivery f v
+  pub alone : with_delivery f v
       ≡ record { delivery = v; threshold = f.threshold; pending = f.pending; enable = f.enable }
   pub read : accessed 255 g f Read 0x70 v ≡ record { answer = Value f.delivery; file = f }
   pub write : LegalDelivery g v
-      → accessed 255 g f Write 0x70 v ≡ record { answer = Value 0; file = withDelivery f v }
+      → accessed 255 g f Write 0x70 v ≡ record { answer = Value 0; file = with_delivery f v }
   pub ignored : (LegalDelivery g v → ⊥)
       → accessed 255 g f Write 0x70 v ≡ record { answer = Value 0; file = f }
-  pub legal : (deliveryLegal g v ≡ true) ↔ LegalDelivery g v
+  pub legal : (delivery_legal g v ≡ true) ↔ LegalDelivery g v
 
 -- select 0x70, delivery: a read answers it; a write stores 0, 1, and for files 0 and 1 also 0x40000000, and
 -- any other value keeps the old one; nothing else of the file changes
@@ -43,11 +43,11 @@ Claim-120 = (g : Bool) (f : File) (v : ℕ) → DeliveryRegister g f v
 
 -- select 0x72: a write keeps the low 8 bits, and replaces nothing else
 pub record ThresholdRegister (g : Bool) (f : File) (v : ℕ) : Type 0 where
-  pub alone : withThreshold f v
+  pub alone : with_threshold f v
       ≡ record { delivery = f.delivery; threshold = v; pending = f.pending; enable = f.enable }
   pub read : accessed 255 g f Read 0x72 v ≡ record { answer = Value f.threshold; file = f }
   pub write : accessed 255 g f Write 0x72 v
-      ≡ record { answer = Value 0; file = withThreshold f (v % 256) }
+      ≡ record { answer = Value 0; file = with_threshold f (v % 256) }
 
 -- select 0x72, threshold: a read answers it; a write keeps the low 8 bits and changes nothing else
 -- [01 F8]
@@ -58,7 +58,7 @@ Claim-121 = (g : Bool) (f : File) (v : ℕ) → ThresholdRegister g f v
 
 pub record Shows (ws : List ℕ) (j r : ℕ) : Type 0 where
   pub fits : r < 2 ^ 64
-  pub bits : (k : ℕ) → k < 64 → hasBit r k ≡ member ws (64 * j + k)
+  pub bits : (k : ℕ) → k < 64 → has_bit r k ≡ member ws (64 * j + k)
 
 pub record PendingAlone (f f' : File) : Type 0 where
   pub delivery : f'.delivery ≡ f.delivery
@@ -81,7 +81,7 @@ Claim-122 =
     × ((accessed 255 g f Write (0x80 + 2 * j) v).answer ≡ Value 0)
     × PendingAlone f (accessed 255 g f Write (0x80 + 2 * j) v).file
     × ((i : ℕ) → member (accessed 255 g f Write (0x80 + 2 * j) v).file.pending i
-    ≡ cond (eqb (i / 64) j) (hasBit v (i % 64) && leb 1 i) (member f.pending i))
+    ≡ cond (eqb (i / 64) j) (has_bit v (i % 64) && leb 1 i) (member f.pending i))
 
 -- select 0xC0 + 2j: the same for the enable bits
 -- [01 F9 F11 F13]
@@ -93,7 +93,7 @@ Claim-123 =
     × ((accessed 255 g f Write (0xC0 + 2 * j) v).answer ≡ Value 0)
     × EnableAlone f (accessed 255 g f Write (0xC0 + 2 * j) v).file
     × ((i : ℕ) → member (accessed 255 g f Write (0xC0 + 2 * j) v).file.enable i
-    ≡ cond (eqb (i / 64) j) (hasBit v (i % 64) && leb 1 i) (member f.enable i))
+    ≡ cond (eqb (i / 64) j) (has_bit v (i % 64) && leb 1 i) (member f.enable i))
 
 -- ---- set and clear
 
@@ -102,41 +102,41 @@ Claim-123 =
 pub record OldAndNew (g : Bool) (f : File) (s v : ℕ) : Type 0 where
   pub old : ℕ
   pub read : (u : ℕ) → (accessed 255 g f Read s u).answer ≡ Value old
-  pub setAnswer : (accessed 255 g f Set s v).answer ≡ Value old
-  pub clearAnswer : (accessed 255 g f Clear s v).answer ≡ Value old
+  pub set_answer : (accessed 255 g f Set s v).answer ≡ Value old
+  pub clear_answer : (accessed 255 g f Clear s v).answer ≡ Value old
   pub more : ℕ
-  pub moreBits : (k : ℕ) → hasBit more k ≡ (hasBit old k || hasBit v k)
-  pub setFile : (accessed 255 g f Set s v).file ≡ (accessed 255 g f Write s more).file
+  pub more_bits : (k : ℕ) → has_bit more k ≡ (has_bit old k || has_bit v k)
+  pub set_file : (accessed 255 g f Set s v).file ≡ (accessed 255 g f Write s more).file
   pub less : ℕ
-  pub lessBits : (k : ℕ) → hasBit less k ≡ (hasBit old k && not (hasBit v k))
-  pub clearFile : (accessed 255 g f Clear s v).file ≡ (accessed 255 g f Write s less).file
+  pub less_bits : (k : ℕ) → has_bit less k ≡ (has_bit old k && not (has_bit v k))
+  pub clear_file : (accessed 255 g f Clear s v).file ≡ (accessed 255 g f Write s less).file
 
 -- the same at 0x80 + 2j and 0xC0 + 2j, bit by bit: the other identities and parts stay, and identity 0 is
 -- always 0
 pub record SetOrCleared (g : Bool) (f : File) (j v : ℕ) : Type 0 where
-  pub setPending : (i : ℕ) → member (accessed 255 g f Set (0x80 + 2 * j) v).file.pending i
-      ≡ cond (eqb (i / 64) j) ((member f.pending i || hasBit v (i % 64)) && leb 1 i)
+  pub set_pending : (i : ℕ) → member (accessed 255 g f Set (0x80 + 2 * j) v).file.pending i
+      ≡ cond (eqb (i / 64) j) ((member f.pending i || has_bit v (i % 64)) && leb 1 i)
       (member f.pending i)
-  pub clearPending : (i : ℕ) → member (accessed 255 g f Clear (0x80 + 2 * j) v).file.pending i
-      ≡ cond (eqb (i / 64) j) (member f.pending i && not (hasBit v (i % 64)) && leb 1 i)
+  pub clear_pending : (i : ℕ) → member (accessed 255 g f Clear (0x80 + 2 * j) v).file.pending i
+      ≡ cond (eqb (i / 64) j) (member f.pending i && not (has_bit v (i % 64)) && leb 1 i)
       (member f.pending i)
-  pub setPendingRest : PendingAlone f (accessed 255 g f Set (0x80 + 2 * j) v).file
-  pub clearPendingRest : PendingAlone f (accessed 255 g f Clear (0x80 + 2 * j) v).file
-  pub setEnable : (i : ℕ) → member (accessed 255 g f Set (0xC0 + 2 * j) v).file.enable i
-      ≡ cond (eqb (i / 64) j) ((member f.enable i || hasBit v (i % 64)) && leb 1 i)
+  pub set_pending_rest : PendingAlone f (accessed 255 g f Set (0x80 + 2 * j) v).file
+  pub clear_pending_rest : PendingAlone f (accessed 255 g f Clear (0x80 + 2 * j) v).file
+  pub set_enable : (i : ℕ) → member (accessed 255 g f Set (0xC0 + 2 * j) v).file.enable i
+      ≡ cond (eqb (i / 64) j) ((member f.enable i || has_bit v (i % 64)) && leb 1 i)
       (member f.enable i)
-  pub clearEnable : (i : ℕ) → member (accessed 255 g f Clear (0xC0 + 2 * j) v).file.enable i
-      ≡ cond (eqb (i / 64) j) (member f.enable i && not (hasBit v (i % 64)) && leb 1 i)
+  pub clear_enable : (i : ℕ) → member (accessed 255 g f Clear (0xC0 + 2 * j) v).file.enable i
+      ≡ cond (eqb (i / 64) j) (member f.enable i && not (has_bit v (i % 64)) && leb 1 i)
       (member f.enable i)
-  pub setEnableRest : EnableAlone f (accessed 255 g f Set (0xC0 + 2 * j) v).file
-  pub clearEnableRest : EnableAlone f (accessed 255 g f Clear (0xC0 + 2 * j) v).file
+  pub set_enable_rest : EnableAlone f (accessed 255 g f Set (0xC0 + 2 * j) v).file
+  pub clear_enable_rest : EnableAlone f (accessed 255 g f Clear (0xC0 + 2 * j) v).file
 
 -- a set and a clear answer what a read would, and write that with the value's bits added, or without them
 -- [01 C5 C6]
 unfoldable pub Claim-124 : Type 0
 Claim-124 =
     (g : Bool) (f : File) (v : ℕ)
-    → ((s : ℕ) → selectLegal s ≡ true → OldAndNew g f s v)
+    → ((s : ℕ) → select_legal s ≡ true → OldAndNew g f s v)
     × ((j : ℕ) → Shaped f → j < 4 → SetOrCleared g f j v)
 
 -- ---- the numbers with no register
@@ -151,5 +151,5 @@ Claim-125 =
     → (s ≡ 0x71) ⊎ (((0x73 ≤ s) × (s ≤ 0x7F))
     ⊎ ((s % 2 ≡ 0) × (((0x88 ≤ s) × (s ≤ 0xBE)) ⊎ ((0xC8 ≤ s) × (s ≤ 0xFE)))))
     → accessed 255 g f k s v ≡ record { answer = Value 0; file = f })
-    × ((u : ℕ) → (replyNumber (Value u) ≡ 0) × (replyValue (Value u) ≡ u))
-    × ((replyNumber Illegal ≡ 6) × (replyValue Illegal ≡ 0))
+    × ((u : ℕ) → (reply_number (Value u) ≡ 0) × (reply_value (Value u) ≡ u))
+    × ((reply_number Illegal ≡ 6) × (reply_value Illegal ≡ 0))

@@ -7,16 +7,16 @@
 -- for a register 64.
 -- No axioms.
 use Rattle.std.specs.Prelude.{ℕ, ◌-◌, ◌*◌, ◌/◌, ◌%◌, ◌^◌, ◌≤◌, ◌<◌, ◌≡◌, Bool, true, false, ◌&&◌, ◌||◌, List, ◌≢◌, ◌↔◌, ◌⊎◌, eqb, leb, length, get_or}
-use Rattle.words.specs.Bits.{hasBit}
+use Rattle.words.specs.Bits.{has_bit}
 use Rattle.words.specs.Parts.{reversed}
 use Rattle.words.specs.Sets.{member, WordsFit}
 use Rattle.file.specs.declared.File.{File}
 use Rattle.file.specs.declared.register.Access.{Access}
 use Rattle.file.specs.Shape.{Shaped}
-use Rattle.file.specs.Parts.{withDelivery}
-use Rattle.file.specs.Page.{pageWritten, pageRead}
+use Rattle.file.specs.Parts.{with_delivery}
+use Rattle.file.specs.Page.{page_written, page_read}
 use Rattle.file.specs.Top.{top_of, claimed, signals}
-use Rattle.file.specs.Rules.{fileSound}
+use Rattle.file.specs.Rules.{file_sound}
 use Rattle.file.specs.Register.{accessed}
 
 -- ---- the page
@@ -25,16 +25,16 @@ use Rattle.file.specs.Register.{accessed}
 -- j, 0, 0, 0 name, from the top; nothing else of the file changes, other offsets do nothing, reads give 0
 pub record PageWords (f : File) (a v : ℕ) : Type 0 where
   pub little : (j : ℕ)
-      → member (pageWritten 255 f 0 v).pending j ≡
+      → member (page_written 255 f 0 v).pending j ≡
       (member f.pending j || (eqb v j && leb 1 j && leb j 255))
   pub big : v < 2 ^ 32 → (j : ℕ)
-      → member (pageWritten 255 f 4 v).pending j ≡
+      → member (page_written 255 f 4 v).pending j ≡
       (member f.pending j || (eqb v (j * 2 ^ 24) && leb 1 j && leb j 255))
-  pub delivery : (pageWritten 255 f a v).delivery ≡ f.delivery
-  pub threshold : (pageWritten 255 f a v).threshold ≡ f.threshold
-  pub enable : (pageWritten 255 f a v).enable ≡ f.enable
-  pub elsewhere : a ≢ 0 → a ≢ 4 → pageWritten 255 f a v ≡ f
-  pub reads : pageRead f a ≡ 0
+  pub delivery : (page_written 255 f a v).delivery ≡ f.delivery
+  pub threshold : (page_written 255 f a v).threshold ≡ f.threshold
+  pub enable : (page_written 255 f a v).enable ≡ f.enable
+  pub elsewhere : a ≢ 0 → a ≢ 4 → page_written 255 f a v ≡ f
+  pub reads : page_read f a ≡ 0
 
 -- the four bytes of a number reversed: byte k is byte 3 - k
 pub record BytesReversed (v : ℕ) : Type 0 where
@@ -58,24 +58,24 @@ LegalDelivery g d = (d ≡ 0) ⊎ ((d ≡ 1) ⊎ ((g ≡ false) × (d ≡ 0x4000
 pub record FileRules (g : Bool) (f : File) : Type 0 where
   pub delivery : LegalDelivery g f.delivery
   pub threshold : f.threshold ≤ 255
-  pub pendingZero : member f.pending 0 ≡ false
-  pub enableZero : member f.enable 0 ≡ false
+  pub pending_zero : member f.pending 0 ≡ false
+  pub enable_zero : member f.enable 0 ≡ false
 
 -- a file keeps its state rules exactly if its delivery is a legal one, its threshold is at most 255, and
 -- identity 0 is neither pending nor enabled
 -- [01 F5 F6 R1 R2]
 unfoldable pub Claim-127 : Type 0
-Claim-127 = (g : Bool) (f : File) → (fileSound 255 g f ≡ true) ↔ FileRules g f
+Claim-127 = (g : Bool) (f : File) → (file_sound 255 g f ≡ true) ↔ FileRules g f
 
 -- ---- delivery
 
 -- the top does not depend on delivery, nor does what a claim takes; the file's own signal is the top's with
--- delivery 1, and low with any other (Claim 120 has withDelivery part by part)
+-- delivery 1, and low with any other (Claim 120 has with_delivery part by part)
 pub record DeliveryApart (f : File) (d : ℕ) : Type 0 where
-  pub top : top_of 255 (withDelivery f d) ≡ top_of 255 f
-  pub claim : claimed 255 (withDelivery f d) ≡ withDelivery (claimed 255 f) d
-  pub on : (signals 255 (withDelivery f 1) ≡ true) ↔ (top_of 255 f ≢ 0)
-  pub off : d ≢ 1 → signals 255 (withDelivery f d) ≡ false
+  pub top : top_of 255 (with_delivery f d) ≡ top_of 255 f
+  pub claim : claimed 255 (with_delivery f d) ≡ with_delivery (claimed 255 f) d
+  pub on : (signals 255 (with_delivery f 1) ≡ true) ↔ (top_of 255 f ≢ 0)
+  pub off : d ≢ 1 → signals 255 (with_delivery f d) ≡ false
 
 -- the top, and what a claim takes, do not depend on delivery; a file's own signal does
 -- [01 F19]
@@ -90,7 +90,7 @@ pub record EightWords (ws : List ℕ) : Type 0 where
 
 -- every operation keeps eight words of 32 bits in each set
 pub record KeepsShape (g : Bool) (f : File) : Type 0 where
-  pub message : (a v : ℕ) → Shaped (pageWritten 255 f a v)
+  pub message : (a v : ℕ) → Shaped (page_written 255 f a v)
   pub claim : Shaped (claimed 255 f)
   pub access : (k : Access) (s v : ℕ) → v < 2 ^ 64 → Shaped (accessed 255 g f k s v).file
 
@@ -100,8 +100,8 @@ pub record KeepsShape (g : Bool) (f : File) : Type 0 where
 -- [01 F23]
 unfoldable pub Claim-129 : Type 0
 Claim-129 =
-    ((w k : ℕ) → (hasBit w k ≡ true) ↔ (w / 2 ^ k % 2 ≡ 1))
-    × ((ws : List ℕ) (i : ℕ) → member ws i ≡ hasBit (get_or ws (i / 32) 0) (i % 32))
+    ((w k : ℕ) → (has_bit w k ≡ true) ↔ (w / 2 ^ k % 2 ≡ 1))
+    × ((ws : List ℕ) (i : ℕ) → member ws i ≡ has_bit (get_or ws (i / 32) 0) (i % 32))
     × ((ws : List ℕ) → WordsFit ws ↔ ((k : ℕ) → get_or ws k 0 < 2 ^ 32))
     × ((f : File) → Shaped f ↔
     ((f.delivery < 2 ^ 32) × (f.threshold < 2 ^ 32) × EightWords f.pending × EightWords f.enable))

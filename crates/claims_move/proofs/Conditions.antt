@@ -1,5 +1,5 @@
 -- Claims 112, 186 and 191, by the shifts that are given in full. Assumes nothing.
-use Rattle.move_laws.specs.Shift.{withMove, withoutMove}
+use Rattle.move_laws.specs.Shift.{with_move, without_move}
 use Rattle.move_cases.proofs.ExampleShift.{example}
 use Rattle.move_cases.proofs.NeededShifts.{pages-are, needs-all, needs-pages-new, needs-pages-old}
 use Rattle.move_cases.proofs.NeededShifts.{needs-fresh, needs-messages, needs-guest-old, needs-guest-new}
@@ -55,8 +55,8 @@ pub claim-191 : Claim-191
 unfolding Claim-191
 claim-191 P =
     let p = example.premises in
-    let with = withMove stations 0 shift in
-    let without = withoutMove stations shift in (
+    let with = with_move stations 0 shift in
+    let without = without_move stations shift in (
       (
         (λ w m l s es ms ns q. w m l s es ms ns q.started q.guests q.messages q.fresh q.all
             q.pages q.calls),

@@ -11,10 +11,10 @@ use borrow.Author.Tests.{eqb-true, eq-eqb}
 use Rattle.words.specs.Sets.{WordsFit}
 use Rattle.words.proofs.TestsLaws.{tested, and_first, and_second, and_both, or_cases, or_left, or_right}
 use Rattle.words.proofs.TestsLaws.{not_same}
-use Rattle.domain.specs.Slot.{sourceAt}
-use Rattle.board_move_steps.specs.Names.{namesFile}
+use Rattle.domain.specs.Slot.{source_at}
+use Rattle.board_move_steps.specs.Names.{names_file}
 use Rattle.board_move_wired_laws.proofs.TargetNames.{names-number, number-names}
-use Rattle.board_block.specs.Block.{boardOf}
+use Rattle.board_block.specs.Block.{board_of}
 use Rattle.board_call.specs.declared.Call.{Call}
 use Rattle.board_call.specs.Calls.{row_of}
 use Rattle.board_call.specs.declared.Call.TheVariants.{Reset, Wire, DomainRead, DomainWrite, PageRead}
@@ -22,9 +22,9 @@ use Rattle.board_call.specs.declared.Call.TheVariants.{PageWrite, Register, Top,
 use Rattle.board_call_laws.specs.Small.{Small}
 use Rattle.board_call_laws.proofs.FitEffects.{fit-block}
 use Rattle.board_move_laws.proofs.MoveEffects.{guest-hart, guest-low, guest-high}
-use Rattle.board_runs.specs.Reading.{onlyReads}
-use Rattle.move_laws.specs.Shift.{Stations, isOld, isNew, elsewhere, withMove, withoutMove}
-use Rattle.move_laws.specs.Premises.{TwoGuests, ByMessages, NoneNamesNew, accessesIn}
+use Rattle.board_runs.specs.Reading.{only_reads}
+use Rattle.move_laws.specs.Shift.{Stations, is_old, is_new, elsewhere, with_move, without_move}
+use Rattle.move_laws.specs.Premises.{TwoGuests, ByMessages, NoneNamesNew, accesses_in}
 use Rattle.move_laws.specs.Premises.{AllAccesses, PagesKept, CallsKept}
 use Rattle.claims_registers.proofs.Registers.{active-iff}
 use Rattle.claims_move.specs.Premises.{Claim-175, Claim-178}
@@ -48,13 +48,13 @@ module _ (h f h' f' : ℕ) where
 
 two-guests : (m : Stations)
     → TwoGuests m
-    ↔ ((m.oldHart < 4) × (2 ≤ m.oldFile) × (m.oldFile ≤ 4) × (m.newHart < 4) × (2 ≤ m.newFile)
-    × (m.newFile ≤ 4) × (m.oldHart ≡ m.newHart → m.oldFile ≡ m.newFile → ⊥))
+    ↔ ((m.old_hart < 4) × (2 ≤ m.old_file) × (m.old_file ≤ 4) × (m.new_hart < 4) × (2 ≤ m.new_file)
+    × (m.new_file ≤ 4) × (m.old_hart ≡ m.new_hart → m.old_file ≡ m.new_file → ⊥))
 two-guests m =
-    let oh = m.oldHart in
-    let of = m.oldFile in
-    let nh = m.newHart in
-    let nf = m.newFile in (
+    let oh = m.old_hart in
+    let of = m.old_file in
+    let nh = m.new_hart in
+    let nf = m.new_file in (
       (λ g. (
         guest-hart oh of g.old,
         guest-low oh of g.old,
@@ -76,13 +76,13 @@ or_split p q = (or_cases p q, ⊎_elim (or_left p q) (or_right p q))
 
 -- what is asked of a page write to new, and of one to old, by their numbers
 pub page-asked : (m : Stations) (h f : ℕ) (A B C : Type 0)
-    → ((isNew m h f ≡ true → A) × (isOld m h f ≡ true → B) × C)
-    ↔ ((h ≡ m.newHart → f ≡ m.newFile → A) × (h ≡ m.oldHart → f ≡ m.oldFile → B) × C)
+    → ((is_new m h f ≡ true → A) × (is_old m h f ≡ true → B) × C)
+    ↔ ((h ≡ m.new_hart → f ≡ m.new_file → A) × (h ≡ m.old_hart → f ≡ m.old_file → B) × C)
 page-asked m h f A B C =
-    let nh = m.newHart in
-    let nf = m.newFile in
-    let oh = m.oldHart in
-    let of = m.oldFile in (
+    let nh = m.new_hart in
+    let nf = m.new_file in
+    let oh = m.old_hart in
+    let of = m.old_file in (
       (λ k. (
         (λ p q. k.0 (file-same h f nh nf p q)),
         (λ p q. k.1 (file-same h f oh of p q)),
@@ -97,29 +97,29 @@ page-asked m h f A B C =
 
 -- every four numbers are the places of a station
 any-stations : (oh of nh nf : ℕ)
-    → (x : Stations) × (x.oldHart ≡ oh) × (x.oldFile ≡ of) × (x.newHart ≡ nh) × (x.newFile ≡ nf)
+    → (x : Stations) × (x.old_hart ≡ oh) × (x.old_file ≡ of) × (x.new_hart ≡ nh) × (x.new_file ≡ nf)
 any-stations oh of nh nf =
-    (record { oldHart = oh; oldFile = of; newHart = nh; newFile = nf }, refl, refl, refl, refl)
+    (record { old_hart = oh; old_file = of; new_hart = nh; new_file = nf }, refl, refl, refl, refl)
 
 pub claim-175 : Claim-175
-unfolding Claim-175 NoneNamesNew ByMessages WordsFit accessesIn AllAccesses PagesKept CallsKept withMove
-    withoutMove
+unfolding Claim-175 NoneNamesNew ByMessages WordsFit accesses_in AllAccesses PagesKept CallsKept with_move
+    without_move
 claim-175 m l s es c n j level h f a v =
-    let nh = m.newHart in
-    let nf = m.newFile in
-    let oh = m.oldHart in
-    let of = m.oldFile in
+    let nh = m.new_hart in
+    let nf = m.new_file in
+    let oh = m.old_hart in
+    let of = m.old_file in
     let next : suc n ≡ n + 1 = omega arith in
-    let either = or_split (onlyReads c) (elsewhere m c) in (
+    let either = or_split (only_reads c) (elsewhere m c) in (
       any-stations,
       two-guests m,
       (
-        (λ none i o u z t p q. let x = (sourceAt (boardOf l).wired.child i).target in
-            not_same (namesFile x nh nf) (number-names x nh nf p q)
+        (λ none i o u z t p q. let x = (source_at (board_of l).wired.child i).target in
+            not_same (names_file x nh nf) (number-names x nh nf p q)
             (none i o u ((active-iff _).1 (z, t)))),
-        (λ none i o u on. let x = (sourceAt (boardOf l).wired.child i).target in
+        (λ none i o u on. let x = (source_at (board_of l).wired.child i).target in
             let active = (active-iff _).0 on in
-            tested (namesFile x nh nf)
+            tested (names_file x nh nf)
             (λ y. let e = names-number x nh nf y in absurd (none i o u active.0 active.1 e.0 e.1))
             (λ y. y)),
       ),
@@ -153,7 +153,7 @@ claim-175 m l s es c n j level h f a v =
       refl,
       refl,
       refl,
-      ap (λ (k : ℕ). Move oh of nh nf k ∷ withMove m k es) next,
+      ap (λ (k : ℕ). Move oh of nh nf k ∷ with_move m k es) next,
       refl,
       refl,
       refl,

@@ -9,14 +9,14 @@ use lib.ListN.{length, take, drop}
 use lib.Seq.{take-append_seam, drop-append_seam}
 use Rattle.words.proofs.TestsLaws.{not_same}
 use Rattle.domain_sending.specs.Sending.{logged}
-use Rattle.board_block.specs.Block.{boardOf}
+use Rattle.board_block.specs.Block.{board_of}
 use Rattle.board_call.specs.declared.Call.{Call}
 use Rattle.board_call.specs.Calls.{row_of}
 use Rattle.board_call.specs.Outcome.{Outcome, step, outcome}
-use Rattle.board_call.specs.Refusal.{refusalOf}
+use Rattle.board_call.specs.Refusal.{refusal_of}
 use Rattle.board_call_laws.proofs.OutcomeEffects.{outcome-refused, outcome-done}
-use Rattle.board_runs.specs.Runs.{Made, leftBy, Said, saidWhere, after, ran}
-use Rattle.board_runs.specs.Handed.{isAccess, savedBy, HandedOn, LogsLong}
+use Rattle.board_runs.specs.Runs.{Made, left_by, Said, said_where, after, ran}
+use Rattle.board_runs.specs.Handed.{is_access, saved_by, HandedOn, LogsLong}
 use Rattle.board_runs.proofs.MadeEffects.{refusal-log, outcome-log, outcome-saved, left-handing}
 use Rattle.board_runs.proofs.MadeEffects.{calls-handing, logs-handing, handed-handing, saved-handing}
 use Rattle.board_runs.specs.Runs.{handing}
@@ -33,16 +33,16 @@ module _ (c : Call) (l g g' s : List ℕ) (same : length g ≡ length g') where
 
   words_same : (take o.count o.log ≡ take o.count o'.log)
       × (drop o.count o.log ≡ drop o.count g)
-  words_same = at (ℕ_discrete (refusalOf c l g) 0)
+  words_same = at (ℕ_discrete (refusal_of c l g) 0)
     where
-      again : refusalOf c l g' ≡ refusalOf c l g
+      again : refusal_of c l g' ≡ refusal_of c l g
       again = sym (refusal-log (row_of c).tests l g g' same)
 
-      at : Dec (refusalOf c l g ≡ 0)
+      at : Dec (refusal_of c l g ≡ 0)
           → (take o.count o.log ≡ take o.count o'.log)
           × (drop o.count o.log ≡ drop o.count g)
       at (yes e) =
-          let ms = (step c (boardOf l) s).messages in
+          let ms = (step c (board_of l) s).messages in
           unfold logged in
           rw (outcome-done c l g s e, outcome-done c l g' s (again ∙ e)) (
             take-append_seam ms (drop (length ms) g) ∙ sym (take-append_seam ms (drop (length ms) g')),
@@ -51,7 +51,7 @@ module _ (c : Call) (l g g' s : List ℕ) (same : length g ≡ length g') where
       at (no n) = rw (outcome-refused c l g s _ refl n) (refl, refl)
 
 pub claim-183 : Claim-183
-unfolding Claim-183 isAccess row_of
+unfolding Claim-183 is_access row_of
 claim-183 = (
   (λ c l g g' s same. let q = outcome-log c l g g' s same in
       let w = words_same c l g g' s same in (
@@ -89,23 +89,23 @@ claim-183 = (
 -- ---- runs
 
 -- an access is given the saved numbers that are handed on, and hands on its own
-handed-access : (m : Made) (ms : List Made) (l s : List ℕ) → isAccess m.call ≡ true
+handed-access : (m : Made) (ms : List Made) (l s : List ℕ) → is_access m.call ≡ true
     → let o = outcome m.call l m.log m.saved in
     HandedOn s (m ∷ ms) l ↔ ((m.saved ≡ s) × HandedOn o.saved ms o.block)
 unfolding HandedOn
 handed-access m ms l s t =
     let o = outcome m.call l m.log m.saved in
-    let next : cond (isAccess m.call) o.saved s ≡ o.saved = rw t refl in (
+    let next : cond (is_access m.call) o.saved s ≡ o.saved = rw t refl in (
       (λ h. (h.0 t, subst (λ (u : List ℕ). HandedOn u ms o.block) next h.1)),
       (λ h. ((λ e. h.0), subst (λ (u : List ℕ). HandedOn u ms o.block) (sym next) h.1)),
     )
 
-handed-past : (m : Made) (ms : List Made) (l s : List ℕ) → isAccess m.call ≡ false
+handed-past : (m : Made) (ms : List Made) (l s : List ℕ) → is_access m.call ≡ false
     → let o = outcome m.call l m.log m.saved in HandedOn s (m ∷ ms) l ↔ HandedOn s ms o.block
 unfolding HandedOn
 handed-past m ms l s f =
     let o = outcome m.call l m.log m.saved in
-    let next : cond (isAccess m.call) o.saved s ≡ s = rw f refl in (
+    let next : cond (is_access m.call) o.saved s ≡ s = rw f refl in (
       (λ h. subst (λ (u : List ℕ). HandedOn u ms o.block) next h.1),
       (λ h. (
         (λ e. absurd (not_same _ e f)),
@@ -114,7 +114,7 @@ handed-past m ms l s f =
     )
 
 pub claim-184 : Claim-184
-unfolding Claim-184 leftBy saidWhere savedBy HandedOn LogsLong after ran handing
+unfolding Claim-184 left_by said_where saved_by HandedOn LogsLong after ran handing
 claim-184 = (
   (λ m ms cs l s p. (
     refl,

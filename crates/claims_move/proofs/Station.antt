@@ -11,37 +11,37 @@ use borrow.Author.Tests.{eq-eqb, eqb-true}
 use Rattle.words.specs.Sets.{member}
 use Rattle.words.proofs.TestsLaws.{tested, not_same}
 use Rattle.file.specs.declared.File.{File}
-use Rattle.file.specs.Top.{topIdentity, top_of, claimed}
+use Rattle.file.specs.Top.{top_identity, top_of, claimed}
 use Rattle.file_laws.proofs.TopEffects.{top-is, top_within, claimed-pending}
 use Rattle.board_move_steps.specs.Steps.{accesses}
 use Rattle.board_move_wired_laws.proofs.TargetNames.{number-names}
-use Rattle.board_block.specs.Block.{boardOf}
+use Rattle.board_block.specs.Block.{board_of}
 use Rattle.board_call.specs.declared.Call.{Call}
 use Rattle.board_call.specs.declared.Call.TheVariants.{Wire, Register, Claim}
 use Rattle.board_call.specs.Calls.{row_of}
 use Rattle.board_call.specs.Outcome.{outcome}
-use Rattle.board_runs.specs.Runs.{Made, leftBy, Said, said_of, saidWhere, Lent, outcomeOn, after, ran}
-use Rattle.board_runs.specs.Handed.{isAccess, HandedOn, Makes}
-use Rattle.board_runs.specs.Ready.{boardIn, Ready}
-use Rattle.board_runs.specs.Reading.{onlyReads, storing}
+use Rattle.board_runs.specs.Runs.{Made, left_by, Said, said_of, said_where, Lent, outcome_on, after, ran}
+use Rattle.board_runs.specs.Handed.{is_access, HandedOn, Makes}
+use Rattle.board_runs.specs.Ready.{board_in, Ready}
+use Rattle.board_runs.specs.Reading.{only_reads, storing}
 use Rattle.board_runs.proofs.RunsEffects.{ready-refusal, after-refused, after-board, after-saved, ready-after}
 use Rattle.board_runs.proofs.ReadingEffects.{reads_word, word-reads, after_read, left-storing}
 use Rattle.board_runs.proofs.MadeEffects.{Alike, made_alike, Follows}
-use Rattle.move_laws.specs.Shift.{Stations, Event, withMove, withoutMove}
+use Rattle.move_laws.specs.Shift.{Stations, Event, with_move, without_move}
 use Rattle.move_laws.specs.Premises.{Started, TwoGuests, ByMessages, NoneNamesNew, AllAccesses, PagesKept}
 use Rattle.move_laws.specs.Premises.{CallsKept, Premises}
-use Rattle.move_laws.specs.Moved.{oldNumber, newNumber, oldIn, newIn, Moved}
-use Rattle.words.specs.Bits.{hasBit}
-use Rattle.files.specs.Files.{theFile}
-use Rattle.board_call.specs.Change.{signalsTo}
-use Rattle.move_laws.specs.After.{FileCall, Later, thenHere, thenThere, LaterKept}
+use Rattle.move_laws.specs.Moved.{old_number, new_number, old_in, new_in, Moved}
+use Rattle.words.specs.Bits.{has_bit}
+use Rattle.files.specs.Files.{the_file}
+use Rattle.board_call.specs.Change.{signals_to}
+use Rattle.move_laws.specs.After.{FileCall, Later, then_here, then_there, LaterKept}
 use Rattle.move_laws.proofs.LaterEffects.{goes-start, later-run}
 use Rattle.move_laws.proofs.LaterRuns.{follows-later}
 use Rattle.board_call_laws.proofs.HartCallEffects.{signal-bit}
 use Rattle.move_laws.proofs.Invariant.{new-lt, is-new, is-old}
 use Rattle.move_laws.proofs.WatchEffects.{file-signals}
 use Rattle.move_laws.proofs.BesideEffects.{Beside}
-use Rattle.move_laws.proofs.ShiftEffects.{lentFrom, moment, move-beside, move-keeps}
+use Rattle.move_laws.proofs.ShiftEffects.{lent_from, moment, move-beside, move-keeps}
 use Rattle.move_laws.proofs.AfterEffects.{said_same, file-same, claim-said, claim-left}
 use Rattle.move_laws.proofs.AfterEffects.{same-signal}
 use Rattle.move_laws.proofs.LeftEffects.{wire-leaves, move-leaves, move-held}
@@ -63,8 +63,8 @@ claim-104 c x ready small = (
 
 -- ---- a call afterwards, with a log and saved numbers of its own
 
-pub alike : (c : Call) → isAccess c ≡ false → (x : Lent) → Ready x → (g t : List ℕ) → length g ≡ 63
-    → Alike (outcome c x.block g t) (outcomeOn c x)
+pub alike : (c : Call) → is_access c ≡ false → (x : Lent) → Ready x → (g t : List ℕ) → length g ≡ 63
+    → Alike (outcome c x.block g t) (outcome_on c x)
 alike c none x ready g t long =
     made_alike (record { call = c; log = g; saved = t }) x (long ∙ sym ready.full)
     (λ e. absurd (not_same _ e none))
@@ -73,8 +73,8 @@ alike c none x ready g t long =
 
 module _ (m : Stations) (l s : List ℕ) (es : List Event) (ms ns : List Made) (started : Started l s)
     (guests : TwoGuests m) (messages : ByMessages l) (fresh : NoneNamesNew m l) (all : AllAccesses es)
-    (pages : PagesKept m 0 es) (calls : CallsKept m es) (with : Makes (withMove m 0 es) ms)
-    (handed : HandedOn s ms l) (without : Makes (withoutMove m es) ns)
+    (pages : PagesKept m 0 es) (calls : CallsKept m es) (with : Makes (with_move m 0 es) ms)
+    (handed : HandedOn s ms l) (without : Makes (without_move m es) ns)
   where
     premises : Premises m l s es
     premises =
@@ -89,46 +89,46 @@ module _ (m : Stations) (l s : List ℕ) (es : List Event) (ms ns : List Made) (
         }
 
     abbrev here : Lent
-    here = ran (withMove m 0 es) (lentFrom l s)
+    here = ran (with_move m 0 es) (lent_from l s)
 
     abbrev there : Lent
-    there = ran (withoutMove m es) (lentFrom l s)
+    there = ran (without_move m es) (lent_from l s)
 
     beside : Beside m guests accesses here there
     unfolding premises
     beside = move-beside m l s es premises
 
-    follows-with : Follows (withMove m 0 es) ms (lentFrom l s)
+    follows-with : Follows (with_move m 0 es) ms (lent_from l s)
     follows-with = follows-here m l s es started calls ms with handed
 
     -- what both leave
-    left_here : leftBy ms l ≡ here.block
+    left_here : left_by ms l ≡ here.block
     left_here = follows-with.left
 
-    left_there : leftBy ns l ≡ there.block
+    left_there : left_by ns l ≡ there.block
     left_there = (follows-there m l s es started calls ns without).left
 
-    moved : Moved m (boardIn here) (boardIn there)
+    moved : Moved m (board_in here) (board_in there)
     moved = move-keeps m l s es premises
 
     -- an identity of the one file is that of the other
     pending-same : (i : ℕ)
-        → member (newIn m (boardIn here)).pending i ≡ member (oldIn m (boardIn there)).pending i
+        → member (new_in m (board_in here)).pending i ≡ member (old_in m (board_in there)).pending i
     pending-same i = ap (λ (f : File). member f.pending i) moved.station
 
     abbrev top : ℕ
-    top = top_of 255 (newIn m (boardIn here))
+    top = top_of 255 (new_in m (board_in here))
 
     -- the identity that a claim answers is not pending after it
-    claimed-gone : top ≢ 0 → member (claimed 255 (newIn m (boardIn here))).pending (top / 65536) ≡ false
+    claimed-gone : top ≢ 0 → member (claimed 255 (new_in m (board_in here))).pending (top / 65536) ≡ false
     claimed-gone n =
-        let f = newIn m (boardIn here) in
-        let i = topIdentity 255 f in
+        let f = new_in m (board_in here) in
+        let i = top_identity 255 f in
         let is = top-is 255 f in
         let some : i ≢ 0 = λ e. n (omega (arith, is)) in
         let low = top_within 255 f some in
         let named : top / 65536 ≡ i = omega (arith, is, low) in
-        let long = (beside.ready.fit.files (newNumber m) (new-lt m guests)).pendingLong in
+        let long = (beside.ready.fit.files (new_number m) (new-lt m guests)).pending_long in
         ap (member (claimed 255 f).pending) named ∙ claimed-pending 255 f i low.0 (omega (arith, low))
         ∙ and-never (member f.pending i) (eqb i i) (eq-eqb i i refl)
       where
@@ -139,16 +139,16 @@ module _ (m : Stations) (l s : List ℕ) (es : List Event) (ms ns : List Made) (
     -- a claim afterwards
     module _ (g g' t t' : List ℕ) (long : length g ≡ 63) (long' : length g' ≡ 63) where
       abbrev new : Call
-      new = Claim m.newHart m.newFile
+      new = Claim m.new_hart m.new_file
 
       abbrev old : Call
-      old = Claim m.oldHart m.oldFile
+      old = Claim m.old_hart m.old_file
 
-      on-new : Alike (outcome new here.block g t) (outcomeOn new here)
-      on-new = alike new (unfold isAccess row_of in refl) here beside.ready g t long
+      on-new : Alike (outcome new here.block g t) (outcome_on new here)
+      on-new = alike new (unfold is_access row_of in refl) here beside.ready g t long
 
-      on-old : Alike (outcome old there.block g' t') (outcomeOn old there)
-      on-old = alike old (unfold isAccess row_of in refl) there beside.ready' g' t' long'
+      on-old : Alike (outcome old there.block g' t') (outcome_on old there)
+      on-old = alike old (unfold is_access row_of in refl) there beside.ready' g' t' long'
 
       abbrev answer : Said
       answer = record { number = 0; value = top; count = 0 }
@@ -166,8 +166,8 @@ module _ (m : Stations) (l s : List ℕ) (es : List Event) (ms ns : List Made) (
           let o' = outcome old there.block g' t' in
           (o.number ≡ 0) × (o.value ≡ top) × (o.count ≡ 0)
           × (o'.number ≡ 0) × (o'.value ≡ top) × (o'.count ≡ 0)
-          × (top ≢ 0 → member (newIn m (boardOf o.block)).pending (top / 65536) ≡ false)
-          × (newIn m (boardOf o.block) ≡ oldIn m (boardOf o'.block))
+          × (top ≢ 0 → member (new_in m (board_of o.block)).pending (top / 65536) ≡ false)
+          × (new_in m (board_of o.block) ≡ old_in m (board_of o'.block))
       unfolding after
       claims = (
         ap (λ (s : Said). s.number) said-new,
@@ -176,30 +176,30 @@ module _ (m : Stations) (l s : List ℕ) (es : List Event) (ms ns : List Made) (
         ap (λ (s : Said). s.number) said-old,
         ap (λ (s : Said). s.value) said-old,
         ap (λ (s : Said). s.count) said-old,
-        (λ n. ap (λ (b : List ℕ). member (newIn m (boardOf b)).pending (top / 65536)) on-new.block
+        (λ n. ap (λ (b : List ℕ). member (new_in m (board_of b)).pending (top / 65536)) on-new.block
             ∙ ap (λ (z : File). member z.pending (top / 65536)) (claim-left m guests here beside.ready)
             ∙ claimed-gone n),
-        ap (λ (b : List ℕ). newIn m (boardOf b)) on-new.block
+        ap (λ (b : List ℕ). new_in m (board_of b)) on-new.block
             ∙ file-same m guests here there beside.ready beside.ready' moved.station FileCall.claim
             (unfold row_of in tt)
-            ∙ ap (λ (b : List ℕ). oldIn m (boardOf b)) (sym on-old.block),
+            ∙ ap (λ (b : List ℕ). old_in m (board_of b)) (sym on-old.block),
       )
 
     -- the rest of the shift
     module _ (more : List Later) (us vs : List Made) (kept : LaterKept m more)
-        (onNew : Makes (thenHere m more) us)
-        (onOld : Makes (thenThere m more) vs) where
-      on : let b = boardOf (leftBy us here.block) in
-          let b' = boardOf (leftBy vs there.block) in
-          (saidWhere (λ c. true) us here.block ≡ saidWhere (λ c. true) vs there.block)
-          × (newIn m b ≡ oldIn m b')
-          × ((k : ℕ) → k < 20 → k ≢ oldNumber m → k ≢ newNumber m
-          → theFile b.files k ≡ theFile b'.files k)
-          × (hasBit (signalsTo b m.newHart 5) m.newFile
-          ≡ hasBit (signalsTo b' m.oldHart 5) m.oldFile)
+        (on_new : Makes (then_here m more) us)
+        (on_old : Makes (then_there m more) vs) where
+      on : let b = board_of (left_by us here.block) in
+          let b' = board_of (left_by vs there.block) in
+          (said_where (λ c. true) us here.block ≡ said_where (λ c. true) vs there.block)
+          × (new_in m b ≡ old_in m b')
+          × ((k : ℕ) → k < 20 → k ≢ old_number m → k ≢ new_number m
+          → the_file b.files k ≡ the_file b'.files k)
+          × (has_bit (signals_to b m.new_hart 5) m.new_file
+          ≡ has_bit (signals_to b' m.old_hart 5) m.old_file)
       on =
           let start = goes-start m guests here there beside in
-          let f = follows-later m guests more kept us vs here there start onNew onOld in
+          let f = follows-later m guests more kept us vs here there start on_new on_old in
           let r = later-run m guests more here there start kept in
           let same = r.goes.station in
           rw (f.0.left, f.1.left) (
@@ -211,11 +211,11 @@ module _ (m : Stations) (l s : List ℕ) (es : List Event) (ms ns : List Made) (
 
     -- a wire afterwards
     wires : (i level : ℕ) (g t : List ℕ) → length g ≡ 63
-        → oldIn m (boardOf (outcome (Wire i level) here.block g t).block) ≡ oldIn m (boardIn here)
+        → old_in m (board_of (outcome (Wire i level) here.block g t).block) ≡ old_in m (board_in here)
     unfolding after
     wires i level g t long =
-        ap (λ (b : List ℕ). oldIn m (boardOf b))
-        (alike (Wire i level) (unfold isAccess row_of in refl) here beside.ready g t long).block
+        ap (λ (b : List ℕ). old_in m (board_of b))
+        (alike (Wire i level) (unfold is_access row_of in refl) here beside.ready g t long).block
         ∙ wire-leaves m guests here beside.ready (move-leaves m l s es premises) i level
 
 pub claim-105 : Claim-105
@@ -277,8 +277,8 @@ claim-185 m l s es ms ns a b c d e f g h i j =
 pub claim-190 : Claim-190
 unfolding Claim-190
 claim-190 m l s es ms ns started guests messages fresh few pages calls with handed without =
-    let x = ran (withMove m 0 es) (lentFrom l s) in
-    let y = ran (withoutMove m es) (lentFrom l s) in
+    let x = ran (with_move m 0 es) (lent_from l s) in
+    let y = ran (without_move m es) (lent_from l s) in
     let r = moment m l s es started guests messages fresh few pages calls in
     let only = r.middle.only in
     rw (
@@ -290,11 +290,11 @@ claim-190 m l s es ms ns started guests messages fresh few pages calls with hand
       only.machine,
       only.pending,
       only.enable,
-      (λ h f there low o n. signal-bit (boardIn x) h 5 f low
+      (λ h f there low o n. signal-bit (board_in x) h 5 f low
           ∙ file-signals m guests _ x y r h f there low
-          (λ q. not_same _ (is-old m guests h f low q) (file-other h f m.oldHart m.oldFile o))
-          (λ q. not_same _ (is-new m guests h f low q) (file-other h f m.newHart m.newFile n))
-          ∙ sym (signal-bit (boardIn y) h 5 f low)),
+          (λ q. not_same _ (is-old m guests h f low q) (file-other h f m.old_hart m.old_file o))
+          (λ q. not_same _ (is-new m guests h f low q) (file-other h f m.new_hart m.new_file n))
+          ∙ sym (signal-bit (board_in y) h 5 f low)),
     )
 
 pub claim-180 : Claim-180
@@ -307,7 +307,7 @@ claim-180 m l s es ms ns a b c d e f g h i j =
     rw (left_here m l s es ms ns a b c d e f g h i j, kept) (
       left.silent,
       left.signal,
-      (λ k u v x y. not_same _ (number-names _ m.oldHart m.oldFile x y) (left.unnamed k u v)),
+      (λ k u v x y. not_same _ (number-names _ m.old_hart m.old_file x y) (left.unnamed k u v)),
       wires m l s es ms ns a b c d e f g h i j,
       held.pending,
       held.enable,
@@ -318,15 +318,15 @@ claim-180 m l s es ms ns a b c d e f g h i j =
 
 -- ---- what only reads
 
-reads-kind : (h f k s v : ℕ) → (onlyReads (Register h f k s v) ≡ true) ↔ (k ≡ 0)
-unfolding onlyReads row_of
+reads-kind : (h f k s v : ℕ) → (only_reads (Register h f k s v) ≡ true) ↔ (k ≡ 0)
+unfolding only_reads row_of
 reads-kind h f k s v = (
   (λ e. tested (eqb k 0) (eqb-true k 0) (λ n. absurd (false≢true (rw n at e)))),
   (λ e. rw (eq-eqb k 0 e) refl),
 )
 
 pub claim-181 : Claim-181
-unfolding Claim-181 onlyReads storing after row_of
+unfolding Claim-181 only_reads storing after row_of
 claim-181 = (
   (λ a d f h k level n nf nh of oh s v w. (
     refl,
@@ -349,5 +349,5 @@ claim-181 = (
   refl,
   (λ m ms. ((λ t. rw t refl), (λ f. rw f refl))),
   left-storing,
-  (λ ms us l e. left-storing ms l ∙ ap (λ (vs : List Made). leftBy vs l) e ∙ sym (left-storing us l)),
+  (λ ms us l e. left-storing ms l ∙ ap (λ (vs : List Made). left_by vs l) e ∙ sym (left-storing us l)),
 )

@@ -9,20 +9,20 @@ use borrow.Author.Tests.{eq-eqb, ne_eqb, lt-ltb}
 use Rattle.words.specs.Sets.{WordsFit}
 use Rattle.words.proofs.TestsLaws.{tested, not_same}
 use Rattle.words.specs.Parts.{packed}
-use Rattle.source_target.specs.Target.{hartOf, guestOf, number_of}
-use Rattle.board_move_steps.specs.Names.{namesFile, renamed}
+use Rattle.source_target.specs.Target.{hart_of, guest_of, number_of}
+use Rattle.board_move_steps.specs.Names.{names_file, renamed}
 use Rattle.board_move_wired_laws.proofs.TargetNames.{names-number, number-names}
-use Rattle.files.specs.Files.{fileNumber}
+use Rattle.files.specs.Files.{file_number}
 use Rattle.board_call.specs.declared.Call.{Call}
-use Rattle.board_call.specs.Numbers.{isFile}
+use Rattle.board_call.specs.Numbers.{is_file}
 use Rattle.board_call_laws.proofs.FileCallEffects.{hart-lt, file-lt}
 use Rattle.board_move_laws.proofs.MoveEffects.{guest-hart, guest-low, guest-high}
-use Rattle.board_runs.specs.Reading.{onlyReads}
-use Rattle.move_laws.specs.Shift.{Stations, Event, isNeither, hasNeither, elsewhere}
+use Rattle.board_runs.specs.Reading.{only_reads}
+use Rattle.move_laws.specs.Shift.{Stations, Event, is_neither, has_neither, elsewhere}
 use Rattle.move_laws.specs.Shift.Event.{wire, page, access, call}
-use Rattle.move_laws.specs.After.{FileCall, callOn, thenHere, thenThere, LaterKept}
-use Rattle.move_cases.specs.Needed.{PagesWithin, LogLong, AnyOld, AnyNew, Besides, onOld}
-use Rattle.move_cases.specs.Needed.{stationThere}
+use Rattle.move_laws.specs.After.{FileCall, call_on, then_here, then_there, LaterKept}
+use Rattle.move_cases.specs.Needed.{PagesWithin, LogLong, AnyOld, AnyNew, Besides, on_old}
+use Rattle.move_cases.specs.Needed.{station_there}
 use Rattle.claims_move.specs.Words.{Claim-187, Claim-188}
 use Rattle.claims_move.proofs.MoveCall.{guest-joined}
 use Rattle.claims_move.proofs.Premises.{file-same, file-other, or_split, page-asked}
@@ -35,30 +35,30 @@ or-true false = refl
 
 module _ (m : Stations) (h f : ℕ) where
   -- file f of hart h is neither old nor new
-  neither-iff : (isNeither m h f ≡ true)
-      ↔ ((h ≡ m.oldHart → f ≡ m.oldFile → ⊥) × (h ≡ m.newHart → f ≡ m.newFile → ⊥))
+  neither-iff : (is_neither m h f ≡ true)
+      ↔ ((h ≡ m.old_hart → f ≡ m.old_file → ⊥) × (h ≡ m.new_hart → f ≡ m.new_file → ⊥))
   neither-iff =
-      let old = eqb h m.oldHart && eqb f m.oldFile in
-      let new = eqb h m.newHart && eqb f m.newFile in (
+      let old = eqb h m.old_hart && eqb f m.old_file in
+      let new = eqb h m.new_hart && eqb f m.new_file in (
         (λ e. (
-          (λ p q. not_same _ e (rw (file-same h f m.oldHart m.oldFile p q))),
-          (λ p q. not_same _ e (rw (file-same h f m.newHart m.newFile p q) (or-true old))),
+          (λ p q. not_same _ e (rw (file-same h f m.old_hart m.old_file p q))),
+          (λ p q. not_same _ e (rw (file-same h f m.new_hart m.new_file p q) (or-true old))),
         )),
         (λ p. rw (
-          file-other h f m.oldHart m.oldFile p.0,
-          file-other h f m.newHart m.newFile p.1,
+          file-other h f m.old_hart m.old_file p.0,
+          file-other h f m.new_hart m.new_file p.1,
         )
             refl),
       )
 
   -- hart h has neither
-  apart-iff : (hasNeither m h ≡ true) ↔ ((h ≢ m.oldHart) × (h ≢ m.newHart))
+  apart-iff : (has_neither m h ≡ true) ↔ ((h ≢ m.old_hart) × (h ≢ m.new_hart))
   apart-iff = (
     (λ e. (
-      (λ p. not_same _ e (rw (eq-eqb h m.oldHart p))),
-      (λ p. not_same _ e (rw (eq-eqb h m.newHart p) (or-true (eqb h m.oldHart)))),
+      (λ p. not_same _ e (rw (eq-eqb h m.old_hart p))),
+      (λ p. not_same _ e (rw (eq-eqb h m.new_hart p) (or-true (eqb h m.old_hart)))),
     )),
-    (λ p. rw (ne_eqb h m.oldHart p.0, ne_eqb h m.newHart p.1) refl),
+    (λ p. rw (ne_eqb h m.old_hart p.0, ne_eqb h m.new_hart p.1) refl),
   )
 
 -- ---- a target that named old names new, and every other is as it was
@@ -66,36 +66,36 @@ module _ (m : Stations) (h f : ℕ) where
 module _ (m : Stations) (t t' : ℕ) where
   abbrev ByNames : Type 0
   ByNames =
-      (namesFile t' m.oldHart m.oldFile ≡ true → t ≡ renamed t' m.newHart m.newFile)
-      × (namesFile t' m.oldHart m.oldFile ≡ false → t ≡ t')
+      (names_file t' m.old_hart m.old_file ≡ true → t ≡ renamed t' m.new_hart m.new_file)
+      × (names_file t' m.old_hart m.old_file ≡ false → t ≡ t')
 
   abbrev ByNumbers : Type 0
   ByNumbers =
-      (hartOf t' ≡ m.oldHart → guestOf t' + 1 ≡ m.oldFile
-      → t ≡ m.newHart * 2 ^ 18 + (m.newFile - 1) * 2 ^ 12 + number_of t')
-      × ((hartOf t' ≡ m.oldHart → guestOf t' + 1 ≡ m.oldFile → ⊥) → t ≡ t')
+      (hart_of t' ≡ m.old_hart → guest_of t' + 1 ≡ m.old_file
+      → t ≡ m.new_hart * 2 ^ 18 + (m.new_file - 1) * 2 ^ 12 + number_of t')
+      × ((hart_of t' ≡ m.old_hart → guest_of t' + 1 ≡ m.old_file → ⊥) → t ≡ t')
 
-  whole : renamed t' m.newHart m.newFile
-      ≡ m.newHart * 2 ^ 18 + (m.newFile - 1) * 2 ^ 12 + number_of t'
+  whole : renamed t' m.new_hart m.new_file
+      ≡ m.new_hart * 2 ^ 18 + (m.new_file - 1) * 2 ^ 12 + number_of t'
   unfolding renamed packed
   whole = omega arith
 
   pub targets-to : ByNames → ByNumbers
   targets-to p = (
-    (λ a b. p.0 (number-names t' m.oldHart m.oldFile a b) ∙ whole),
-    (λ d. tested (namesFile t' m.oldHart m.oldFile)
-        (λ y. let e = names-number t' m.oldHart m.oldFile y in absurd (d e.0 e.1)) p.1),
+    (λ a b. p.0 (number-names t' m.old_hart m.old_file a b) ∙ whole),
+    (λ d. tested (names_file t' m.old_hart m.old_file)
+        (λ y. let e = names-number t' m.old_hart m.old_file y in absurd (d e.0 e.1)) p.1),
   )
 
   targets-back : ByNumbers → ByNames
   targets-back p = (
-    (λ y. let e = names-number t' m.oldHart m.oldFile y in p.0 e.0 e.1 ∙ sym whole),
-    (λ n. p.1 (λ a b. not_same _ (number-names t' m.oldHart m.oldFile a b) n)),
+    (λ y. let e = names-number t' m.old_hart m.old_file y in p.0 e.0 e.1 ∙ sym whole),
+    (λ n. p.1 (λ a b. not_same _ (number-names t' m.old_hart m.old_file a b) n)),
   )
 
 -- a file that is there, in plain numbers
-file-iff : (h f : ℕ) → (isFile h f ≡ true) ↔ ((h < 4) × (f < 5))
-unfolding isFile
+file-iff : (h f : ℕ) → (is_file h f ≡ true) ↔ ((h < 4) × (f < 5))
+unfolding is_file
 file-iff h f = ((λ e. (hart-lt h f e, file-lt h f e)), (λ p. simp (lt-ltb h 4 p.0, lt-ltb f 5 p.1)))
 
 three_ways : (p q : Bool) (A : Type 0)
@@ -109,37 +109,37 @@ three_ways p q A =
 -- ---- the station's calls where it is not moved
 
 module _ (m : Stations) where
-  on-old-new : (e : FileCall) → onOld m (callOn m.newHart m.newFile e)
-      ≡ callOn m.oldHart m.oldFile e
-  unfolding onOld
-  on-old-new (FileCall.pageRead a) = rw (file-same m.newHart m.newFile m.newHart m.newFile refl
+  on-old-new : (e : FileCall) → on_old m (call_on m.new_hart m.new_file e)
+      ≡ call_on m.old_hart m.old_file e
+  unfolding on_old
+  on-old-new (FileCall.page_read a) = rw (file-same m.new_hart m.new_file m.new_hart m.new_file refl
       refl) refl
-  on-old-new (FileCall.pageWrite a v) = rw (file-same m.newHart m.newFile m.newHart m.newFile refl
+  on-old-new (FileCall.page_write a v) = rw (file-same m.new_hart m.new_file m.new_hart m.new_file refl
       refl) refl
-  on-old-new (FileCall.register k s v) = rw (file-same m.newHart m.newFile m.newHart m.newFile
+  on-old-new (FileCall.register k s v) = rw (file-same m.new_hart m.new_file m.new_hart m.new_file
       refl refl) refl
-  on-old-new FileCall.top = rw (file-same m.newHart m.newFile m.newHart m.newFile refl refl) refl
-  on-old-new FileCall.claim = rw (file-same m.newHart m.newFile m.newHart m.newFile refl refl)
+  on-old-new FileCall.top = rw (file-same m.new_hart m.new_file m.new_hart m.new_file refl refl) refl
+  on-old-new FileCall.claim = rw (file-same m.new_hart m.new_file m.new_hart m.new_file refl refl)
       refl
 
-  on-old-other : (h f : ℕ) (e : FileCall) → (h ≡ m.newHart → f ≡ m.newFile → ⊥)
-      → onOld m (callOn h f e) ≡ callOn h f e
-  unfolding onOld
-  on-old-other h f (FileCall.pageRead a) d = rw (file-other h f m.newHart m.newFile d) refl
-  on-old-other h f (FileCall.pageWrite a v) d = rw (file-other h f m.newHart m.newFile d) refl
-  on-old-other h f (FileCall.register k s v) d = rw (file-other h f m.newHart m.newFile d) refl
-  on-old-other h f FileCall.top d = rw (file-other h f m.newHart m.newFile d) refl
-  on-old-other h f FileCall.claim d = rw (file-other h f m.newHart m.newFile d) refl
+  on-old-other : (h f : ℕ) (e : FileCall) → (h ≡ m.new_hart → f ≡ m.new_file → ⊥)
+      → on_old m (call_on h f e) ≡ call_on h f e
+  unfolding on_old
+  on-old-other h f (FileCall.page_read a) d = rw (file-other h f m.new_hart m.new_file d) refl
+  on-old-other h f (FileCall.page_write a v) d = rw (file-other h f m.new_hart m.new_file d) refl
+  on-old-other h f (FileCall.register k s v) d = rw (file-other h f m.new_hart m.new_file d) refl
+  on-old-other h f FileCall.top d = rw (file-other h f m.new_hart m.new_file d) refl
+  on-old-other h f FileCall.claim d = rw (file-other h f m.new_hart m.new_file d) refl
 
 any-old : (m : Stations)
     → AnyOld m
-    ↔ ((m.oldHart < 4) × (m.oldFile < 5) × (m.newHart < 4) × (2 ≤ m.newFile) × (m.newFile ≤ 4)
-    × (m.oldHart ≡ m.newHart → m.oldFile ≡ m.newFile → ⊥))
+    ↔ ((m.old_hart < 4) × (m.old_file < 5) × (m.new_hart < 4) × (2 ≤ m.new_file) × (m.new_file ≤ 4)
+    × (m.old_hart ≡ m.new_hart → m.old_file ≡ m.new_file → ⊥))
 any-old m =
-    let oh = m.oldHart in
-    let of = m.oldFile in
-    let nh = m.newHart in
-    let nf = m.newFile in
+    let oh = m.old_hart in
+    let of = m.old_file in
+    let nh = m.new_hart in
+    let nf = m.new_file in
     let old = file-iff oh of in (
       (λ g. (
         (old.0 g.old).0,
@@ -158,13 +158,13 @@ any-old m =
 
 any-new : (m : Stations)
     → AnyNew m
-    ↔ ((m.oldHart < 4) × (2 ≤ m.oldFile) × (m.oldFile ≤ 4) × (m.newHart < 4) × (m.newFile < 5)
-    × (m.oldHart ≡ m.newHart → m.oldFile ≡ m.newFile → ⊥))
+    ↔ ((m.old_hart < 4) × (2 ≤ m.old_file) × (m.old_file ≤ 4) × (m.new_hart < 4) × (m.new_file < 5)
+    × (m.old_hart ≡ m.new_hart → m.old_file ≡ m.new_file → ⊥))
 any-new m =
-    let oh = m.oldHart in
-    let of = m.oldFile in
-    let nh = m.newHart in
-    let nf = m.newFile in
+    let oh = m.old_hart in
+    let of = m.old_file in
+    let nh = m.new_hart in
+    let nf = m.new_file in
     let new = file-iff nh nf in (
       (λ g. (
         guest-hart oh of g.old,
@@ -193,8 +193,8 @@ event-is access = inr (inr (inl refl))
 event-is (call c) = inr (inr (inr (c, refl)))
 
 pub claim-187 : Claim-187
-unfolding Claim-187 elsewhere thenHere thenThere LaterKept PagesWithin Besides onOld stationThere LogLong
-    WordsFit fileNumber
+unfolding Claim-187 elsewhere then_here then_there LaterKept PagesWithin Besides on_old station_there LogLong
+    WordsFit file_number
 claim-187 = (
   (λ m b h f. (refl, refl, refl, refl, refl)),
   event-is,
@@ -254,12 +254,12 @@ claim-187 = (
       calls = p.6;
     }),
   )),
-  (λ m es c d y z n j level h f a v. let nh = m.newHart in
-      let nf = m.newFile in
-      let oh = m.oldHart in
-      let of = m.oldFile in
+  (λ m es c d y z n j level h f a v. let nh = m.new_hart in
+      let nf = m.new_file in
+      let oh = m.old_hart in
+      let of = m.old_file in
       let next : suc n ≡ n + 1 = omega arith in
-      let ways = three_ways (onlyReads c) (elsewhere m c) ((c ≡ d) × (1 ≤ n) × (n < 89)) in (
+      let ways = three_ways (only_reads c) (elsewhere m c) ((c ≡ d) × (1 ≤ n) × (n < 89)) in (
         tt,
         ((λ p. p), (λ p. p)),
         page-asked m h f (y ≤ n) (n < z) (PagesWithin y z m n es),
@@ -289,8 +289,8 @@ claim-187 = (
     refl,
     refl,
   )),
-  (λ m es c h f a v i level. let oh = m.oldHart in
-      let of = m.oldFile in
+  (λ m es c h f a v i level. let oh = m.old_hart in
+      let of = m.old_file in
       let neither = neither-iff m h f in (
         refl,
         refl,
@@ -299,8 +299,8 @@ claim-187 = (
         refl,
         refl,
         refl,
-        (λ p q. rw (file-same h f m.newHart m.newFile p q) refl),
-        (λ d. rw (file-other h f m.newHart m.newFile d) refl),
+        (λ p q. rw (file-same h f m.new_hart m.new_file p q) refl),
+        (λ d. rw (file-other h f m.new_hart m.new_file d) refl),
         refl,
         refl,
         tt,

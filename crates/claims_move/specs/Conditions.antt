@@ -9,8 +9,8 @@ use Rattle.std.specs.Prelude.{ℕ, ◌≡◌, List, ◌↔◌}
 use Rattle.board_call.specs.declared.Call.TheVariants.{Reset, DomainWrite, Register, Claim, Move}
 use Rattle.board_runs.specs.Runs.{Made, handing}
 use Rattle.board_runs.specs.Handed.{HandedOn, Makes}
-use Rattle.move_laws.specs.Shift.{Stations, Event, withMove, withoutMove}
-use Rattle.move_laws.specs.Premises.{Started, TwoGuests, ByMessages, NoneNamesNew, accessesIn}
+use Rattle.move_laws.specs.Shift.{Stations, Event, with_move, without_move}
+use Rattle.move_laws.specs.Premises.{Started, TwoGuests, ByMessages, NoneNamesNew, accesses_in}
 use Rattle.move_laws.specs.Premises.{AllAccesses, PagesKept, CallsKept, Premises}
 use Rattle.move_cases.specs.Board.{stations}
 use Rattle.move_cases.specs.Example.{start, shift}
@@ -26,7 +26,7 @@ unfoldable pub Claim-112 : Type 0
 Claim-112 =
     -- one access is not made
     TooWeak (λ m x es. Started x.block x.saved × LogLong x × TwoGuests m × ByMessages x.block
-    × NoneNamesNew m x.block × (accessesIn es ≡ 88) × PagesKept m 0 es × CallsKept m es)
+    × NoneNamesNew m x.block × (accesses_in es ≡ 88) × PagesKept m 0 es × CallsKept m es)
     -- a device writes to new after access 7, or to old after access 72
     × TooWeak (λ m x es. Started x.block x.saved × LogLong x × TwoGuests m × ByMessages x.block
     × NoneNamesNew m x.block × AllAccesses es × PagesWithin 7 72 m 0 es × CallsKept m es)
@@ -60,11 +60,11 @@ Claim-112 =
 -- [01 V24]
 unfoldable pub Claim-186 : Type 0
 Claim-186 =
-    Letting (λ m. Claim m.oldHart m.oldFile) × Letting (λ m. Claim m.newHart m.newFile)
-    × Letting (λ m. Register m.oldHart m.oldFile 1 0xC0 0)
-    × Letting (λ m. Register m.newHart m.newFile 1 0xC0 0)
+    Letting (λ m. Claim m.old_hart m.old_file) × Letting (λ m. Claim m.new_hart m.new_file)
+    × Letting (λ m. Register m.old_hart m.old_file 1 0xC0 0)
+    × Letting (λ m. Register m.new_hart m.new_file 1 0xC0 0)
     × Letting (λ m. DomainWrite 1 0x3004 0x1007) × Letting (λ m. DomainWrite 1 0x0000 0)
-    × Letting (λ m. Move 2 2 m.newHart m.newFile 5) × Letting (λ m. Reset)
+    × Letting (λ m. Move 2 2 m.new_hart m.new_file 5) × Letting (λ m. Reset)
 
 -- what the claims on the move ask is `Premises`, and what each call brings; and the shift of Claim-111 meets
 -- it
@@ -73,8 +73,8 @@ Claim-191 =
     (P : Stations → List ℕ → List ℕ → List Made → List Made → Type 0)
     → (MovedWhere P
     ↔ ((m : Stations) (l s : List ℕ) (es : List Event) (ms ns : List Made)
-    → Premises m l s es → Makes (withMove m 0 es) ms → HandedOn s ms l → Makes (withoutMove m es) ns
+    → Premises m l s es → Makes (with_move m 0 es) ms → HandedOn s ms l → Makes (without_move m es) ns
     → P m l s ms ns))
     × (MovedWhere P
-    → P stations start.block start.saved (handing (withMove stations 0 shift) start)
-    (handing (withoutMove stations shift) start))
+    → P stations start.block start.saved (handing (with_move stations 0 shift) start)
+    (handing (without_move stations shift) start))

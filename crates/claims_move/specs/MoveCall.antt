@@ -16,15 +16,15 @@
 use Rattle.std.specs.Prelude.{ℕ, ◌+◌, ◌-◌, ◌*◌, ◌/◌, ◌%◌, ◌^◌, ◌≤◌, ◌<◌, ◌≡◌, Bool, true, cond, not, ◌&&◌, ◌||◌, List, [], ◌≢◌, ◌↔◌, eqb, leb, get_or, set}
 use contract.Lifetimes.{Lfts}
 use Rattle.std.specs.Borrow.{Bor}
-use Rattle.words.specs.Bits.{hasBit}
+use Rattle.words.specs.Bits.{has_bit}
 use Rattle.words.specs.Sets.{member}
 use Rattle.file_select.specs.Halves.{doubleword}
 use Rattle.file.specs.declared.File.{File}
-use Rattle.file.specs.Parts.{withDelivery, withThreshold}
-use Rattle.source_target.specs.Target.{hartOf, guestOf, number_of}
-use Rattle.domain.specs.Domain.{byMessages, genmsiOf}
-use Rattle.domain.specs.Slot.{sourceAt}
-use Rattle.files.specs.Files.{fileNumber, theFile}
+use Rattle.file.specs.Parts.{with_delivery, with_threshold}
+use Rattle.source_target.specs.Target.{hart_of, guest_of, number_of}
+use Rattle.domain.specs.Domain.{by_messages, genmsi_of}
+use Rattle.domain.specs.Slot.{source_at}
+use Rattle.files.specs.Files.{file_number, the_file}
 use Rattle.board_block.specs.Block.{Board}
 use Rattle.board_call.specs.declared.Call.TheVariants.{Move}
 use Rattle.board_call.specs.Numbers.{is_move}
@@ -69,12 +69,12 @@ Claim-101 =
     → let Numbered = (oh < 4) × (2 ≤ of) × (of ≤ 4) × (nh < 4) × (2 ≤ nf) × (nf ≤ 4)
     × (oh ≡ nh → of ≡ nf → ⊥) × (1 ≤ n) × (n ≤ 89) in
     ((is_move oh of nh nf n ≡ true) ↔ Numbered)
-    × ((present (Move oh of nh nf n) b ≡ true) ↔ (Numbered × (byMessages b.wired.child ≡ true)))
+    × ((present (Move oh of nh nf n) b ≡ true) ↔ (Numbered × (by_messages b.wired.child ≡ true)))
 
 -- ---- old, new and the saved numbers
 
 pub record WordOf (ws : List ℕ) (k w : ℕ) : Type 0 where
-  pub bits : (j : ℕ) → j < 64 → hasBit w j ≡ member ws (64 * k + j)
+  pub bits : (j : ℕ) → j < 64 → has_bit w j ≡ member ws (64 * k + j)
   pub small : w < 2 ^ 64
 
 pub record PendingBecame (f f' : File) (p : ℕ → Bool) : Type 0 where
@@ -97,16 +97,16 @@ unfoldable pub Claim-102 : Type 0
 Claim-102 =
     (b : Board) → Fit b → (oh of nh nf n : ℕ) → is_move oh of nh nf n ≡ true → (s : List ℕ)
     → let x = step (Move oh of nh nf n) b s in
-    let o = theFile b.files (fileNumber oh of) in
-    let f = theFile b.files (fileNumber nh nf) in
-    let o' = theFile x.board.files (fileNumber oh of) in
-    let f' = theFile x.board.files (fileNumber nh nf) in
+    let o = the_file b.files (file_number oh of) in
+    let f = the_file b.files (file_number nh nf) in
+    let o' = the_file x.board.files (file_number oh of) in
+    let f' = the_file x.board.files (file_number nh nf) in
     -- step 1: the delivery and the threshold of old are saved, and its delivery becomes 0
     (n ≡ 1 → (o' ≡ o) × (f' ≡ f) × (x.saved ≡ set s 0 o.delivery))
     × (n ≡ 2 → (o' ≡ o) × (f' ≡ f) × (x.saved ≡ set s 1 o.threshold))
-    × (n ≡ 3 → (o' ≡ withDelivery o 0) × (f' ≡ f) × (x.saved ≡ s))
+    × (n ≡ 3 → (o' ≡ with_delivery o 0) × (f' ≡ f) × (x.saved ≡ s))
     -- step 2: the delivery and the pending words of new become 0
-    × (n ≡ 4 → (o' ≡ o) × (f' ≡ withDelivery f 0) × (x.saved ≡ s))
+    × (n ≡ 4 → (o' ≡ o) × (f' ≡ with_delivery f 0) × (x.saved ≡ s))
     × ((k : ℕ) → k < 4 → n ≡ 5 + k
     → (o' ≡ o) × PendingBecame f f' (λ i. member f.pending i && not (eqb (i / 64) k)) × (x.saved ≡ s))
     -- step 3: the target of source i, which concerns no file: Claim-103
@@ -122,24 +122,24 @@ Claim-102 =
     × ((k : ℕ) → k < 4 → n ≡ 80 + k
     → let w = get_or s (2 + k) 0 in
     (o' ≡ o)
-    × PendingBecame f f' (λ i. member f.pending i || (eqb (i / 64) k && hasBit w (i % 64) && leb 1 i))
+    × PendingBecame f f' (λ i. member f.pending i || (eqb (i / 64) k && has_bit w (i % 64) && leb 1 i))
     × (x.saved ≡ s))
     × ((k : ℕ) → k < 4 → n ≡ 84 + k
     → let w = get_or s (6 + k) 0 in
     (o' ≡ o)
-    × EnableBecame f f' (λ i. cond (eqb (i / 64) k) (hasBit w (i % 64) && leb 1 i) (member f.enable i))
+    × EnableBecame f f' (λ i. cond (eqb (i / 64) k) (has_bit w (i % 64) && leb 1 i) (member f.enable i))
     × (x.saved ≡ s))
     -- 6. write threshold and delivery to new; a delivery that is neither 0 nor 1 changes nothing
-    × (n ≡ 88 → (o' ≡ o) × (f' ≡ withThreshold f (get_or s 1 0 % 256)) × (x.saved ≡ s))
+    × (n ≡ 88 → (o' ≡ o) × (f' ≡ with_threshold f (get_or s 1 0 % 256)) × (x.saved ≡ s))
     × (n ≡ 89
-    → (o' ≡ o) × (get_or s 0 0 ≤ 1 → f' ≡ withDelivery f (get_or s 0 0)) × (2 ≤ get_or s 0 0 → f' ≡ f)
+    → (o' ≡ o) × (get_or s 0 0 ≤ 1 → f' ≡ with_delivery f (get_or s 0 0)) × (2 ≤ get_or s 0 0 → f' ≡ f)
     × (x.saved ≡ s))
 
 -- ---- everything else
 
 pub record Renamed (t t' h f : ℕ) : Type 0 where
-  pub hart : hartOf t' ≡ h
-  pub file : guestOf t' + 1 ≡ f
+  pub hart : hart_of t' ≡ h
+  pub file : guest_of t' + 1 ≡ f
   pub identity : number_of t' ≡ number_of t
   pub whole : t' ≡ h * 2 ^ 18 + (f - 1) * 2 ^ 12 + number_of t
 
@@ -155,14 +155,14 @@ Claim-103 =
     let w = b.wired in
     let w' = x.board.wired in
     (x.value ≡ 0) × (x.messages ≡ [])
-    × ((k : ℕ) → k ≢ fileNumber oh of → k ≢ fileNumber nh nf
-    → theFile x.board.files k ≡ theFile b.files k)
+    × ((k : ℕ) → k ≢ file_number oh of → k ≢ file_number nh nf
+    → the_file x.board.files k ≡ the_file b.files k)
     × (w'.wires ≡ w.wires) × (w'.machine ≡ w.machine)
     × (w'.child.source ≡ w.child.source) × (w'.child.pending ≡ w.child.pending)
     × (w'.child.enable ≡ w.child.enable) × (w'.child.delivery ≡ w.child.delivery)
-    × (genmsiOf w'.child ≡ genmsiOf w.child)
+    × (genmsi_of w'.child ≡ genmsi_of w.child)
     × ((i : ℕ) → 1 ≤ i → i ≤ 63
-    → let t = (sourceAt w.child i).target in
-    let t' = (sourceAt w'.child i).target in
-    (n ≡ 8 + i → hartOf t ≡ oh → guestOf t + 1 ≡ of → Renamed t t' nh nf)
-    × ((n ≡ 8 + i → hartOf t ≡ oh → guestOf t + 1 ≡ of → ⊥) → t' ≡ t))
+    → let t = (source_at w.child i).target in
+    let t' = (source_at w'.child i).target in
+    (n ≡ 8 + i → hart_of t ≡ oh → guest_of t + 1 ≡ of → Renamed t t' nh nf)
+    × ((n ≡ 8 + i → hart_of t ≡ oh → guest_of t + 1 ≡ of → ⊥) → t' ≡ t))

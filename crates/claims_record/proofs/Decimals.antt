@@ -9,15 +9,15 @@ use borrow.Author.Tests.{le-leb}
 use lib.Dec.{leb}
 use lib.ListN.{length, get_or}
 use Rattle.words.proofs.TestsLaws.{and_first, and_second, and_both}
-use Rattle.record_numbers.specs.Decimal.{isDigit, allDigits, valueOnto, value_of, is_number, text_of}
+use Rattle.record_numbers.specs.Decimal.{is_digit, all_digits, value_onto, value_of, is_number, text_of}
 use Rattle.record_numbers.proofs.TextLaws.{is-number, number-some, number_digits, number_lt, digit-member}
 use Rattle.record_numbers.proofs.TextLaws.{text-number, text-value, text-front, text-one}
-use Rattle.record_fields.specs.Fields.{areNumbers, numbersOf}
+use Rattle.record_fields.specs.Fields.{are_numbers, numbers_of}
 use Rattle.claims_record.specs.Written.{worth, Decimal, Spelled, Claim-194}
 
 -- digits behind a number are worth what they are worth alone, and the number ten times more for each
-onto-worth : (v : ℕ) (bs : List ℕ) → valueOnto v bs ≡ v * 10 ^ length bs + worth bs
-unfolding valueOnto
+onto-worth : (v : ℕ) (bs : List ℕ) → value_onto v bs ≡ v * 10 ^ length bs + worth bs
+unfolding value_onto
 onto-worth v [] = omega arith
 onto-worth v (b ∷ bs) =
     let p : ℕ = 10 ^ length bs in
@@ -31,15 +31,15 @@ pub value-worth : (bs : List ℕ) → value_of bs ≡ worth bs
 value-worth bs = onto-worth 0 bs ∙ ap (λ (m : ℕ). m + worth bs) (zero-mul (10 ^ length bs))
     ∙ zero-add (worth bs)
 
-all_digits : (bs : List ℕ) → ((i : ℕ) → i < length bs → (48 ≤ get_or bs i 0) × (get_or bs i 0 ≤ 57)) →
-    allDigits bs ≡ true
-unfolding allDigits
-all_digits [] d = refl
-all_digits (b ∷ bs) d =
+all_digits_lem : (bs : List ℕ) → ((i : ℕ) → i < length bs → (48 ≤ get_or bs i 0) × (get_or bs i 0 ≤ 57)) →
+    all_digits bs ≡ true
+unfolding all_digits
+all_digits_lem [] d = refl
+all_digits_lem (b ∷ bs) d =
     let here = d 0 (omega arith) in
-    and_both (isDigit b) (allDigits bs)
+    and_both (is_digit b) (all_digits bs)
     (and_both (leb 48 b) (leb b 57) (le-leb 48 b here.0) (le-leb b 57 here.1))
-    (all_digits bs (λ i h. d (suc i) (omega (arith, h))))
+    (all_digits_lem bs (λ i h. d (suc i) (omega (arith, h))))
 
 module _ (t : List ℕ) where
   pub number-decimal : is_number t ≡ true → Decimal t (value_of t)
@@ -56,25 +56,25 @@ module _ (t : List ℕ) where
 
   pub decimal-number : (n : ℕ) → Decimal t n → is_number t ≡ true
   decimal-number n d =
-      is-number t d.some (all_digits t d.digits) (omega (arith, decimal-value n d, d.small))
+      is-number t d.some (all_digits_lem t d.digits) (omega (arith, decimal-value n d, d.small))
 
 -- ---- fields that are numbers
 
-pub spelled-1 : (ts : List (List ℕ)) → areNumbers ts ≡ true → Spelled ts (numbersOf ts)
-unfolding areNumbers numbersOf
+pub spelled-1 : (ts : List (List ℕ)) → are_numbers ts ≡ true → Spelled ts (numbers_of ts)
+unfolding are_numbers numbers_of
 spelled-1 [] e = tt
 spelled-1 (t ∷ ts) e = (
-  number-decimal t (and_first (is_number t) (areNumbers ts) e),
-  spelled-1 ts (and_second (is_number t) (areNumbers ts) e),
+  number-decimal t (and_first (is_number t) (are_numbers ts) e),
+  spelled-1 ts (and_second (is_number t) (are_numbers ts) e),
 )
 
 pub spelled-2 : (ts : List (List ℕ)) (ns : List ℕ) → Spelled ts ns →
-    (areNumbers ts ≡ true) × (numbersOf ts ≡ ns)
-unfolding areNumbers numbersOf
+    (are_numbers ts ≡ true) × (numbers_of ts ≡ ns)
+unfolding are_numbers numbers_of
 spelled-2 [] [] s = (refl, refl)
 spelled-2 (t ∷ ts) (n ∷ ns) s =
     let more = spelled-2 ts ns s.1 in (
-      and_both (is_number t) (areNumbers ts) (decimal-number t n s.0) more.0,
+      and_both (is_number t) (are_numbers ts) (decimal-number t n s.0) more.0,
       ap₂ (λ (m : ℕ) (ms : List ℕ). m ∷ ms) (decimal-value t n s.0) more.1,
     )
 

@@ -14,7 +14,7 @@ use lib.Dec.{eqb}
 use lib.ListN.{length, get_or, length-append, get_or-append}
 use lib.Seq.{get_or-append-add, append_snoc}
 use Rattle.words.proofs.TestsLaws.{tested}
-use Rattle.record_lines.specs.Parted.{endedBy, restBy}
+use Rattle.record_lines.specs.Parted.{ended_by, rest_by}
 
 module _ (b : ℕ) where
   abbrev pub Lacks : List ℕ → Type 0
@@ -45,37 +45,37 @@ module _ (b : ℕ) where
   -- ---- parts that are put together
 
   -- bytes that lack b end nothing
-  pub ended-lacks : (t ys p : List ℕ) → Lacks t → endedBy b p (t ++ ys) ≡ endedBy b (p ++ t) ys
-  unfolding endedBy
-  ended-lacks [] ys p n = ap (λ (q : List ℕ). endedBy b q ys) (sym (append-nil p))
+  pub ended-lacks : (t ys p : List ℕ) → Lacks t → ended_by b p (t ++ ys) ≡ ended_by b (p ++ t) ys
+  unfolding ended_by
+  ended-lacks [] ys p n = ap (λ (q : List ℕ). ended_by b q ys) (sym (append-nil p))
   ended-lacks (x ∷ t) ys p n =
       rw (lacks-head x t n)
       (ended-lacks t ys (p ++ (x ∷ [])) (lacks-tail x t n)
-      ∙ ap (λ (q : List ℕ). endedBy b q ys) (append_snoc p x t))
+      ∙ ap (λ (q : List ℕ). ended_by b q ys) (append_snoc p x t))
 
-  pub rest-lacks : (t ys p : List ℕ) → Lacks t → restBy b p (t ++ ys) ≡ restBy b (p ++ t) ys
-  unfolding restBy
-  rest-lacks [] ys p n = ap (λ (q : List ℕ). restBy b q ys) (sym (append-nil p))
+  pub rest-lacks : (t ys p : List ℕ) → Lacks t → rest_by b p (t ++ ys) ≡ rest_by b (p ++ t) ys
+  unfolding rest_by
+  rest-lacks [] ys p n = ap (λ (q : List ℕ). rest_by b q ys) (sym (append-nil p))
   rest-lacks (x ∷ t) ys p n =
       rw (lacks-head x t n)
       (rest-lacks t ys (p ++ (x ∷ [])) (lacks-tail x t n)
-      ∙ ap (λ (q : List ℕ). restBy b q ys) (append_snoc p x t))
+      ∙ ap (λ (q : List ℕ). rest_by b q ys) (append_snoc p x t))
 
-  pub ended-part : (t ys p : List ℕ) → Lacks t → endedBy b p (t ++ (b ∷ ys)) ≡ (p ++ t) ∷ endedBy b [] ys
-  unfolding endedBy
+  pub ended-part : (t ys p : List ℕ) → Lacks t → ended_by b p (t ++ (b ∷ ys)) ≡ (p ++ t) ∷ ended_by b [] ys
+  unfolding ended_by
   ended-part t ys p n = ended-lacks t (b ∷ ys) p n ∙ rw (eq-eqb b b refl)
 
-  pub rest_part : (t ys p : List ℕ) → Lacks t → restBy b p (t ++ (b ∷ ys)) ≡ restBy b [] ys
-  unfolding restBy
+  pub rest_part : (t ys p : List ℕ) → Lacks t → rest_by b p (t ++ (b ∷ ys)) ≡ rest_by b [] ys
+  unfolding rest_by
   rest_part t ys p n = rest-lacks t (b ∷ ys) p n ∙ rw (eq-eqb b b refl)
 
-  pub ended-only : (t p : List ℕ) → Lacks t → endedBy b p t ≡ []
-  unfolding endedBy
-  ended-only t p n = ap (endedBy b p) (sym (append-nil t)) ∙ ended-lacks t [] p n
+  pub ended-only : (t p : List ℕ) → Lacks t → ended_by b p t ≡ []
+  unfolding ended_by
+  ended-only t p n = ap (ended_by b p) (sym (append-nil t)) ∙ ended-lacks t [] p n
 
-  pub rest-only : (t p : List ℕ) → Lacks t → restBy b p t ≡ p ++ t
-  unfolding restBy
-  rest-only t p n = ap (restBy b p) (sym (append-nil t)) ∙ rest-lacks t [] p n
+  pub rest-only : (t p : List ℕ) → Lacks t → rest_by b p t ≡ p ++ t
+  unfolding rest_by
+  rest-only t p n = ap (rest_by b p) (sym (append-nil t)) ∙ rest-lacks t [] p n
 
   -- ---- bytes that are parted
 
@@ -83,41 +83,41 @@ module _ (b : ℕ) where
   glued [] r = r
   glued (l ∷ ls) r = l ++ (b ∷ glued ls r)
 
-  pub glued-parts : (xs p : List ℕ) → glued (endedBy b p xs) (restBy b p xs) ≡ p ++ xs
-  unfolding endedBy restBy
+  pub glued-parts : (xs p : List ℕ) → glued (ended_by b p xs) (rest_by b p xs) ≡ p ++ xs
+  unfolding ended_by rest_by
   glued-parts [] p = sym (append-nil p)
   glued-parts (x ∷ xs) p = at (eqb x b) refl (glued-parts xs []) (glued-parts xs (p ++ (x ∷ [])))
     where
-      at : (t : Bool) → eqb x b ≡ t → glued (endedBy b [] xs) (restBy b [] xs) ≡ xs →
-          glued (endedBy b (p ++ (x ∷ [])) xs) (restBy b (p ++ (x ∷ [])) xs) ≡ (p ++ (x ∷ [])) ++ xs →
-          glued (cond t (p ∷ endedBy b [] xs) (endedBy b (p ++ (x ∷ [])) xs))
-          (cond t (restBy b [] xs) (restBy b (p ++ (x ∷ [])) xs))
+      at : (t : Bool) → eqb x b ≡ t → glued (ended_by b [] xs) (rest_by b [] xs) ≡ xs →
+          glued (ended_by b (p ++ (x ∷ [])) xs) (rest_by b (p ++ (x ∷ [])) xs) ≡ (p ++ (x ∷ [])) ++ xs →
+          glued (cond t (p ∷ ended_by b [] xs) (ended_by b (p ++ (x ∷ [])) xs))
+          (cond t (rest_by b [] xs) (rest_by b (p ++ (x ∷ [])) xs))
           ≡ p ++ (x ∷ xs)
       at true e all more =
           ap (λ (ys : List ℕ). p ++ (b ∷ ys)) all
           ∙ ap (λ (y : ℕ). p ++ (y ∷ xs)) (sym (eqb-true x b e))
       at false e all more = more ∙ append_snoc p x xs
 
-  pub parts-lack : (xs p : List ℕ) → Lacks p → AllLack (endedBy b p xs) × Lacks (restBy b p xs)
-  unfolding endedBy restBy
+  pub parts-lack : (xs p : List ℕ) → Lacks p → AllLack (ended_by b p xs) × Lacks (rest_by b p xs)
+  unfolding ended_by rest_by
   parts-lack [] p n = (tt, n)
   parts-lack (x ∷ xs) p n =
       at (eqb x b) refl (parts-lack xs [] lacks-none)
       (λ d. parts-lack xs (p ++ (x ∷ [])) (lacks-append p (x ∷ []) n (lacks-cons x [] d lacks-none)))
     where
-      at : (t : Bool) → eqb x b ≡ t → AllLack (endedBy b [] xs) × Lacks (restBy b [] xs) →
-          (x ≢ b → AllLack (endedBy b (p ++ (x ∷ [])) xs) × Lacks (restBy b (p ++ (x ∷ [])) xs)) →
-          AllLack (cond t (p ∷ endedBy b [] xs) (endedBy b (p ++ (x ∷ [])) xs))
-          × Lacks (cond t (restBy b [] xs) (restBy b (p ++ (x ∷ [])) xs))
+      at : (t : Bool) → eqb x b ≡ t → AllLack (ended_by b [] xs) × Lacks (rest_by b [] xs) →
+          (x ≢ b → AllLack (ended_by b (p ++ (x ∷ [])) xs) × Lacks (rest_by b (p ++ (x ∷ [])) xs)) →
+          AllLack (cond t (p ∷ ended_by b [] xs) (ended_by b (p ++ (x ∷ [])) xs))
+          × Lacks (cond t (rest_by b [] xs) (rest_by b (p ++ (x ∷ [])) xs))
       at true e all more = ((n, all.0), all.1)
       at false e all more = more (eqb-false x b e)
 
   -- parts that lack b, put together, are parted again
-  pub ended-glued : (ls : List (List ℕ)) (r : List ℕ) → AllLack ls → Lacks r → endedBy b [] (glued ls r) ≡ ls
+  pub ended-glued : (ls : List (List ℕ)) (r : List ℕ) → AllLack ls → Lacks r → ended_by b [] (glued ls r) ≡ ls
   ended-glued [] r n m = ended-only r [] m
   ended-glued (l ∷ ls) r n m =
       ended-part l (glued ls r) [] n.0 ∙ ap (λ (ks : List (List ℕ)). l ∷ ks) (ended-glued ls r n.1 m)
 
-  pub rest-glued : (ls : List (List ℕ)) (r : List ℕ) → AllLack ls → Lacks r → restBy b [] (glued ls r) ≡ r
+  pub rest-glued : (ls : List (List ℕ)) (r : List ℕ) → AllLack ls → Lacks r → rest_by b [] (glued ls r) ≡ r
   rest-glued [] r n m = rest-only r [] m
   rest-glued (l ∷ ls) r n m = rest_part l (glued ls r) [] n.0 ∙ rest-glued ls r n.1 m

@@ -11,20 +11,20 @@ use Rattle.record_lines.specs.Lines.{lines_of}
 use Rattle.record_call.specs.declared.Line.{Line}
 use Rattle.record_call.specs.declared.Line.TheVariants as lines
 use Rattle.record_call.specs.Table.{line_of}
-use Rattle.record_runs.specs.Replay.{saidIn, callsIn}
+use Rattle.record_runs.specs.Replay.{said_in, calls_in}
 use Rattle.board_block.specs.Block.{Board}
 use Rattle.board_call.specs.declared.Call.{Call}
 use Rattle.board_call.specs.declared.Call.TheVariants.{Reset, Wire, DomainRead, DomainWrite, PageRead}
 use Rattle.board_call.specs.declared.Call.TheVariants.{PageWrite, Register, Top, Claim, Signals, Move}
 use Rattle.board_call.specs.Calls.{Tests, row_of}
-use Rattle.board_call.specs.Refusal.{firstFailed, nameTests, nameRefusalBy}
+use Rattle.board_call.specs.Refusal.{first_failed, name_tests, name_refusal_by}
 use Rattle.board_call_laws.specs.Small.{Small}
 use Rattle.board_call_laws.proofs.OutcomeEffects.{outcome-number}
 use Rattle.board_runs.specs.Runs.{ran}
-use Rattle.board_runs.specs.Ready.{AllSmall, boardIn, atReset}
+use Rattle.board_runs.specs.Ready.{AllSmall, board_in, at_reset}
 use Rattle.board_runs.proofs.RunsEffects.{ready-refusal, ready-ran}
 use Rattle.board_runs.proofs.StartEffects.{ready-reset}
-use Rattle.claims_record.specs.Written.{Spelled, callNumbers}
+use Rattle.claims_record.specs.Written.{Spelled, call_numbers}
 use Rattle.claims_record.specs.Replay.{Claim-199}
 use Rattle.claims_record.proofs.Written.{written-1}
 
@@ -36,7 +36,7 @@ spelled-small [] [] s i h = absurd (omega (arith, h))
 spelled-small (t ∷ ts) (n ∷ ns) s zero h = s.0.small
 spelled-small (t ∷ ts) (n ∷ ns) s (suc i) h = spelled-small ts ns s.1 i (omega (arith, h))
 
-numbers-small : (c : Call) → ((i : ℕ) → i < length (callNumbers c) → get_or (callNumbers c) i 0 < 2 ^ 64) →
+numbers-small : (c : Call) → ((i : ℕ) → i < length (call_numbers c) → get_or (call_numbers c) i 0 < 2 ^ 64) →
     Small c
 unfolding row_of
 numbers-small Reset n = tt
@@ -53,7 +53,7 @@ numbers-small (Move oh of nh nf n') n = tt
 
 line_small : (l : List ℕ) (c : Call) → line_of l ≡ lines.Call c → Small c
 line_small l c e =
-    let w = (written-1 l c e).1 in numbers-small c (spelled-small w.texts (callNumbers c) w.numbers)
+    let w = (written-1 l c e).1 in numbers-small c (spelled-small w.texts (call_numbers c) w.numbers)
 
 abbrev LineSmall : Line → Type 0
 LineSmall (lines.Call c) = Small c
@@ -75,8 +75,8 @@ first_small : (ss ts : List Line) → LinesSmall (ss ++ ts) → LinesSmall ss
 first_small [] ts n = tt
 first_small (s ∷ ss) ts n = (n.0, first_small ss ts n.1)
 
-calls-small : (ss : List Line) → LinesSmall ss → AllSmall (callsIn ss)
-unfolding callsIn
+calls-small : (ss : List Line) → LinesSmall ss → AllSmall (calls_in ss)
+unfolding calls_in
 calls-small [] n = tt
 calls-small (lines.Call c ∷ ss) n = (n.0, calls-small ss n.1)
 calls-small (lines.Unreadable ∷ ss) n = calls-small ss n.1
@@ -86,8 +86,8 @@ calls-small (lines.Unreadable ∷ ss) n = calls-small ss n.1
 abbrev Named : ℕ → Type 0
 Named n = (n ≡ 0) ⊎ ((n ≡ 4) ⊎ ((n ≡ 5) ⊎ (n ≡ 6)))
 
-name-named : (t : Tests) (b : Board) → Named (nameRefusalBy t b)
-unfolding nameRefusalBy nameTests firstFailed
+name-named : (t : Tests) (b : Board) → Named (name_refusal_by t b)
+unfolding name_refusal_by name_tests first_failed
 name-named t b = at (t.names b) t.address t.select
   where
     at : (p q r : Bool) → Named (cond p (cond q (cond r 0 6) 5) 4)
@@ -97,11 +97,11 @@ name-named t b = at (t.names b) t.address t.select
     at true true true = inl refl
 
 pub claim-199 : Claim-199
-unfolding Claim-199 saidIn
+unfolding Claim-199 said_in
 claim-199 bs ss ts c e =
     let small = calls-small ss (first_small ss (lines.Call c ∷ ts) (subst LinesSmall e (all_small
     (lines_of bs)))) in
-    let x = ran (callsIn ss) atReset in
-    let ready = ready-ran (callsIn ss) atReset ready-reset small in
+    let x = ran (calls_in ss) at_reset in
+    let ready = ready-ran (calls_in ss) at_reset ready-reset small in
     let number = outcome-number c x.block x.log x.saved ∙ ready-refusal c x ready in
-    subst Named (sym number) (name-named (row_of c).tests (boardIn x))
+    subst Named (sym number) (name-named (row_of c).tests (board_in x))

@@ -4,7 +4,7 @@ use Rattle.std.specs.Prelude.{◌≡◌, [], ◌++◌, replicate}
 use Rattle.record_call.specs.declared.Line.TheVariants as lines
 use Rattle.record_call.specs.Table.{line_of}
 use Rattle.board_call.specs.declared.Call.TheVariants.{Reset, Wire, PageWrite, Register, Signals}
-use Rattle.claims_record.specs.Text.{textCodes}
+use Rattle.claims_record.specs.Text.{text_codes}
 
 -- lines at the edges: 200 and 201 bytes, the largest numbers and one more, zeros in front, an empty line,
 -- a carriage return, a sign, a space, two tabs, a tab at the end, a number too few and one too many, a
@@ -12,21 +12,21 @@ use Rattle.claims_record.specs.Text.{textCodes}
 -- [02 M100.8]
 unfoldable pub Claim-202 : Type 0
 Claim-202 =
-    (line_of (textCodes "reset") ≡ lines.Call Reset)
-    × (line_of (textCodes "wire\t007\t1") ≡ lines.Call (Wire 7 1))
-    × (line_of (textCodes "signals\t" ++ replicate 192 48) ≡ lines.Call (Signals 0))
-    × (line_of (textCodes "signals\t" ++ replicate 193 48) ≡ lines.Unreadable)
-    × (line_of (textCodes "signals\t18446744073709551615") ≡ lines.Call (Signals 18446744073709551615))
-    × (line_of (textCodes "signals\t18446744073709551616") ≡ lines.Unreadable)
-    × (line_of (textCodes "page_write\t0\t2\t0\t4294967295") ≡ lines.Call (PageWrite 0 2 0 4294967295))
-    × (line_of (textCodes "page_write\t0\t2\t0\t4294967296") ≡ lines.Unreadable)
-    × (line_of (textCodes "register\t1\t2\t3\t4\t5") ≡ lines.Call (Register 1 2 3 4 5))
+    (line_of (text_codes "reset") ≡ lines.Call Reset)
+    × (line_of (text_codes "wire\t007\t1") ≡ lines.Call (Wire 7 1))
+    × (line_of (text_codes "signals\t" ++ replicate 192 48) ≡ lines.Call (Signals 0))
+    × (line_of (text_codes "signals\t" ++ replicate 193 48) ≡ lines.Unreadable)
+    × (line_of (text_codes "signals\t18446744073709551615") ≡ lines.Call (Signals 18446744073709551615))
+    × (line_of (text_codes "signals\t18446744073709551616") ≡ lines.Unreadable)
+    × (line_of (text_codes "page_write\t0\t2\t0\t4294967295") ≡ lines.Call (PageWrite 0 2 0 4294967295))
+    × (line_of (text_codes "page_write\t0\t2\t0\t4294967296") ≡ lines.Unreadable)
+    × (line_of (text_codes "register\t1\t2\t3\t4\t5") ≡ lines.Call (Register 1 2 3 4 5))
     × (line_of [] ≡ lines.Unreadable)
-    × (line_of (textCodes "reset\r") ≡ lines.Unreadable)
-    × (line_of (textCodes "signals\t+1") ≡ lines.Unreadable)
-    × (line_of (textCodes "signals 1") ≡ lines.Unreadable)
-    × (line_of (textCodes "signals\t\t1") ≡ lines.Unreadable)
-    × (line_of (textCodes "signals\t1\t") ≡ lines.Unreadable)
-    × (line_of (textCodes "wire\t7") ≡ lines.Unreadable)
-    × (line_of (textCodes "reset\t0") ≡ lines.Unreadable)
-    × (line_of (textCodes "Reset") ≡ lines.Unreadable)
+    × (line_of (text_codes "reset\r") ≡ lines.Unreadable)
+    × (line_of (text_codes "signals\t+1") ≡ lines.Unreadable)
+    × (line_of (text_codes "signals 1") ≡ lines.Unreadable)
+    × (line_of (text_codes "signals\t\t1") ≡ lines.Unreadable)
+    × (line_of (text_codes "signals\t1\t") ≡ lines.Unreadable)
+    × (line_of (text_codes "wire\t7") ≡ lines.Unreadable)
+    × (line_of (text_codes "reset\t0") ≡ lines.Unreadable)
+    × (line_of (text_codes "Reset") ≡ lines.Unreadable)

@@ -1,76 +1,76 @@
 -- Claims 197 to 201, on a record that is run: what it leaves, what is printed, which refusals there can
 -- be, and what the functions give that do it. 02, M-100; docs/RECORD.md.
---   lineByLine ss x      what the lines ss leave of x, one after the other: a line that cannot be read
+--   line_by_line ss x      what the lines ss leave of x, one after the other: a line that cannot be read
 --                        leaves all
 --   told s x             the numbers that a line is answered by, behind its own number
---   fieldsTold n ss x    the fields of the answers to the lines ss, if the first has the number n
+--   fields_told n ss x    the fields of the answers to the lines ss, if the first has the number n
 -- Premises: of claims 200 and 201 what the contract ensures, `X.Learnt`. No axioms.
 use Rattle.std.specs.Prelude.{ℕ, suc, ◌+◌, ◌-◌, ◌^◌, ◌≤◌, ◌<◌, ◌≡◌, ◌⊎◌, ◌↔◌, List, [], ◌∷◌, ◌++◌, map, length, take, replicate}
 use Rattle.std.proofs.Math.Seq.{slice}
 use contract.Lifetimes.{Lfts}
 use Rattle.std.specs.Borrow.{Bor}
-use Rattle.sizes.specs.Sizes.{blockSize, logSize}
+use Rattle.sizes.specs.Sizes.{block_size, log_size}
 use Rattle.record_numbers.specs.Decimal.{text_of}
 use Rattle.record_lines.specs.Lines.{lines_of}
 use Rattle.record_fields.specs.Fields.{fields_of}
 use Rattle.record_call.specs.declared.Line.{Line}
 use Rattle.record_call.specs.declared.Line.TheVariants as lines
 use Rattle.record_call.specs.Table.{line_of}
-use Rattle.record_runs.specs.Replay.{saidIn, callsIn, answersFrom, passedOn, Held, goneOn, printedBy}
-use Rattle.board_runs.specs.Ready.{atReset}
+use Rattle.record_runs.specs.Replay.{said_in, calls_in, answers_from, passed_on, Held, gone_on, printed_by}
+use Rattle.board_runs.specs.Ready.{at_reset}
 use Rattle.board_call.specs.declared.Call.{Call}
 use Rattle.board_call.specs.declared.Call.TheVariants.{Reset}
-use Rattle.board_runs.specs.Runs.{Lent, outcomeOn, after, ran}
+use Rattle.board_runs.specs.Runs.{Lent, outcome_on, after, ran}
 use Rattle.record_replay.specs.declared.pieces.Run.{Run}
 use Rattle.record_replay.specs.Pieces.{held_at, Roomy, Went}
-use Rattle.record_answer.specs.Shown.{answerRoom}
+use Rattle.record_answer.specs.Shown.{answer_room}
 use Rattle.record_call.proofs.read.Reads as read
 use Rattle.record_replay.proofs.some.Reads as some
 
-abbrev pub lineByLine : List (List ℕ) → Lent → Lent
-lineByLine [] x = x
-lineByLine (l ∷ ls) x = lineByLine ls (passedOn (line_of l) x)
+abbrev pub line_by_line : List (List ℕ) → Lent → Lent
+line_by_line [] x = x
+line_by_line (l ∷ ls) x = line_by_line ls (passed_on (line_of l) x)
 
 -- the block, the log and the saved numbers after the last line are those of the plain calls in order,
 -- from reset: a call does with them what it does anywhere, and a line that cannot be read leaves all three
 -- [02 M100.4 M100.6 M100.7]
 unfoldable pub Claim-197 : Type 0
 Claim-197 =
-    ((bs : List ℕ) → lineByLine (lines_of bs) atReset ≡ ran (callsIn (saidIn bs)) atReset)
-    × ((c : Call) (x : Lent) → passedOn (lines.Call c) x ≡ after c x)
-    × ((x : Lent) → passedOn lines.Unreadable x ≡ x)
-    × ((ss ts : List Line) (c : Call) → callsIn (ss ++ (lines.Call c ∷ ts)) ≡ callsIn ss ++ (c ∷ callsIn ts))
-    × ((ss ts : List Line) → callsIn (ss ++ (lines.Unreadable ∷ ts)) ≡ callsIn (ss ++ ts))
-    × ((x : Lent) → length x.block ≡ blockSize → x.log ≡ replicate logSize 0 → x.saved ≡ replicate 10 0
-    → after Reset x ≡ atReset)
+    ((bs : List ℕ) → line_by_line (lines_of bs) at_reset ≡ ran (calls_in (said_in bs)) at_reset)
+    × ((c : Call) (x : Lent) → passed_on (lines.Call c) x ≡ after c x)
+    × ((x : Lent) → passed_on lines.Unreadable x ≡ x)
+    × ((ss ts : List Line) (c : Call) → calls_in (ss ++ (lines.Call c ∷ ts)) ≡ calls_in ss ++ (c ∷ calls_in ts))
+    × ((ss ts : List Line) → calls_in (ss ++ (lines.Unreadable ∷ ts)) ≡ calls_in (ss ++ ts))
+    × ((x : Lent) → length x.block ≡ block_size → x.log ≡ replicate log_size 0 → x.saved ≡ replicate 10 0
+    → after Reset x ≡ at_reset)
 
 -- ---- what is printed
 
 abbrev pub told : Line → Lent → List ℕ
 told (lines.Call c) x =
-    let o = outcomeOn c x in o.number ∷ o.value ∷ o.count ∷ take o.count o.log
+    let o = outcome_on c x in o.number ∷ o.value ∷ o.count ∷ take o.count o.log
 told lines.Unreadable x = []
 
-abbrev pub fieldsTold : ℕ → List Line → Lent → List (List (List ℕ))
-fieldsTold n [] x = []
-fieldsTold n (s ∷ ss) x = map text_of (n ∷ told s x) ∷ fieldsTold (suc n) ss (passedOn s x)
+abbrev pub fields_told : ℕ → List Line → Lent → List (List (List ℕ))
+fields_told n [] x = []
+fields_told n (s ∷ ss) x = map text_of (n ∷ told s x) ∷ fields_told (suc n) ss (passed_on s x)
 
 -- one line is printed for each line: its fields are the number of the line, from 1 on, then refusal,
 -- value, count and each logged message; of a line that cannot be read the number alone
 -- [02 M100.2 M100.4 M100.5]
 unfoldable pub Claim-198 : Type 0
 Claim-198 =
-    ((bs : List ℕ) → map fields_of (lines_of (answersFrom 1 (saidIn bs) atReset)) ≡ fieldsTold 1
-    (saidIn bs) atReset)
-    × ((bs : List ℕ) → length (lines_of (answersFrom 1 (saidIn bs) atReset)) ≡ length (lines_of bs))
+    ((bs : List ℕ) → map fields_of (lines_of (answers_from 1 (said_in bs) at_reset)) ≡ fields_told 1
+    (said_in bs) at_reset)
+    × ((bs : List ℕ) → length (lines_of (answers_from 1 (said_in bs) at_reset)) ≡ length (lines_of bs))
 
 -- ---- refusals
 
 -- a call of a replay is done, or refused for its numbers: refusals 1, 2 and 3 never occur
 unfoldable pub Claim-199 : Type 0
 Claim-199 =
-    (bs : List ℕ) (ss ts : List Line) (c : Call) → saidIn bs ≡ ss ++ (lines.Call c ∷ ts)
-    → let number = (outcomeOn c (ran (callsIn ss) atReset)).number in
+    (bs : List ℕ) (ss ts : List Line) (c : Call) → said_in bs ≡ ss ++ (lines.Call c ∷ ts)
+    → let number = (outcome_on c (ran (calls_in ss) at_reset)).number in
     (number ≡ 0) ⊎ ((number ≡ 4) ⊎ ((number ≡ 5) ⊎ (number ≡ 6)))
 
 -- ---- what the functions give
@@ -95,6 +95,6 @@ Claim-201 =
     r.at (held_at b'.now g'.now s'.now n'.now r.held r.number) (take r.used o'.now)
     × (f.at < length c.now → f.at < r.at))
     × ((xs : List ℕ) (i e : ℕ) (h h' : Held) (a d : List ℕ) → Went xs i h a e h' d
-    ↔ ((i ≤ e) × (e ≤ length xs) × (h' ≡ goneOn (slice i e xs) h) × (d ≡ a ++ printedBy (slice i e xs) h)))
+    ↔ ((i ≤ e) × (e ≤ length xs) × (h' ≡ gone_on (slice i e xs) h) × (d ≡ a ++ printed_by (slice i e xs) h)))
     × ((g n : List ℕ) (k : ℕ) → Roomy g n k ↔ ((length g ≡ 63) × (length n ≡ 201) × (k ≤ 201)))
-    × (answerRoom ≡ 1408)
+    × (answer_room ≡ 1408)

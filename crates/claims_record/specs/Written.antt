@@ -3,8 +3,8 @@
 --   worth t            what digits are worth: each by its place
 --   Decimal t n        t is n in decimal: a digit or more, nothing else, worth n, which has 64 bits
 --   Spelled ts ns      the fields ts are the numbers ns, in order
---   behindTabs ts      the fields ts, each behind one tab
---   callName c         the name of the call c; callNumbers c: its numbers, in the order of the header
+--   behind_tabs ts      the fields ts, each behind one tab
+--   call_name c         the name of the call c; call_numbers c: its numbers, in the order of the header
 --   WordsSmall c       what the call takes as a word has 32 bits
 --   Written c l        l is the name of c and its numbers, and nothing else
 -- Premises: none. No axioms.
@@ -15,7 +15,7 @@ use Rattle.record_call.specs.Table.{line_of}
 use Rattle.board_call.specs.declared.Call.{Call}
 use Rattle.board_call.specs.declared.Call.TheVariants.{Reset, Wire, DomainRead, DomainWrite, PageRead}
 use Rattle.board_call.specs.declared.Call.TheVariants.{PageWrite, Register, Top, Claim, Signals, Move}
-use Rattle.claims_record.specs.Text.{textCodes}
+use Rattle.claims_record.specs.Text.{text_codes}
 
 -- ---- numbers
 
@@ -37,31 +37,31 @@ Spelled (t ∷ ts) (n ∷ ns) = Decimal t n × Spelled ts ns
 
 -- ---- calls
 
-abbrev pub callName : Call → List ℕ
-callName Reset = textCodes "reset"
-callName (Wire i level) = textCodes "wire"
-callName (DomainRead d a) = textCodes "domain_read"
-callName (DomainWrite d a v) = textCodes "domain_write"
-callName (PageRead h f a) = textCodes "page_read"
-callName (PageWrite h f a v) = textCodes "page_write"
-callName (Register h f k s v) = textCodes "register"
-callName (Top h f) = textCodes "top"
-callName (Claim h f) = textCodes "claim"
-callName (Signals h) = textCodes "signals"
-callName (Move oh of nh nf n) = textCodes "move"
+abbrev pub call_name : Call → List ℕ
+call_name Reset = text_codes "reset"
+call_name (Wire i level) = text_codes "wire"
+call_name (DomainRead d a) = text_codes "domain_read"
+call_name (DomainWrite d a v) = text_codes "domain_write"
+call_name (PageRead h f a) = text_codes "page_read"
+call_name (PageWrite h f a v) = text_codes "page_write"
+call_name (Register h f k s v) = text_codes "register"
+call_name (Top h f) = text_codes "top"
+call_name (Claim h f) = text_codes "claim"
+call_name (Signals h) = text_codes "signals"
+call_name (Move oh of nh nf n) = text_codes "move"
 
-abbrev pub callNumbers : Call → List ℕ
-callNumbers Reset = []
-callNumbers (Wire i level) = i ∷ level ∷ []
-callNumbers (DomainRead d a) = d ∷ a ∷ []
-callNumbers (DomainWrite d a v) = d ∷ a ∷ v ∷ []
-callNumbers (PageRead h f a) = h ∷ f ∷ a ∷ []
-callNumbers (PageWrite h f a v) = h ∷ f ∷ a ∷ v ∷ []
-callNumbers (Register h f k s v) = h ∷ f ∷ k ∷ s ∷ v ∷ []
-callNumbers (Top h f) = h ∷ f ∷ []
-callNumbers (Claim h f) = h ∷ f ∷ []
-callNumbers (Signals h) = h ∷ []
-callNumbers (Move oh of nh nf n) = oh ∷ of ∷ nh ∷ nf ∷ n ∷ []
+abbrev pub call_numbers : Call → List ℕ
+call_numbers Reset = []
+call_numbers (Wire i level) = i ∷ level ∷ []
+call_numbers (DomainRead d a) = d ∷ a ∷ []
+call_numbers (DomainWrite d a v) = d ∷ a ∷ v ∷ []
+call_numbers (PageRead h f a) = h ∷ f ∷ a ∷ []
+call_numbers (PageWrite h f a v) = h ∷ f ∷ a ∷ v ∷ []
+call_numbers (Register h f k s v) = h ∷ f ∷ k ∷ s ∷ v ∷ []
+call_numbers (Top h f) = h ∷ f ∷ []
+call_numbers (Claim h f) = h ∷ f ∷ []
+call_numbers (Signals h) = h ∷ []
+call_numbers (Move oh of nh nf n) = oh ∷ of ∷ nh ∷ nf ∷ n ∷ []
 
 abbrev pub WordsSmall : Call → Type 0
 WordsSmall Reset = Unit {0}
@@ -78,14 +78,14 @@ WordsSmall (Move oh of nh nf n) = Unit {0}
 
 -- ---- lines
 
-abbrev pub behindTabs : List (List ℕ) → List ℕ
-behindTabs [] = []
-behindTabs (t ∷ ts) = 9 ∷ (t ++ behindTabs ts)
+abbrev pub behind_tabs : List (List ℕ) → List ℕ
+behind_tabs [] = []
+behind_tabs (t ∷ ts) = 9 ∷ (t ++ behind_tabs ts)
 
 pub record Written (c : Call) (l : List ℕ) : Type 0 where
   pub texts : List (List ℕ)
-  pub line : l ≡ callName c ++ behindTabs texts
-  pub numbers : Spelled texts (callNumbers c)
+  pub line : l ≡ call_name c ++ behind_tabs texts
+  pub numbers : Spelled texts (call_numbers c)
   pub words : WordsSmall c
 
 -- a line says a call exactly if it has at most 200 bytes and is the name of the call, in small letters,
@@ -99,7 +99,7 @@ Claim-192 = (l : List ℕ) (c : Call) → (line_of l ≡ lines.Call c) ↔ ((len
 -- leaves none out
 unfoldable pub Claim-193 : Type 0
 Claim-193 =
-    (c : Call) → ((i : ℕ) → i < length (callNumbers c) → get_or (callNumbers c) i 0 < 2 ^ 64) → WordsSmall c
+    (c : Call) → ((i : ℕ) → i < length (call_numbers c) → get_or (call_numbers c) i 0 < 2 ^ 64) → WordsSmall c
     → (l : List ℕ) × (line_of l ≡ lines.Call c)
 
 -- a number of 64 bits is printed in decimal, with no zero in front but for 0 itself

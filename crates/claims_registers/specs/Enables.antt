@@ -5,29 +5,29 @@
 -- Premises: `DomainShaped d`, the lists of d have their lengths, as those of 144 words have. No axioms.
 use Rattle.std.specs.Prelude.{ℕ, ◌/◌, ◌%◌, ◌^◌, ◌≤◌, ◌<◌, ◌≡◌, Bool, true, false, List, ◌⊎◌}
 use Rattle.words.specs.Sets.{member}
-use Rattle.source_mode.specs.Mode.{isActive}
+use Rattle.source_mode.specs.Mode.{is_active}
 use Rattle.domain_region.specs.declared.Word.{Word}
 use Rattle.domain_region.specs.declared.Word.TheVariants.{Setie, Setienum, Clrie, Clrienum}
-use Rattle.domain.specs.Domain.{Domain, domaincfgOf, genmsiOf}
-use Rattle.domain.specs.Slot.{sourceAt}
-use Rattle.domain.specs.Structure.{structureAt}
+use Rattle.domain.specs.Domain.{Domain, domaincfg_of, genmsi_of}
+use Rattle.domain.specs.Slot.{source_at}
+use Rattle.domain.specs.Structure.{structure_at}
 use Rattle.domain_laws.specs.Shape.{DomainShaped}
-use Rattle.domain_registers.specs.Write.{registerWritten}
+use Rattle.domain_registers.specs.Write.{register_written}
 
 pub record EnablesWritten (on : Bool) (Names : ℕ → Type 0) (d d' : Domain) : Type 0 where
   -- a source that is named and active
-  pub named : (j : ℕ) → 1 ≤ j → j ≤ 63 → Names j → isActive (sourceAt d j).mode ≡ true
-      → (sourceAt d' j).enabled ≡ on
+  pub named : (j : ℕ) → 1 ≤ j → j ≤ 63 → Names j → is_active (source_at d j).mode ≡ true
+      → (source_at d' j).enabled ≡ on
   -- a source that is not named, or not active
-  pub others : (j : ℕ) → 1 ≤ j → j ≤ 63 → (Names j → ⊥) ⊎ (isActive (sourceAt d j).mode ≡ false)
-      → (sourceAt d' j).enabled ≡ (sourceAt d j).enabled
+  pub others : (j : ℕ) → 1 ≤ j → j ≤ 63 → (Names j → ⊥) ⊎ (is_active (source_at d j).mode ≡ false)
+      → (source_at d' j).enabled ≡ (source_at d j).enabled
   -- all else of every source, of the domain and of the delivery structures
   pub sources : (j : ℕ) → 1 ≤ j → j ≤ 63
-      → ((sourceAt d' j).mode ≡ (sourceAt d j).mode) × ((sourceAt d' j).target ≡ (sourceAt d j).target)
-      × ((sourceAt d' j).pending ≡ (sourceAt d j).pending)
-  pub domaincfg : domaincfgOf d' ≡ domaincfgOf d
-  pub genmsi : genmsiOf d' ≡ genmsiOf d
-  pub structures : (h : ℕ) → structureAt d' h ≡ structureAt d h
+      → ((source_at d' j).mode ≡ (source_at d j).mode) × ((source_at d' j).target ≡ (source_at d j).target)
+      × ((source_at d' j).pending ≡ (source_at d j).pending)
+  pub domaincfg : domaincfg_of d' ≡ domaincfg_of d
+  pub genmsi : genmsi_of d' ≡ genmsi_of d
+  pub structures : (h : ℕ) → structure_at d' h ≡ structure_at d h
   -- number 0, which is no source
   pub zero : (member d'.pending 0 ≡ member d.pending 0) × (member d'.enable 0 ≡ member d.enable 0)
 
@@ -41,7 +41,7 @@ NamedIn k v j = (j / 32 ≡ k) × (v / 2 ^ (j % 32) % 2 ≡ 1)
 unfoldable pub Claim-134 : Type 0
 Claim-134 =
     (c : Bool) (d : Domain) (wires : List ℕ) (v : ℕ) → DomainShaped d
-    → let written : Word → Domain = λ r. registerWritten c d wires r v in
+    → let written : Word → Domain = λ r. register_written c d wires r v in
     ((k : ℕ) → k < 2
     → EnablesWritten true (NamedIn k v) d (written (Setie k))
     × EnablesWritten false (NamedIn k v) d (written (Clrie k)))

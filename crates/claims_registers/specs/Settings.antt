@@ -11,27 +11,27 @@
 use Rattle.std.specs.Prelude.{ℕ, ◌+◌, ◌*◌, ◌/◌, ◌%◌, ◌^◌, ◌≤◌, ◌<◌, ◌≡◌, Bool, true, false, List, ◌≢◌}
 use Rattle.domain_region.specs.declared.Word.{Word}
 use Rattle.domain_region.specs.declared.Word.TheVariants.{Genmsi, Idelivery, Iforce, Ithreshold}
-use Rattle.domain.specs.Domain.{Domain, domaincfgOf, byMessages, genmsiOf}
-use Rattle.domain.specs.Slot.{sourceAt}
-use Rattle.domain.specs.Structure.{structureAt}
+use Rattle.domain.specs.Domain.{Domain, domaincfg_of, by_messages, genmsi_of}
+use Rattle.domain.specs.Slot.{source_at}
+use Rattle.domain.specs.Structure.{structure_at}
 use Rattle.domain_laws.specs.Shape.{DomainShaped}
-use Rattle.domain_direct.specs.Direct.{topiOf, hartClaimed}
-use Rattle.domain_registers.specs.Read.{registerValue}
-use Rattle.domain_registers.specs.Write.{registerWritten}
+use Rattle.domain_direct.specs.Direct.{topi_of, hart_claimed}
+use Rattle.domain_registers.specs.Read.{register_value}
+use Rattle.domain_registers.specs.Write.{register_written}
 use Rattle.wired_state.specs.Wires.{Wired}
-use Rattle.wired_registers.specs.Wired.{readIn}
+use Rattle.wired_registers.specs.Wired.{read_in}
 use Rattle.claims_registers.specs.Rules.{Sound}
 use Rattle.claims_registers.specs.Writes.{DomainBecame}
 
 pub record NumbersAre (d d' : Domain) (wires : List ℕ) (h a b t : ℕ) : Type 0 where
-  pub idelivery : ((structureAt d' h).idelivery ≡ a) × (registerValue d' wires (Idelivery h) ≡ a)
-  pub iforce : ((structureAt d' h).iforce ≡ b) × (registerValue d' wires (Iforce h) ≡ b)
-  pub ithreshold : ((structureAt d' h).ithreshold ≡ t) × (registerValue d' wires (Ithreshold h) ≡ t)
+  pub idelivery : ((structure_at d' h).idelivery ≡ a) × (register_value d' wires (Idelivery h) ≡ a)
+  pub iforce : ((structure_at d' h).iforce ≡ b) × (register_value d' wires (Iforce h) ≡ b)
+  pub ithreshold : ((structure_at d' h).ithreshold ≡ t) × (register_value d' wires (Ithreshold h) ≡ t)
   -- the other harts, domaincfg, genmsi and every source
-  pub others : (g : ℕ) → g ≢ h → structureAt d' g ≡ structureAt d g
-  pub domaincfg : domaincfgOf d' ≡ domaincfgOf d
-  pub genmsi : genmsiOf d' ≡ genmsiOf d
-  pub sources : (i : ℕ) → sourceAt d' i ≡ sourceAt d i
+  pub others : (g : ℕ) → g ≢ h → structure_at d' g ≡ structure_at d g
+  pub domaincfg : domaincfg_of d' ≡ domaincfg_of d
+  pub genmsi : genmsi_of d' ≡ genmsi_of d
+  pub sources : (i : ℕ) → source_at d' i ≡ source_at d i
 
 -- in direct mode idelivery and iforce store 0 and 1 and keep the old value otherwise, and ithreshold keeps
 -- the low 8 bits; by messages all three read 0, ignore writes, and so keep what is stored
@@ -39,16 +39,16 @@ pub record NumbersAre (d d' : Domain) (wires : List ℕ) (h a b t : ℕ) : Type 
 unfoldable pub Claim-135 : Type 0
 Claim-135 =
     (c : Bool) (d : Domain) (wires : List ℕ) (h v : ℕ) → DomainShaped d → h < 4
-    → let written : Word → Domain = λ r. registerWritten c d wires r v in
-    let reads : Word → ℕ = registerValue d wires in
-    let x = structureAt d h in
-    (byMessages d ≡ false
+    → let written : Word → Domain = λ r. register_written c d wires r v in
+    let reads : Word → ℕ = register_value d wires in
+    let x = structure_at d h in
+    (by_messages d ≡ false
     → (v ≤ 1 → NumbersAre d (written (Idelivery h)) wires h v x.iforce x.ithreshold)
     × (1 < v → NumbersAre d (written (Idelivery h)) wires h x.idelivery x.iforce x.ithreshold)
     × (v ≤ 1 → NumbersAre d (written (Iforce h)) wires h x.idelivery v x.ithreshold)
     × (1 < v → NumbersAre d (written (Iforce h)) wires h x.idelivery x.iforce x.ithreshold)
     × NumbersAre d (written (Ithreshold h)) wires h x.idelivery x.iforce (v % 256))
-    × (byMessages d ≡ true
+    × (by_messages d ≡ true
     → (reads (Idelivery h) ≡ 0) × (reads (Iforce h) ≡ 0) × (reads (Ithreshold h) ≡ 0)
     × (written (Idelivery h) ≡ d) × (written (Iforce h) ≡ d) × (written (Ithreshold h) ≡ d))
 
@@ -58,16 +58,16 @@ Claim-135 =
 unfoldable pub Claim-136 : Type 0
 Claim-136 =
     ((c : Bool) (d : Domain) (wires : List ℕ) (v : ℕ) → DomainShaped d
-    → let after = registerWritten c d wires Genmsi v in let word = v / 2 ^ 18 % 4 * 2 ^ 18 + v % 256 in
-    (byMessages d ≡ true
-    → DomainBecame d after (domaincfgOf d) word (λ j s. s) × (registerValue after wires Genmsi ≡ word))
-    × (byMessages d ≡ false → (after ≡ d) × (registerValue d wires Genmsi ≡ 0)))
-    × ((w : Wired) → Sound w → (c : Bool) → readIn w c Genmsi / 2 ^ 12 % 2 ≡ 0)
+    → let after = register_written c d wires Genmsi v in let word = v / 2 ^ 18 % 4 * 2 ^ 18 + v % 256 in
+    (by_messages d ≡ true
+    → DomainBecame d after (domaincfg_of d) word (λ j s. s) × (register_value after wires Genmsi ≡ word))
+    × (by_messages d ≡ false → (after ≡ d) × (register_value d wires Genmsi ≡ 0)))
+    × ((w : Wired) → Sound w → (c : Bool) → read_in w c Genmsi / 2 ^ 12 % 2 ≡ 0)
 
 -- a claimi of 0 in direct mode clears iforce, and that alone: Claim-46 in plain numbers
 -- [01 S13]
 unfoldable pub Claim-142 : Type 0
 Claim-142 =
-    (d : Domain) (wires : List ℕ) (h : ℕ) → DomainShaped d → h < 4 → byMessages d ≡ false → topiOf d h ≡ 0
-    → let x = structureAt d h in
-    NumbersAre d (hartClaimed d h) wires h x.idelivery 0 x.ithreshold
+    (d : Domain) (wires : List ℕ) (h : ℕ) → DomainShaped d → h < 4 → by_messages d ≡ false → topi_of d h ≡ 0
+    → let x = structure_at d h in
+    NumbersAre d (hart_claimed d h) wires h x.idelivery 0 x.ithreshold

@@ -9,27 +9,27 @@
 -- for a source that is not delegated has the state rules too. No axioms.
 use Rattle.std.specs.Prelude.{ℕ, ◌/◌, ◌%◌, ◌≤◌, ◌≡◌, true, false, ◌≢◌, ◌⊎◌}
 use Rattle.domain_region.specs.declared.Word.TheVariants.{Sourcecfg}
-use Rattle.domain.specs.Domain.{Domain, domaincfgOf, genmsiOf}
-use Rattle.domain.specs.Slot.{sourceAt}
-use Rattle.domain.specs.Structure.{structureAt}
+use Rattle.domain.specs.Domain.{Domain, domaincfg_of, genmsi_of}
+use Rattle.domain.specs.Slot.{source_at}
+use Rattle.domain.specs.Structure.{structure_at}
 use Rattle.wired_state.specs.Wires.{Wired}
-use Rattle.wired_registers.specs.Wired.{writtenIn}
-use Rattle.wired_rules.specs.Rules.{wiredSound}
+use Rattle.wired_registers.specs.Wired.{written_in}
+use Rattle.wired_rules.specs.Rules.{wired_sound}
 use Rattle.claims_registers.specs.Rules.{Long}
 
 abbrev pub ModeOf : ℕ → ℕ → Type 0
 ModeOf v m = ((v % 8 ≡ 2) ⊎ (v % 8 ≡ 3) → m ≡ 0) × (v % 8 ≢ 2 → v % 8 ≢ 3 → m ≡ v % 8)
 
 pub record SourceAlone (i : ℕ) (d d' : Domain) : Type 0 where
-  pub others : (j : ℕ) → j ≢ i → sourceAt d' j ≡ sourceAt d j
-  pub domaincfg : domaincfgOf d' ≡ domaincfgOf d
-  pub genmsi : genmsiOf d' ≡ genmsiOf d
-  pub structures : (h : ℕ) → structureAt d' h ≡ structureAt d h
+  pub others : (j : ℕ) → j ≢ i → source_at d' j ≡ source_at d j
+  pub domaincfg : domaincfg_of d' ≡ domaincfg_of d
+  pub genmsi : genmsi_of d' ≡ genmsi_of d
+  pub structures : (h : ℕ) → structure_at d' h ≡ structure_at d h
 
 -- in the machine domain bit 10 (1024) delegates, and else bits 2:0 are stored
 abbrev pub WrittenInMachine : Wired → ℕ → ℕ → Type 0
 WrittenInMachine w i v =
-    let after = writtenIn w false (Sourcecfg i) v in let stored = (sourceAt after.machine i).mode in
+    let after = written_in w false (Sourcecfg i) v in let stored = (source_at after.machine i).mode in
     (v / 1024 % 2 ≡ 1 → stored ≡ 1024) × (v / 1024 % 2 ≡ 0 → ModeOf v stored)
     × SourceAlone i w.machine after.machine × SourceAlone i w.child after.child
     × (after.wires ≡ w.wires)
@@ -38,9 +38,9 @@ WrittenInMachine w i v =
 -- nothing of the machine domain changes
 abbrev pub WrittenInChild : Wired → ℕ → ℕ → Type 0
 WrittenInChild w i v =
-    let after = writtenIn w true (Sourcecfg i) v in let stored = (sourceAt after.child i).mode in
-    let machine = (sourceAt w.machine i).mode in
-    (v / 1024 % 2 ≡ 1 → stored ≡ 0) × (wiredSound w ≡ true → machine ≢ 1024 → stored ≡ 0)
+    let after = written_in w true (Sourcecfg i) v in let stored = (source_at after.child i).mode in
+    let machine = (source_at w.machine i).mode in
+    (v / 1024 % 2 ≡ 1 → stored ≡ 0) × (wired_sound w ≡ true → machine ≢ 1024 → stored ≡ 0)
     × (v / 1024 % 2 ≡ 0 → machine ≡ 1024 → ModeOf v stored)
     × SourceAlone i w.child after.child × (after.machine ≡ w.machine) × (after.wires ≡ w.wires)
 

@@ -5,7 +5,7 @@
 -- Premises: `Long w`, the lists of w have their lengths, as those of 290 words have. No axioms.
 use Rattle.std.specs.Prelude.{ℕ, ◌≤◌, ◌≡◌, Bool, ◌≢◌}
 use Rattle.words.specs.Sets.{member}
-use Rattle.wired_state.specs.Wires.{Wired, wireSet}
+use Rattle.wired_state.specs.Wires.{Wired, wire_set}
 use Rattle.claims_registers.specs.Rules.{Long}
 use Rattle.claims_registers.specs.Sourcecfg.{SourceAlone}
 
@@ -13,7 +13,7 @@ use Rattle.claims_registers.specs.Sourcecfg.{SourceAlone}
 unfoldable pub Claim-141 : Type 0
 Claim-141 =
     (w : Wired) → Long w → (i : ℕ) → 1 ≤ i → i ≤ 63 → (level : Bool)
-    → let after = wireSet w i level in
+    → let after = wire_set w i level in
     (member after.wires i ≡ level)
     × ((j : ℕ) → j ≢ i → member after.wires j ≡ member w.wires j)
     × SourceAlone i w.machine after.machine × SourceAlone i w.child after.child

@@ -8,15 +8,15 @@ use native.Mathlib.Omega.{arith}
 use Rattle.domain_region.specs.declared.Word.{Word}
 use Rattle.domain_region.specs.declared.Word.TheVariants.{Genmsi}
 use Rattle.domain_region.proofs.RoleLaws.{generates-only}
-use Rattle.wired_state.specs.Wires.{Wired, domainIn, wireSet}
-use Rattle.wired_registers.specs.Wired.{writtenIn}
+use Rattle.wired_state.specs.Wires.{Wired, domain_in, wire_set}
+use Rattle.wired_registers.specs.Wired.{written_in}
 use Rattle.domain_sending.specs.Sending.{Sent}
-use Rattle.domain_genmsi.specs.Genmsi.{genmsiSent}
+use Rattle.domain_genmsi.specs.Genmsi.{genmsi_sent}
 use Rattle.wired_rules_laws.specs.Steady.{WiredSteady, WiredQuiet}
 use Rattle.wired_rules_laws.proofs.SoundParts.{wired-sound-steady, wired-sound-quiet}
-use Rattle.wired.specs.Controller.{flushed, genmsiAs, genmsiBy, wireCall, writeCall, OneSends}
+use Rattle.wired.specs.Controller.{flushed, genmsi_as, genmsi_by, wire_call, write_call, OneSends}
 use Rattle.wired.proofs.ControllerLaws.{genmsi-else}
-use Rattle.wired.proofs.CallLaws.{one-wireSet, one-writtenIn, read-silent, genmsi-silent}
+use Rattle.wired.proofs.CallLaws.{one-wire_set, one-written_in, read-silent, genmsi-silent}
 use Rattle.wired_laws.proofs.OutEffects.{wire-count, wire-exists, write-count, write-exists}
 use Rattle.wired_laws.proofs.OutEffects.{wire-sound, read-sound, write-sound}
 use Rattle.claims_registers.specs.Rules.{Sound}
@@ -43,27 +43,27 @@ one w (inr e) = inr (ap (λ (s : Sent). s.messages) e)
 
 -- a write to genmsi, with nothing to be sent after it
 genmsi-alone : (w : Wired) (c : Bool) (v : ℕ)
-    → flushed (writtenIn w c Genmsi v) ≡ record { wired = writtenIn w c Genmsi v; messages = [] }
-    → writeCall w c Genmsi v
-    ≡ record { wired = writtenIn w c Genmsi v; messages = genmsiSent c (domainIn w c) v }
-unfolding writeCall genmsiBy genmsiAs
-genmsi-alone w c v silent = rw (silent, append-nil (genmsiSent c (domainIn w c) v))
+    → flushed (written_in w c Genmsi v) ≡ record { wired = written_in w c Genmsi v; messages = [] }
+    → write_call w c Genmsi v
+    ≡ record { wired = written_in w c Genmsi v; messages = genmsi_sent c (domain_in w c) v }
+unfolding write_call genmsi_by genmsi_as
+genmsi-alone w c v silent = rw (silent, append-nil (genmsi_sent c (domain_in w c) v))
 
 -- a write to any other register, with what is to be sent after it
 change-alone : (w : Wired) (c : Bool) (r : Word) (v : ℕ) → r ≢ Genmsi
-    → Sends (writtenIn w c r v) (writeCall w c r v)
-unfolding writeCall flushed
+    → Sends (written_in w c r v) (write_call w c r v)
+unfolding write_call flushed
 change-alone w c r v n =
-    rw (genmsi-else c (domainIn w c) r v (λ e. n (generates-only r e))) (refl, refl)
+    rw (genmsi-else c (domain_in w c) r v (λ e. n (generates-only r e))) (refl, refl)
 
 pub claim-77 : Claim-77
-unfolding Claim-77 wireCall flushed
+unfolding Claim-77 wire_call flushed
 claim-77 w s =
     let a = steady w s in
     let q = quiet w s in (
-      (λ i l h level. ((refl, refl), one (wireSet w i level) (one-wireSet w a q i l (omega arith) level))),
+      (λ i l h level. ((refl, refl), one (wire_set w i level) (one-wire_set w a q i l (omega arith) level))),
       (λ c r. read-silent w a q c r),
-      (λ c r b v n. (change-alone w c r v n, one (writtenIn w c r v) (one-writtenIn w a q c r b v))),
+      (λ c r b v n. (change-alone w c r v n, one (written_in w c r v) (one-written_in w a q c r b v))),
       (λ c v. genmsi-alone w c v (genmsi-silent w a q c Genmsi refl v)),
     )
 

@@ -3,13 +3,13 @@ use mathlib.Core.Path.{◌≡◌, refl, sym, ◌∙◌}
 use mathlib.Core.Bool.{Bool, true, false, and-false}
 use Rattle.words.specs.Parts.{reversed}
 use Rattle.words.proofs.TestsLaws.{tested}
-use Rattle.source_mode.specs.Mode.{isActive}
+use Rattle.source_mode.specs.Mode.{is_active}
 use Rattle.source_laws.proofs.ModeEffects.{level-inactive, rectified-inactive}
 use Rattle.domain_region.proofs.RoleLaws.{configures-only}
 use Rattle.source.specs.declared.Source.{Source}
-use Rattle.source.specs.Pending.{settled, wireChanged, pended, cleared, changed}
-use Rattle.domain_registers.specs.Write.{registerWritten}
-use Rattle.wired_state.specs.Wires.{domainIn, withDomain}
+use Rattle.source.specs.Pending.{settled, wire_changed, pended, cleared, changed}
+use Rattle.domain_registers.specs.Write.{register_written}
+use Rattle.wired_state.specs.Wires.{domain_in, with_domain}
 use Rattle.wired_registers.proofs.WiredLaws.{written-part}
 use Rattle.claims_domain.specs.Causes.{Cause, happens}
 use Rattle.claims_domain.specs.Causes.Cause.{wire, setip, clrip, claim, sent}
@@ -18,7 +18,7 @@ use Rattle.claims_wired.specs.Effects.{Claim-143, Claim-144}
 -- ---- which change a write makes
 
 pub claim-143 : Claim-143
-unfolding Claim-143 registerWritten
+unfolding Claim-143 register_written
 claim-143 = (
   λ c d wires v. (
     λ k. (refl, refl, refl, refl),
@@ -33,7 +33,7 @@ claim-143 = (
   ),
   λ w r v n.
       let part : (c : Bool) → _ = λ c. written-part w c r v (λ i e. n i (configures-only r i e)) in
-      unfold withDomain domainIn in (part false, part true),
+      unfold with_domain domain_in in (part false, part true),
 )
 
 -- ---- the pending bit alone
@@ -42,17 +42,17 @@ claim-143 = (
 module _ (s : Source) (m : Bool) where
   rest-kept : (k : Cause) → let after = happens s m k in
       (after.mode ≡ s.mode) × (after.target ≡ s.target) × (after.enabled ≡ s.enabled)
-  unfolding happens wireChanged settled pended cleared
+  unfolding happens wire_changed settled pended cleared
   rest-kept (wire was is) = (refl, refl, refl)
   rest-kept (setip level) =
-      tested (isActive s.mode) (λ t. rw t (refl, refl, refl)) (λ f. rw f (refl, refl, refl))
+      tested (is_active s.mode) (λ t. rw t (refl, refl, refl)) (λ f. rw f (refl, refl, refl))
   rest-kept clrip = (refl, refl, refl)
   rest-kept claim = (refl, refl, refl)
   rest-kept sent = (refl, refl, refl)
 
-  module _ (off : isActive s.mode ≡ false) (none : s.pending ≡ false) where
+  module _ (off : is_active s.mode ≡ false) (none : s.pending ≡ false) where
     stays : (k : Cause) → (happens s m k).pending ≡ false
-    unfolding happens wireChanged settled pended cleared
+    unfolding happens wire_changed settled pended cleared
     stays (wire was is) =
         simp (level-inactive s.mode off, rectified-inactive s.mode is off, none, and-false)
     stays (setip level) = simp off none

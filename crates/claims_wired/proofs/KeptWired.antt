@@ -15,9 +15,9 @@ use Rattle.words.proofs.TestsLaws.{tested}
 use Rattle.source_mode.specs.Mode.{source_word}
 use Rattle.source.specs.declared.Source.{Source}
 use Rattle.source.specs.declared.Change.TheVariants.{Pend, Clear, Enable, Disable}
-use Rattle.source.specs.Pending.{inactive, settled, wireChanged, cleared, moded}
+use Rattle.source.specs.Pending.{inactive, settled, wire_changed, cleared, moded}
 use Rattle.domain_region.specs.Region.{Within}
-use Rattle.domain_region.specs.Role.{roleOf}
+use Rattle.domain_region.specs.Role.{role_of}
 use Rattle.domain_region.specs.declared.role.Role.{Role}
 use Rattle.domain_region.specs.declared.role.Role.TheVariants.{Claims, Configures, Generates, Plain}
 use Rattle.domain_region.proofs.RoleLaws.{configures-only, configures-range}
@@ -26,29 +26,29 @@ use Rattle.domain_region.specs.declared.Word.TheVariants.{Domaincfg, Sourcecfg, 
 use Rattle.domain_region.specs.declared.Word.TheVariants.{Clripnum, Setie, Setienum, Clrie, Clrienum}
 use Rattle.domain_region.specs.declared.Word.TheVariants.{SetipnumLe, SetipnumBe, Genmsi, Target, Idelivery}
 use Rattle.domain_region.specs.declared.Word.TheVariants.{Iforce, Ithreshold, Topi, Claimi, Unused}
-use Rattle.domain_delivery.specs.Delivery.{withIdelivery, withIforce, withIthreshold, withoutForce}
-use Rattle.domain.specs.Domain.{Domain, byMessages}
-use Rattle.domain.specs.Slot.{sourceAt, withSource}
+use Rattle.domain_delivery.specs.Delivery.{with_idelivery, with_iforce, with_ithreshold, without_force}
+use Rattle.domain.specs.Domain.{Domain, by_messages}
+use Rattle.domain.specs.Slot.{source_at, with_source}
 use Rattle.domain_laws.specs.Shape.{DomainShaped}
-use Rattle.domain_laws.proofs.BecameEffects.{touched-withSource}
+use Rattle.domain_laws.proofs.BecameEffects.{touched-with_source}
 use Rattle.domain_writes_laws.specs.Named.{named}
-use Rattle.domain_writes_laws.proofs.WritesEffects.{touched-wordChanged, touched-numberChanged}
-use Rattle.domain_topi.proofs.TopLaws.{topSource-lt}
+use Rattle.domain_writes_laws.proofs.WritesEffects.{touched-word_changed, touched-number_changed}
+use Rattle.domain_topi.proofs.TopLaws.{top_source-lt}
 use Rattle.domain_direct.specs.declared.Setting.{Setting}
 use Rattle.domain_direct.specs.declared.Setting.TheVariants as setting
-use Rattle.domain_direct.specs.Direct.{topSource, unforced, released, hartClaimed, writtenAt, settingWritten}
+use Rattle.domain_direct.specs.Direct.{top_source, unforced, released, hart_claimed, written_at, setting_written}
 use Rattle.domain_direct.proofs.DirectLaws.{claimed-messages, claimed-none, claimed-some, written-messages}
 use Rattle.domain_direct.proofs.DirectLaws.{written-direct}
-use Rattle.domain_registers.specs.Write.{registerWritten}
-use Rattle.domain_registers.specs.Read.{claimedAs, claimedBy}
-use Rattle.wired_state.specs.Wires.{Wired, domainIn, withDomain, isDelegated, sourceWired, wireSet}
-use Rattle.wired_sourcecfg.specs.Delegation.{sourceModed, childWritten, machineWritten, sourceWritten}
-use Rattle.wired_registers.specs.Wired.{claimed_in, partWritten, writtenAs, writtenIn}
+use Rattle.domain_registers.specs.Write.{register_written}
+use Rattle.domain_registers.specs.Read.{claimed_as, claimed_by}
+use Rattle.wired_state.specs.Wires.{Wired, domain_in, with_domain, is_delegated, source_wired, wire_set}
+use Rattle.wired_sourcecfg.specs.Delegation.{source_moded, child_written, machine_written, source_written}
+use Rattle.wired_registers.specs.Wired.{claimed_in, part_written, written_as, written_in}
 use Rattle.claims_registers.specs.Rules.{Long}
-use Rattle.claims_wired.specs.Kept.{Touch, none, sources, harts, whileDirect, writes, claims, reads}
-use Rattle.claims_wired.specs.Kept.{writesIn, readsIn, Spares, Claim-155}
+use Rattle.claims_wired.specs.Kept.{Touch, none, sources, harts, while_direct, writes, claims, reads}
+use Rattle.claims_wired.specs.Kept.{writes_in, reads_in, Spares, Claim-155}
 use Rattle.claims_registers.proofs.Accesses.{wires-with}
-use Rattle.claims_wired.proofs.Kept.{out, keep, pendingOf, enabledOf, target_of, mode_of, kept_same}
+use Rattle.claims_wired.proofs.Kept.{out, keep, pending_of, enabled_of, target_of, mode_of, kept_same}
 use Rattle.claims_wired.proofs.Kept.{kept-became, kept-pendings, kept-wholes, kept-pend, kept-clear}
 use Rattle.claims_wired.proofs.Kept.{kept-enable, kept-disable, kept-domaincfg, kept-genmsi}
 use Rattle.claims_wired.proofs.Kept.{kept_target, kept-structure}
@@ -58,63 +58,63 @@ module _ (d : Domain) (shaped : DomainShaped d) where
 
   module _ (h : ℕ) where
     -- in direct mode the hart is touched
-    own-hart : {A : Type 0} → byMessages d ≡ false → whileDirect d h h ≡ false → A
+    own-hart : {A : Type 0} → by_messages d ≡ false → while_direct d h h ≡ false → A
     own-hart f e = absurd (eqb-false h h (rw f at e) refl)
 
     kept-setting : (g : Setting) (t : Touch) (v : ℕ)
-        → (byMessages d ≡ false → Spares t d (settingWritten d h g v))
-        → Spares t d (settingWritten d h g v)
+        → (by_messages d ≡ false → Spares t d (setting_written d h g v))
+        → Spares t d (setting_written d h g v)
     kept-setting g t v on =
-        tested (byMessages d) (λ m. rw (written-messages d h g v m) (kept_same t d)) on
+        tested (by_messages d) (λ m. rw (written-messages d h g v m) (kept_same t d)) on
 
     kept-idelivery : (v : ℕ)
-        → Spares (harts (whileDirect d h) none none) d (settingWritten d h setting.Idelivery v)
-    unfolding writtenAt withIdelivery
+        → Spares (harts (while_direct d h) none none) d (setting_written d h setting.Idelivery v)
+    unfolding written_at with_idelivery
     kept-idelivery v =
-        kept-setting setting.Idelivery (harts (whileDirect d h) none none) v
+        kept-setting setting.Idelivery (harts (while_direct d h) none none) v
         (λ f. rw (written-direct d h setting.Idelivery v f)
-        (kept-structure d shaped h _ (harts (whileDirect d h) none none) (λ e. own-hart f e) (λ e. refl)
+        (kept-structure d shaped h _ (harts (while_direct d h) none none) (λ e. own-hart f e) (λ e. refl)
         (λ e. refl)))
 
     kept-iforce : (v : ℕ)
-        → Spares (harts none (whileDirect d h) none) d (settingWritten d h setting.Iforce v)
-    unfolding writtenAt withIforce
+        → Spares (harts none (while_direct d h) none) d (setting_written d h setting.Iforce v)
+    unfolding written_at with_iforce
     kept-iforce v =
-        kept-setting setting.Iforce (harts none (whileDirect d h) none) v
+        kept-setting setting.Iforce (harts none (while_direct d h) none) v
         (λ f. rw (written-direct d h setting.Iforce v f)
-        (kept-structure d shaped h _ (harts none (whileDirect d h) none) (λ e. refl) (λ e. own-hart f e)
+        (kept-structure d shaped h _ (harts none (while_direct d h) none) (λ e. refl) (λ e. own-hart f e)
         (λ e. refl)))
 
     kept-ithreshold : (v : ℕ)
-        → Spares (harts none none (whileDirect d h)) d (settingWritten d h setting.Ithreshold v)
-    unfolding writtenAt withIthreshold
+        → Spares (harts none none (while_direct d h)) d (setting_written d h setting.Ithreshold v)
+    unfolding written_at with_ithreshold
     kept-ithreshold v =
-        kept-setting setting.Ithreshold (harts none none (whileDirect d h)) v
+        kept-setting setting.Ithreshold (harts none none (while_direct d h)) v
         (λ f. rw (written-direct d h setting.Ithreshold v f)
-        (kept-structure d shaped h _ (harts none none (whileDirect d h)) (λ e. refl) (λ e. refl)
+        (kept-structure d shaped h _ (harts none none (while_direct d h)) (λ e. refl) (λ e. refl)
         (λ e. own-hart f e)))
 
   -- ---- a write to any register but a sourcecfg
 
   kept-written : (c : Bool) (ws : List ℕ) (r : Word) → Within r → (v : ℕ)
-      → Spares (writes d r v) d (registerWritten c d ws r v)
-  unfolding writes registerWritten named
+      → Spares (writes d r v) d (register_written c d ws r v)
+  unfolding writes register_written named
   kept-written c ws Domaincfg q v = kept-domaincfg d shaped ws v
   kept-written c ws (Sourcecfg i) q v = kept_same _ d
-  kept-written c ws (Setip k) q v = kept-pend d ws (named k v) (touched-wordChanged d ws Pend v shaped k q)
-  kept-written c ws Setipnum q v = kept-pend d ws (eqb v) (touched-numberChanged d ws Pend v shaped)
+  kept-written c ws (Setip k) q v = kept-pend d ws (named k v) (touched-word_changed d ws Pend v shaped k q)
+  kept-written c ws Setipnum q v = kept-pend d ws (eqb v) (touched-number_changed d ws Pend v shaped)
   kept-written c ws (InClrip k) q v =
-      kept-clear d ws (named k v) (touched-wordChanged d ws Clear v shaped k q)
-  kept-written c ws Clripnum q v = kept-clear d ws (eqb v) (touched-numberChanged d ws Clear v shaped)
+      kept-clear d ws (named k v) (touched-word_changed d ws Clear v shaped k q)
+  kept-written c ws Clripnum q v = kept-clear d ws (eqb v) (touched-number_changed d ws Clear v shaped)
   kept-written c ws (Setie k) q v =
-      kept-enable d ws (named k v) (touched-wordChanged d ws Enable v shaped k q)
-  kept-written c ws Setienum q v = kept-enable d ws (eqb v) (touched-numberChanged d ws Enable v shaped)
+      kept-enable d ws (named k v) (touched-word_changed d ws Enable v shaped k q)
+  kept-written c ws Setienum q v = kept-enable d ws (eqb v) (touched-number_changed d ws Enable v shaped)
   kept-written c ws (Clrie k) q v =
-      kept-disable d ws (named k v) (touched-wordChanged d ws Disable v shaped k q)
-  kept-written c ws Clrienum q v = kept-disable d ws (eqb v) (touched-numberChanged d ws Disable v shaped)
-  kept-written c ws SetipnumLe q v = kept-pend d ws (eqb v) (touched-numberChanged d ws Pend v shaped)
+      kept-disable d ws (named k v) (touched-word_changed d ws Disable v shaped k q)
+  kept-written c ws Clrienum q v = kept-disable d ws (eqb v) (touched-number_changed d ws Disable v shaped)
+  kept-written c ws SetipnumLe q v = kept-pend d ws (eqb v) (touched-number_changed d ws Pend v shaped)
   kept-written c ws SetipnumBe q v =
-      kept-pend d ws (eqb (reversed v)) (touched-numberChanged d ws Pend (reversed v) shaped)
+      kept-pend d ws (eqb (reversed v)) (touched-number_changed d ws Pend (reversed v) shaped)
   kept-written c ws Genmsi q v = kept-genmsi d shaped v
   kept-written c ws (Target i) q v = kept_target d shaped c i v q.0 q.1
   kept-written c ws (Idelivery h) q v = kept-idelivery h v
@@ -126,31 +126,31 @@ module _ (d : Domain) (shaped : DomainShaped d) where
 
   -- ---- a claim
 
-  kept-claimed : (h : ℕ) → Spares (claims d h) d (hartClaimed d h)
+  kept-claimed : (h : ℕ) → Spares (claims d h) d (hart_claimed d h)
   kept-claimed h =
-      tested (byMessages d) (λ m. rw (claimed-messages d h m) (kept_same (claims d h) d))
-      (λ f. at f (ℕ_discrete (topSource d h) 0))
+      tested (by_messages d) (λ m. rw (claimed-messages d h m) (kept_same (claims d h) d))
+      (λ f. at f (ℕ_discrete (top_source d h) 0))
     where
-      at : byMessages d ≡ false → Dec (topSource d h ≡ 0) → Spares (claims d h) d (hartClaimed d h)
+      at : by_messages d ≡ false → Dec (top_source d h ≡ 0) → Spares (claims d h) d (hart_claimed d h)
       at f (yes z) =
-          unfold unforced withoutForce in
-          rw (claimed-none d h f z, eq-eqb (topSource d h) 0 z)
-          (kept-structure d shaped h _ (harts none (whileDirect d h) none) (λ e. refl) (λ e. own-hart h f e)
+          unfold unforced without_force in
+          rw (claimed-none d h f z, eq-eqb (top_source d h) 0 z)
+          (kept-structure d shaped h _ (harts none (while_direct d h) none) (λ e. refl) (λ e. own-hart h f e)
           (λ e. refl))
       at f (no n) =
           unfold released cleared in
-          rw (claimed-some d h f n, ne_eqb (topSource d h) 0 n)
+          rw (claimed-some d h f n, ne_eqb (top_source d h) 0 n)
           (kept-became
-          (touched-withSource d (topSource d h) (λ j s. cleared s false) shaped (omega (arith, n))
-          (topSource-lt d h))
-          (sources (λ i. not (byMessages d) && eqb (topSource d h) i) none none none)
-          (λ j e. out pendingOf (eqb (topSource d h) j) _ _ (rw f at e))
-          (λ j e. keep enabledOf (eqb (topSource d h) j) _ _ refl)
-          (λ j e. keep target_of (eqb (topSource d h) j) _ _ refl)
-          (λ j e. keep mode_of (eqb (topSource d h) j) _ _ refl) (λ e. refl) (λ e. refl))
+          (touched-with_source d (top_source d h) (λ j s. cleared s false) shaped (omega (arith, n))
+          (top_source-lt d h))
+          (sources (λ i. not (by_messages d) && eqb (top_source d h) i) none none none)
+          (λ j e. out pending_of (eqb (top_source d h) j) _ _ (rw f at e))
+          (λ j e. keep enabled_of (eqb (top_source d h) j) _ _ refl)
+          (λ j e. keep target_of (eqb (top_source d h) j) _ _ refl)
+          (λ j e. keep mode_of (eqb (top_source d h) j) _ _ refl) (λ e. refl) (λ e. refl))
 
-  kept_read : (r : Word) → Spares (reads d r) d (claimedBy d r)
-  unfolding reads claimedBy claimedAs
+  kept_read : (r : Word) → Spares (reads d r) d (claimed_by d r)
+  unfolding reads claimed_by claimed_as
   kept_read Domaincfg = kept_same _ d
   kept_read (Sourcecfg i) = kept_same _ d
   kept_read (Setip k) = kept_same _ d
@@ -177,47 +177,47 @@ module _ (d : Domain) (shaped : DomainShaped d) where
 -- source i replaced by what g makes of it
 module _ (d : Domain) (shaped : DomainShaped d) (i : ℕ) (l : 1 ≤ i) (h : i ≤ 63)
     (g : ℕ → Source → Source) where
-  kept-replaced : Spares (sources (eqb i) (eqb i) (eqb i) (eqb i)) d (withSource d i (g i (sourceAt d i)))
-  kept-replaced = kept-wholes (eqb i) g (touched-withSource d i g shaped l (omega arith))
+  kept-replaced : Spares (sources (eqb i) (eqb i) (eqb i) (eqb i)) d (with_source d i (g i (source_at d i)))
+  kept-replaced = kept-wholes (eqb i) g (touched-with_source d i g shaped l (omega arith))
 
 module _ (w : Wired) (long : Long w) where
-  shaped_in : (c : Bool) → DomainShaped (domainIn w c)
-  unfolding domainIn
+  shaped_in : (c : Bool) → DomainShaped (domain_in w c)
+  unfolding domain_in
   shaped_in true = long.2
   shaped_in false = long.1
 
   -- ---- a wire
 
   kept-wire : (i : ℕ) → 1 ≤ i → i ≤ 63 → (level e : Bool)
-      → Spares (sources (eqb i) none none none) (domainIn w e) (domainIn (wireSet w i level) e)
+      → Spares (sources (eqb i) none none none) (domain_in w e) (domain_in (wire_set w i level) e)
   kept-wire i l h level e =
       let was = member w.wires i in
-      let d = domainIn w e in
+      let d = domain_in w e in
       subst (Spares (sources (eqb i) none none none) d) (sym (at e))
-      (kept-pendings (eqb i) (λ j s. wireChanged s (byMessages d) was level)
-      (touched-withSource d i (λ j s. wireChanged s (byMessages d) was level) (shaped_in e) l (omega arith))
-      (λ j s. unfold wireChanged settled in refl) (λ j s. unfold wireChanged settled in refl)
-      (λ j s. unfold wireChanged settled in refl))
+      (kept-pendings (eqb i) (λ j s. wire_changed s (by_messages d) was level)
+      (touched-with_source d i (λ j s. wire_changed s (by_messages d) was level) (shaped_in e) l (omega arith))
+      (λ j s. unfold wire_changed settled in refl) (λ j s. unfold wire_changed settled in refl)
+      (λ j s. unfold wire_changed settled in refl))
     where
       at : (e : Bool)
-          → domainIn (wireSet w i level) e
-          ≡ withSource (domainIn w e) i
-          (wireChanged (sourceAt (domainIn w e) i) (byMessages (domainIn w e)) (member w.wires i) level)
-      at true = unfold domainIn wireSet sourceWired in refl
-      at false = unfold domainIn wireSet sourceWired in refl
+          → domain_in (wire_set w i level) e
+          ≡ with_source (domain_in w e) i
+          (wire_changed (source_at (domain_in w e) i) (by_messages (domain_in w e)) (member w.wires i) level)
+      at true = unfold domain_in wire_set source_wired in refl
+      at false = unfold domain_in wire_set source_wired in refl
 
-  other-wire : (i j : ℕ) (level : Bool) → j ≢ i → member (wireSet w i level).wires j ≡ member w.wires j
-  unfolding wireSet
+  other-wire : (i j : ℕ) (level : Bool) → j ≢ i → member (wire_set w i level).wires j ≡ member w.wires j
+  unfolding wire_set
   other-wire i j level n = member-put-other w.wires i level j n
 
   -- ---- a register
 
   abbrev Stays : Bool → Word → ℕ → Bool → Wired → Type 0
-  Stays c r v e w' = Spares (writesIn w c r v e) (domainIn w e) (domainIn w' e) × (w'.wires ≡ w.wires)
+  Stays c r v e w' = Spares (writes_in w c r v e) (domain_in w e) (domain_in w' e) × (w'.wires ≡ w.wires)
 
   kept-part : (c : Bool) (r : Word) → Within r → (v : ℕ) (e : Bool)
-      → Spares (writesIn w c r v e) (domainIn w e) (domainIn (partWritten w c r v) e)
-  unfolding writesIn domainIn withDomain
+      → Spares (writes_in w c r v e) (domain_in w e) (domain_in (part_written w c r v) e)
+  unfolding writes_in domain_in with_domain
   kept-part true r q v true = kept-written w.child long.2 true w.wires r q v
   kept-part true r q v false = kept_same _ w.machine
   kept-part false r q v true = kept_same _ w.child
@@ -225,57 +225,57 @@ module _ (w : Wired) (long : Long w) where
 
   module _ (i : ℕ) (l : 1 ≤ i) (h : i ≤ 63) (v : ℕ) where
     modes : Domain → ℕ → ℕ → Source → Source
-    modes d m j s = moded s (byMessages d) m (member w.wires i)
+    modes d m j s = moded s (by_messages d) m (member w.wires i)
 
     kept-source : (c e : Bool)
-        → Spares (writesIn w c (Sourcecfg i) v e) (domainIn w e) (domainIn (sourceWritten w c i v) e)
-    unfolding writesIn writes domainIn sourceWritten childWritten machineWritten sourceModed modes
+        → Spares (writes_in w c (Sourcecfg i) v e) (domain_in w e) (domain_in (source_written w c i v) e)
+    unfolding writes_in writes domain_in source_written child_written machine_written source_moded modes
     kept-source true true = kept-replaced w.child long.2 i l h (modes w.child _)
     kept-source true false = kept_same _ w.machine
     kept-source false true =
-        tested (beq (isDelegated w i) (leb 1024 (source_word false false v)))
+        tested (beq (is_delegated w i) (leb 1024 (source_word false false v)))
         (λ t. rw t (kept_same _ w.child))
         (λ f. rw f (kept-replaced w.child long.2 i l h (λ j s. inactive 0)))
     kept-source false false = kept-replaced w.machine long.1 i l h (modes w.machine _)
 
-    wires-source : (c : Bool) → (sourceWritten w c i v).wires ≡ w.wires
-    unfolding sourceWritten childWritten machineWritten
+    wires-source : (c : Bool) → (source_written w c i v).wires ≡ w.wires
+    unfolding source_written child_written machine_written
     wires-source true = refl
     wires-source false = refl
 
-  kept-writtenIn : (c : Bool) (r : Word) → Within r → (v : ℕ) (e : Bool) → Stays c r v e (writtenIn w c r v)
-  unfolding writtenIn
-  kept-writtenIn c r q v e = at (roleOf r) refl
+  kept-written_in : (c : Bool) (r : Word) → Within r → (v : ℕ) (e : Bool) → Stays c r v e (written_in w c r v)
+  unfolding written_in
+  kept-written_in c r q v e = at (role_of r) refl
     where
-      part : Stays c r v e (partWritten w c r v)
+      part : Stays c r v e (part_written w c r v)
       part = (kept-part c r q v e, wires-with w c _)
 
-      at : (x : Role) → roleOf r ≡ x → Stays c r v e (writtenAs w c r v x)
-      at (Claims h) p = unfold writtenAs in part
+      at : (x : Role) → role_of r ≡ x → Stays c r v e (written_as w c r v x)
+      at (Claims h) p = unfold written_as in part
       at (Configures i) p =
-          unfold writtenAs in
+          unfold written_as in
           let range = configures-range r q i p in (
             subst
-                (λ (x : Word). Spares (writesIn w c x v e) (domainIn w e)
-                (domainIn (sourceWritten w c i v) e))
+                (λ (x : Word). Spares (writes_in w c x v e) (domain_in w e)
+                (domain_in (source_written w c i v) e))
                 (sym (configures-only r i p)) (kept-source i range.0 range.1 v c e),
             wires-source i range.0 range.1 v c,
           )
-      at Generates p = unfold writtenAs in part
-      at Plain p = unfold writtenAs in part
+      at Generates p = unfold written_as in part
+      at Plain p = unfold written_as in part
 
-  kept-claimedIn : (c : Bool) (r : Word) (e : Bool)
-      → Spares (readsIn w c r e) (domainIn w e) (domainIn (claimed_in w c r) e)
-  unfolding readsIn domainIn withDomain
-  kept-claimedIn true r true = kept_read w.child long.2 r
-  kept-claimedIn true r false = kept_same _ w.machine
-  kept-claimedIn false r true = kept_same _ w.child
-  kept-claimedIn false r false = kept_read w.machine long.1 r
+  kept-claimed_in : (c : Bool) (r : Word) (e : Bool)
+      → Spares (reads_in w c r e) (domain_in w e) (domain_in (claimed_in w c r) e)
+  unfolding reads_in domain_in with_domain
+  kept-claimed_in true r true = kept_read w.child long.2 r
+  kept-claimed_in true r false = kept_same _ w.machine
+  kept-claimed_in false r true = kept_same _ w.child
+  kept-claimed_in false r false = kept_read w.machine long.1 r
 
 pub claim-155 : Claim-155
 unfolding Claim-155
 claim-155 w long e = (
   (λ i l h level. (kept-wire w long i l h level e, (λ j n. other-wire w long i j level n))),
-  (λ c r q v. kept-writtenIn w long c r q v e),
-  (λ c r. (kept-claimedIn w long c r e, wires-with w c _)),
+  (λ c r q v. kept-written_in w long c r q v e),
+  (λ c r. (kept-claimed_in w long c r e, wires-with w c _)),
 )

@@ -7,10 +7,10 @@ use native.Mathlib.Omega.{arith}
 use lib.ListN.{length, take, drop, take-append-drop, length-drop}
 use lib.Seq.{drop-drop, take_all}
 use Rattle.words.proofs.SegmentLaws.{segment-long}
-use Rattle.domain.specs.Domain.{Domain, domainOf}
+use Rattle.domain.specs.Domain.{Domain, domain_of}
 use Rattle.domain_region.specs.declared.Word.TheVariants.{Sourcecfg}
 use Rattle.domain_region.proofs.RoleLaws.{configures-only}
-use Rattle.wired_state.specs.Wires.{Wired, wiredOf}
+use Rattle.wired_state.specs.Wires.{Wired, wired_of}
 use Rattle.wired_registers.proofs.WiredLaws.{written-part, written-source}
 use Rattle.files.specs.Files.{words_of}
 use Rattle.files_laws.proofs.BlockBack.{words_back}
@@ -60,7 +60,7 @@ last-stretch l m a n hl hm e =
     ∙ take_all n (drop a m) (rw (length-drop a m) (omega arith))
 
 pub claim-66 : Claim-66
-unfolding Claim-66 domainOf
+unfolding Claim-66 domain_of
 claim-66 l m hl hm e =
     stretch l m 0 64 (ap (λ (d : Domain). d.source) e)
     (stretch l m 64 64 (ap (λ (d : Domain). d.target) e)
@@ -69,9 +69,9 @@ claim-66 l m hl hm e =
     (last-stretch l m 132 12 hl hm (ap (λ (d : Domain). d.delivery) e)))))
 
 pub claim-67 : Claim-67
-unfolding Claim-67 wiredOf
+unfolding Claim-67 wired_of
 claim-67 l m hl hm e =
-    let same : (a : ℕ) → a + 144 ≤ 290 → domainOf (take 144 (drop a l)) ≡ domainOf (take 144 (drop a m))
+    let same : (a : ℕ) → a + 144 ≤ 290 → domain_of (take 144 (drop a l)) ≡ domain_of (take 144 (drop a m))
     → take 144 (drop a l) ≡ take 144 (drop a m) =
     λ a h q. unfold Claim-66 in
     claim-66 (take 144 (drop a l)) (take 144 (drop a m)) (segment-long l a 144 (omega arith))
@@ -86,13 +86,13 @@ claim-68 l b b' i level learnt = learnt
 
 pub claim-69 : Claim-69
 unfolding Claim-69
-claim-69 l b b' c i v learnt = learnt ∙ written-source (wiredOf b.now) c (Sourcecfg i) v i refl
+claim-69 l b b' c i v learnt = learnt ∙ written-source (wired_of b.now) c (Sourcecfg i) v i refl
 
 pub claim-70 : Claim-70
 unfolding Claim-70
 claim-70 l b b' c w v r = (
   (λ learnt. learnt),
-  (λ n learnt. learnt ∙ written-part (wiredOf b.now) c w v (λ i e. n i (configures-only w i e))),
+  (λ n learnt. learnt ∙ written-part (wired_of b.now) c w v (λ i e. n i (configures-only w i e))),
 )
 
 pub claim-71 : Claim-71

@@ -8,16 +8,16 @@
 use Rattle.std.specs.Prelude.{ℕ, ◌≤◌, ◌<◌, ◌≡◌, Bool, true, false, List, [], ◌++◌, ◌⊎◌, ◌≢◌, length, get_or}
 use contract.Lifetimes.{Lfts}
 use Rattle.std.specs.Borrow.{Bor}
-use Rattle.file_message.specs.Message.{fileIn}
+use Rattle.file_message.specs.Message.{file_in}
 use Rattle.domain_region.specs.Region.{Within}
 use Rattle.domain_region.specs.declared.Word.{Word}
 use Rattle.domain_region.specs.declared.Word.TheVariants.{Genmsi}
-use Rattle.wired_state.specs.Wires.{Wired, wiredOf, domainIn, wireSet}
-use Rattle.wired_registers.specs.Wired.{readIn, claimed_in, writtenIn}
-use Rattle.wired_rules.specs.Rules.{wiredSound}
+use Rattle.wired_state.specs.Wires.{Wired, wired_of, domain_in, wire_set}
+use Rattle.wired_registers.specs.Wired.{read_in, claimed_in, written_in}
+use Rattle.wired_rules.specs.Rules.{wired_sound}
 use Rattle.domain_sending.specs.Sending.{sent, logged}
-use Rattle.domain_genmsi.specs.Genmsi.{genmsiSent}
-use Rattle.wired.specs.Controller.{Out, wireCall, readCall, writeCall}
+use Rattle.domain_genmsi.specs.Genmsi.{genmsi_sent}
+use Rattle.wired.specs.Controller.{Out, wire_call, read_call, write_call}
 use Rattle.wired.proofs.set_wire.Reads as set-wire
 use Rattle.wired.proofs.read.Reads as read
 use Rattle.wired.proofs.write.Reads as write
@@ -32,13 +32,13 @@ unfoldable pub Claim-76 : Type 0
 Claim-76 =
     ((l : Lfts 2) (b b' g g' : Bor (List ℕ)) (i n : ℕ) (level : Bool)
     → set-wire.Learnt l (b, (g, (i, (level, tt)))) n (b', (g', (i, (level, tt))))
-    → LeftBy (wireCall (wiredOf b.now) i level) (wiredOf b'.now) g.now g'.now n)
+    → LeftBy (wire_call (wired_of b.now) i level) (wired_of b'.now) g.now g'.now n)
     × ((l : Lfts 1) (b b' : Bor (List ℕ)) (c : Bool) (r : Word) (v : ℕ)
     → read.Learnt l (b, (c, (r, tt))) v (b', (c, (r, tt)))
-    → (v ≡ readIn (wiredOf b.now) c r) × (wiredOf b'.now ≡ (readCall (wiredOf b.now) c r).wired))
+    → (v ≡ read_in (wired_of b.now) c r) × (wired_of b'.now ≡ (read_call (wired_of b.now) c r).wired))
     × ((l : Lfts 2) (b b' g g' : Bor (List ℕ)) (c : Bool) (r : Word) (v n : ℕ)
     → write.Learnt l (b, (g, (c, (r, (v, tt))))) n (b', (g', (c, (r, (v, tt)))))
-    → LeftBy (writeCall (wiredOf b.now) c r v) (wiredOf b'.now) g.now g'.now n)
+    → LeftBy (write_call (wired_of b.now) c r v) (wired_of b'.now) g.now g'.now n)
 
 -- what a controller after a change sends: the machine domain's messages first
 abbrev pub Sends : Wired → Out → Type 0
@@ -62,28 +62,28 @@ unfoldable pub Claim-77 : Type 0
 Claim-77 =
     (w : Wired) → Sound w
     → ((i : ℕ) → 1 ≤ i → i ≤ 63 → (level : Bool)
-    → Sends (wireSet w i level) (wireCall w i level)
-    × OneAtMost (wireSet w i level))
-    × ((c : Bool) (r : Word) → readCall w c r ≡ record { wired = claimed_in w c r; messages = [] })
+    → Sends (wire_set w i level) (wire_call w i level)
+    × OneAtMost (wire_set w i level))
+    × ((c : Bool) (r : Word) → read_call w c r ≡ record { wired = claimed_in w c r; messages = [] })
     × ((c : Bool) (r : Word) → Within r → (v : ℕ) → r ≢ Genmsi
-    → Sends (writtenIn w c r v) (writeCall w c r v) × OneAtMost (writtenIn w c r v))
+    → Sends (written_in w c r v) (write_call w c r v) × OneAtMost (written_in w c r v))
     × ((c : Bool) (v : ℕ)
-    → writeCall w c Genmsi v
-    ≡ record { wired = writtenIn w c Genmsi v; messages = genmsiSent c (domainIn w c) v })
+    → write_call w c Genmsi v
+    ≡ record { wired = written_in w c Genmsi v; messages = genmsi_sent c (domain_in w c) v })
 
 -- 63 log words suffice for every call, and every message names a file that there is
 unfoldable pub Claim-78 : Type 0
 Claim-78 =
     (w : Wired) → Sound w
-    → ((i : ℕ) → 1 ≤ i → i ≤ 63 → (level : Bool) → let ms = (wireCall w i level).messages in
-    (length ms ≤ 63) × ((k : ℕ) → k < length ms → fileIn (get_or ms k 0) < 5))
-    × ((c : Bool) (r : Word) → Within r → (v : ℕ) → let ms = (writeCall w c r v).messages in
-    (length ms ≤ 63) × ((k : ℕ) → k < length ms → fileIn (get_or ms k 0) < 5))
+    → ((i : ℕ) → 1 ≤ i → i ≤ 63 → (level : Bool) → let ms = (wire_call w i level).messages in
+    (length ms ≤ 63) × ((k : ℕ) → k < length ms → file_in (get_or ms k 0) < 5))
+    × ((c : Bool) (r : Word) → Within r → (v : ℕ) → let ms = (write_call w c r v).messages in
+    (length ms ≤ 63) × ((k : ℕ) → k < length ms → file_in (get_or ms k 0) < 5))
 
 -- the state rules hold after every call
 unfoldable pub Claim-79 : Type 0
 Claim-79 =
     (w : Wired) → Sound w
-    → ((i : ℕ) → 1 ≤ i → i ≤ 63 → (level : Bool) → wiredSound (wireCall w i level).wired ≡ true)
-    × ((c : Bool) (r : Word) → wiredSound (readCall w c r).wired ≡ true)
-    × ((c : Bool) (r : Word) → Within r → (v : ℕ) → wiredSound (writeCall w c r v).wired ≡ true)
+    → ((i : ℕ) → 1 ≤ i → i ≤ 63 → (level : Bool) → wired_sound (wire_call w i level).wired ≡ true)
+    × ((c : Bool) (r : Word) → wired_sound (read_call w c r).wired ≡ true)
+    × ((c : Bool) (r : Word) → Within r → (v : ℕ) → wired_sound (write_call w c r v).wired ≡ true)

@@ -6,10 +6,10 @@
 --   sources p e t m      pending bits of p, enable bits of e, targets of t, sourcecfg words of m
 --   harts d f t          idelivery of the harts of d, iforce of f, ithreshold of t
 --   in_word k v i         v, written to word k of a family, has the bit of source i
---   whileDirect d h      hart h, if the domain d is in direct mode
+--   while_direct d h      hart h, if the domain d is in direct mode
 --   writes d r v         a write of v to register r of d: what it may change in d
 --   reads d r            a read of register r of d: what it may change in d
---   writesIn w c r v e, readsIn w c r e
+--   writes_in w c r v e, reads_in w c r e
 --                        the same for register r of a domain, and what it may change in either domain e
 --   Spares t d d'        d' has all of d that t does not name
 -- c and e say that a domain is the child; what becomes of a pending bit that is named, Claim-59 says, and
@@ -18,7 +18,7 @@
 -- that is written, that it is there: the wire is 1 to 63, and `Within r`. No axioms.
 use Rattle.std.specs.Prelude.{ℕ, ◌/◌, ◌%◌, ◌≤◌, ◌<◌, ◌≡◌, Bool, true, false, cond, not, ◌&&◌, ◌≢◌, eqb}
 use Rattle.std.specs.Bool.{beq}
-use Rattle.words.specs.Bits.{hasBit}
+use Rattle.words.specs.Bits.{has_bit}
 use Rattle.words.specs.Parts.{reversed}
 use Rattle.words.specs.Sets.{member}
 use Rattle.domain_region.specs.Region.{Within}
@@ -27,12 +27,12 @@ use Rattle.domain_region.specs.declared.Word.TheVariants.{Domaincfg, Sourcecfg, 
 use Rattle.domain_region.specs.declared.Word.TheVariants.{Clripnum, Setie, Setienum, Clrie, Clrienum}
 use Rattle.domain_region.specs.declared.Word.TheVariants.{SetipnumLe, SetipnumBe, Genmsi, Target, Idelivery}
 use Rattle.domain_region.specs.declared.Word.TheVariants.{Iforce, Ithreshold, Topi, Claimi, Unused}
-use Rattle.domain.specs.Domain.{Domain, domaincfgOf, byMessages, genmsiOf}
-use Rattle.domain.specs.Slot.{sourceAt}
-use Rattle.domain.specs.Structure.{structureAt}
-use Rattle.domain_direct.specs.Direct.{topSource}
-use Rattle.wired_state.specs.Wires.{Wired, domainIn, wireSet}
-use Rattle.wired_registers.specs.Wired.{claimed_in, writtenIn}
+use Rattle.domain.specs.Domain.{Domain, domaincfg_of, by_messages, genmsi_of}
+use Rattle.domain.specs.Slot.{source_at}
+use Rattle.domain.specs.Structure.{structure_at}
+use Rattle.domain_direct.specs.Direct.{top_source}
+use Rattle.wired_state.specs.Wires.{Wired, domain_in, wire_set}
+use Rattle.wired_registers.specs.Wired.{claimed_in, written_in}
 use Rattle.claims_registers.specs.Rules.{Long}
 
 pub record Touch : Type 0 where
@@ -111,14 +111,14 @@ generates there =
     }
 
 abbrev pub in_word : ℕ → ℕ → ℕ → Bool
-in_word k v i = eqb (i / 32) k && hasBit v (i % 32)
+in_word k v i = eqb (i / 32) k && has_bit v (i % 32)
 
-abbrev pub whileDirect : Domain → ℕ → ℕ → Bool
-whileDirect d h g = not (byMessages d) && eqb h g
+abbrev pub while_direct : Domain → ℕ → ℕ → Bool
+while_direct d h g = not (by_messages d) && eqb h g
 
 -- the four columns of sources: pending bits, enable bits, targets, sourcecfg words
 unfoldable pub writes : Domain → Word → ℕ → Touch
-writes d Domaincfg v = configures (not (beq (byMessages d) (hasBit v 2)))
+writes d Domaincfg v = configures (not (beq (by_messages d) (has_bit v 2)))
 writes d (Sourcecfg i) v = sources (eqb i) (eqb i) (eqb i) (eqb i)
 writes d (Setip k) v = sources (in_word k v) none none none
 writes d Setipnum v = sources (eqb v) none none none
@@ -130,11 +130,11 @@ writes d (Clrie k) v = sources none (in_word k v) none none
 writes d Clrienum v = sources none (eqb v) none none
 writes d SetipnumLe v = sources (eqb v) none none none
 writes d SetipnumBe v = sources (eqb (reversed v)) none none none
-writes d Genmsi v = generates (byMessages d)
+writes d Genmsi v = generates (by_messages d)
 writes d (Target i) v = sources none none (eqb i) none
-writes d (Idelivery h) v = harts (whileDirect d h) none none
-writes d (Iforce h) v = harts none (whileDirect d h) none
-writes d (Ithreshold h) v = harts none none (whileDirect d h)
+writes d (Idelivery h) v = harts (while_direct d h) none none
+writes d (Iforce h) v = harts none (while_direct d h) none
+writes d (Ithreshold h) v = harts none none (while_direct d h)
 writes d (Topi h) v = nothing
 writes d (Claimi h) v = nothing
 writes d Unused v = nothing
@@ -142,8 +142,8 @@ writes d Unused v = nothing
 -- a claimi in direct mode: the pending bit of the source that topi names, or iforce if it names none
 abbrev pub claims : Domain → ℕ → Touch
 claims d h =
-    cond (eqb (topSource d h) 0) (harts none (whileDirect d h) none)
-    (sources (λ i. not (byMessages d) && eqb (topSource d h) i) none none none)
+    cond (eqb (top_source d h) 0) (harts none (while_direct d h) none)
+    (sources (λ i. not (by_messages d) && eqb (top_source d h) i) none none none)
 
 unfoldable pub reads : Domain → Word → Touch
 reads d Domaincfg = nothing
@@ -168,39 +168,39 @@ reads d (Claimi h) = claims d h
 reads d Unused = nothing
 
 -- the other domain: the machine domain's sourcecfg of a source may change all of the child's source
-unfoldable pub writesIn : Wired → Bool → Word → ℕ → Bool → Touch
-writesIn w c r v e =
-    let t = writes (domainIn w c) r v in
+unfoldable pub writes_in : Wired → Bool → Word → ℕ → Bool → Touch
+writes_in w c r v e =
+    let t = writes (domain_in w c) r v in
     cond (beq c e) t (cond e (sources t.mode t.mode t.mode t.mode) nothing)
 
-unfoldable pub readsIn : Wired → Bool → Word → Bool → Touch
-readsIn w c r e = cond (beq c e) (reads (domainIn w c) r) nothing
+unfoldable pub reads_in : Wired → Bool → Word → Bool → Touch
+reads_in w c r e = cond (beq c e) (reads (domain_in w c) r) nothing
 
 pub record Spares (t : Touch) (d d' : Domain) : Type 0 where
   pub pending : (i : ℕ) → 1 ≤ i → i ≤ 63 → t.pending i ≡ false
-      → (sourceAt d' i).pending ≡ (sourceAt d i).pending
+      → (source_at d' i).pending ≡ (source_at d i).pending
   pub enabled : (i : ℕ) → 1 ≤ i → i ≤ 63 → t.enabled i ≡ false
-      → (sourceAt d' i).enabled ≡ (sourceAt d i).enabled
-  pub target : (i : ℕ) → 1 ≤ i → i ≤ 63 → t.target i ≡ false → (sourceAt d' i).target ≡ (sourceAt d i).target
-  pub mode : (i : ℕ) → 1 ≤ i → i ≤ 63 → t.mode i ≡ false → (sourceAt d' i).mode ≡ (sourceAt d i).mode
-  pub domaincfg : t.domaincfg ≡ false → domaincfgOf d' ≡ domaincfgOf d
-  pub genmsi : t.genmsi ≡ false → genmsiOf d' ≡ genmsiOf d
+      → (source_at d' i).enabled ≡ (source_at d i).enabled
+  pub target : (i : ℕ) → 1 ≤ i → i ≤ 63 → t.target i ≡ false → (source_at d' i).target ≡ (source_at d i).target
+  pub mode : (i : ℕ) → 1 ≤ i → i ≤ 63 → t.mode i ≡ false → (source_at d' i).mode ≡ (source_at d i).mode
+  pub domaincfg : t.domaincfg ≡ false → domaincfg_of d' ≡ domaincfg_of d
+  pub genmsi : t.genmsi ≡ false → genmsi_of d' ≡ genmsi_of d
   pub idelivery : (h : ℕ) → h < 4 → t.idelivery h ≡ false
-      → (structureAt d' h).idelivery ≡ (structureAt d h).idelivery
-  pub iforce : (h : ℕ) → h < 4 → t.iforce h ≡ false → (structureAt d' h).iforce ≡ (structureAt d h).iforce
+      → (structure_at d' h).idelivery ≡ (structure_at d h).idelivery
+  pub iforce : (h : ℕ) → h < 4 → t.iforce h ≡ false → (structure_at d' h).iforce ≡ (structure_at d h).iforce
   pub ithreshold : (h : ℕ) → h < 4 → t.ithreshold h ≡ false
-      → (structureAt d' h).ithreshold ≡ (structureAt d h).ithreshold
+      → (structure_at d' h).ithreshold ≡ (structure_at d h).ithreshold
 
 -- each operation, before anything is sent: a wire changes no other wire, and of each domain the pending bit
 -- of its own source alone; a write and a read change no wire, and of each domain what the tables say
 unfoldable pub Claim-155 : Type 0
 Claim-155 =
-    (w : Wired) → Long w → (e : Bool) → let d = domainIn w e in
+    (w : Wired) → Long w → (e : Bool) → let d = domain_in w e in
     ((i : ℕ) → 1 ≤ i → i ≤ 63 → (level : Bool)
-    → Spares (sources (eqb i) none none none) d (domainIn (wireSet w i level) e)
-    × ((j : ℕ) → j ≢ i → member (wireSet w i level).wires j ≡ member w.wires j))
+    → Spares (sources (eqb i) none none none) d (domain_in (wire_set w i level) e)
+    × ((j : ℕ) → j ≢ i → member (wire_set w i level).wires j ≡ member w.wires j))
     × ((c : Bool) (r : Word) → Within r → (v : ℕ)
-    → Spares (writesIn w c r v e) d (domainIn (writtenIn w c r v) e)
-    × ((writtenIn w c r v).wires ≡ w.wires))
+    → Spares (writes_in w c r v e) d (domain_in (written_in w c r v) e)
+    × ((written_in w c r v).wires ≡ w.wires))
     × ((c : Bool) (r : Word)
-    → Spares (readsIn w c r e) d (domainIn (claimed_in w c r) e) × ((claimed_in w c r).wires ≡ w.wires))
+    → Spares (reads_in w c r e) d (domain_in (claimed_in w c r) e) × ((claimed_in w c r).wires ≡ w.wires))

@@ -1,15 +1,15 @@
 -- One source of a domain, and the domain with that source replaced. 01, "The wired controller". Assumes
 -- nothing.
---   sourceAt d i        source i: its sourcecfg and target words, its pending and enable bits
---   withSource d i s    d with source i as s
+--   source_at d i        source i: its sourcecfg and target words, its pending and enable bits
+--   with_source d i s    d with source i as s
 --   standing d i        source i is pending and enabled
 use Rattle.std.specs.Prelude.{ℕ, Bool, ◌&&◌, get_or, set}
 use Rattle.words.specs.Sets.{member, put}
 use Rattle.source.specs.declared.Source.{Source}
 use Rattle.domain.specs.Domain.{Domain}
 
-unfoldable pub sourceAt : Domain → ℕ → Source
-sourceAt d i =
+unfoldable pub source_at : Domain → ℕ → Source
+source_at d i =
     record {
       mode = get_or d.source i 0;
       target = get_or d.target i 0;
@@ -17,8 +17,8 @@ sourceAt d i =
       enabled = member d.enable i;
     }
 
-unfoldable pub withSource : Domain → ℕ → Source → Domain
-withSource d i s =
+unfoldable pub with_source : Domain → ℕ → Source → Domain
+with_source d i s =
     record {
       source = set d.source i s.mode;
       target = set d.target i s.target;
@@ -28,4 +28,4 @@ withSource d i s =
     }
 
 unfoldable pub standing : Domain → ℕ → Bool
-standing d i = (sourceAt d i).pending && (sourceAt d i).enabled
+standing d i = (source_at d i).pending && (source_at d i).enabled

@@ -1,9 +1,9 @@
 // A domain's own words: domaincfg, genmsi, and the pending and enable words.
 ghost use Rattle.std.specs.Prelude.{◌≡◌, ℕ, ◌<◌, length, get_or};
-ghost use Rattle.sizes.specs.Sizes.{sourceSetSize, slotCount, domainSize};
-ghost use Rattle.words.specs.Bits.{hasBit};
-ghost use Rattle.domain.specs.Domain.{domainOf, domaincfgOf, genmsiOf, isEnabled, byMessages};
-ghost use Rattle.domain.specs.Domain.{withDomaincfg, withGenmsi};
+ghost use Rattle.sizes.specs.Sizes.{source_set_size, slot_count, domain_size};
+ghost use Rattle.words.specs.Bits.{has_bit};
+ghost use Rattle.domain.specs.Domain.{domain_of, domaincfg_of, genmsi_of, is_enabled, by_messages};
+ghost use Rattle.domain.specs.Domain.{with_domaincfg, with_genmsi};
 ghost use Rattle.domain.specs.Slot.{standing};
 
 use super::{DM_BIT, IE_BIT};
@@ -11,67 +11,67 @@ use sizes::{ENABLES_PLACE, PENDINGS_PLACE, TARGETS_PLACE};
 use words::joined64;
 
 pub fn domaincfg(part: &[u32]) -> u32
-    requires { length part.now ≡ domainSize }
-    ensures { result ≡ domaincfgOf (domainOf part.now) }
+    requires { length part.now ≡ domain_size }
+    ensures { result ≡ domaincfg_of (domain_of part.now) }
 {
     part[0]
 }
 
 // IE: the domain signals and sends.
 pub fn enabled(part: &[u32]) -> bool
-    requires { length part.now ≡ domainSize }
-    ensures { result ≡ isEnabled (domainOf part.now) }
+    requires { length part.now ≡ domain_size }
+    ensures { result ≡ is_enabled (domain_of part.now) }
 {
     words::has_bit(part[0], IE_BIT)
 }
 
 // DM: false is direct delivery, true by messages.
 pub fn by_messages(part: &[u32]) -> bool
-    requires { length part.now ≡ domainSize }
-    ensures { result ≡ byMessages (domainOf part.now) }
+    requires { length part.now ≡ domain_size }
+    ensures { result ≡ by_messages (domain_of part.now) }
 {
     words::has_bit(part[0], DM_BIT)
 }
 
 pub fn genmsi(part: &[u32]) -> u32
-    requires { length part.now ≡ domainSize }
-    ensures { result ≡ genmsiOf (domainOf part.now) }
+    requires { length part.now ≡ domain_size }
+    ensures { result ≡ genmsi_of (domain_of part.now) }
 {
     part[TARGETS_PLACE]
 }
 
 pub fn put_domaincfg(part: &mut [u32], value: u32)
-    requires { length part.old ≡ domainSize }
-    ensures { domainOf part.new ≡ withDomaincfg (domainOf part.old) value }
+    requires { length part.old ≡ domain_size }
+    ensures { domain_of part.new ≡ with_domaincfg (domain_of part.old) value }
 {
     part[0] = value;
 }
 
 pub fn put_genmsi(part: &mut [u32], value: u32)
-    requires { length part.old ≡ domainSize }
-    ensures { domainOf part.new ≡ withGenmsi (domainOf part.old) value }
+    requires { length part.old ≡ domain_size }
+    ensures { domain_of part.new ≡ with_genmsi (domain_of part.old) value }
 {
     part[TARGETS_PLACE] = value;
 }
 
 pub fn pending_word(part: &[u32], k: usize) -> u32
-    requires { (length part.now ≡ domainSize) × (k < sourceSetSize) }
-    ensures { result ≡ get_or (domainOf part.now).pending k 0 }
+    requires { (length part.now ≡ domain_size) × (k < source_set_size) }
+    ensures { result ≡ get_or (domain_of part.now).pending k 0 }
 {
     part[PENDINGS_PLACE + k]
 }
 
 pub fn enable_word(part: &[u32], k: usize) -> u32
-    requires { (length part.now ≡ domainSize) × (k < sourceSetSize) }
-    ensures { result ≡ get_or (domainOf part.now).enable k 0 }
+    requires { (length part.now ≡ domain_size) × (k < source_set_size) }
+    ensures { result ≡ get_or (domain_of part.now).enable k 0 }
 {
     part[ENABLES_PLACE + k]
 }
 
 // The sources that are pending and enabled, as bits. Usually there are none.
 pub fn standing(part: &[u32]) -> u64
-    requires { length part.now ≡ domainSize }
-    ensures { (i : ℕ) → i < slotCount → hasBit result i ≡ standing (domainOf part.now) i }
+    requires { length part.now ≡ domain_size }
+    ensures { (i : ℕ) → i < slot_count → has_bit result i ≡ standing (domain_of part.now) i }
 {
     let pending = joined64(pending_word(part, 0), pending_word(part, 1));
     let enable = joined64(enable_word(part, 0), enable_word(part, 1));

@@ -1,16 +1,16 @@
 // A source's slot: its mode and target words, its pending and enable bits.
 ghost use Rattle.std.specs.Prelude.{◌≡◌, ◌<◌, length, set};
-ghost use Rattle.sizes.specs.Sizes.{slotCount, domainSize};
+ghost use Rattle.sizes.specs.Sizes.{slot_count, domain_size};
 ghost use Rattle.words.specs.Sets.{put};
-ghost use Rattle.domain.specs.Domain.{domainOf, withTargets, withPendings, withEnables};
-ghost use Rattle.domain.specs.Slot.{sourceAt, withSource};
+ghost use Rattle.domain.specs.Domain.{domain_of, with_targets, with_pendings, with_enables};
+ghost use Rattle.domain.specs.Slot.{source_at, with_source};
 
 use sizes::{ENABLES_PLACE, PENDINGS_PLACE, TARGETS_PLACE};
 use source::Source;
 
 pub fn load(part: &[u32], i: usize) -> Source
-    requires { (length part.now ≡ domainSize) × (i < slotCount) }
-    ensures { result ≡ sourceAt (domainOf part.now) i }
+    requires { (length part.now ≡ domain_size) × (i < slot_count) }
+    ensures { result ≡ source_at (domain_of part.now) i }
 {
     let k = (i % 32) as u32;
     let pending = words::has_bit(part[PENDINGS_PLACE + i / 32], k);
@@ -25,18 +25,18 @@ pub fn load(part: &[u32], i: usize) -> Source
 
 // The target of source `i` alone.
 pub fn put_target(part: &mut [u32], i: usize, target: u32)
-    requires { (length part.old ≡ domainSize) × (i < slotCount) }
-    ensures { domainOf part.new ≡ withTargets (domainOf part.old)
-        (set (domainOf part.old).target i target) }
+    requires { (length part.old ≡ domain_size) × (i < slot_count) }
+    ensures { domain_of part.new ≡ with_targets (domain_of part.old)
+        (set (domain_of part.old).target i target) }
 {
     part[TARGETS_PLACE + i] = target;
 }
 
 // Its pending bit alone.
 pub fn put_pending(part: &mut [u32], i: usize, pending: bool)
-    requires { (length part.old ≡ domainSize) × (i < slotCount) }
-    ensures { domainOf part.new ≡ withPendings (domainOf part.old)
-        (put (domainOf part.old).pending i pending) }
+    requires { (length part.old ≡ domain_size) × (i < slot_count) }
+    ensures { domain_of part.new ≡ with_pendings (domain_of part.old)
+        (put (domain_of part.old).pending i pending) }
 {
     let word = words::put_bit(part[PENDINGS_PLACE + i / 32], (i % 32) as u32, pending);
     part[PENDINGS_PLACE + i / 32] = word;
@@ -44,9 +44,9 @@ pub fn put_pending(part: &mut [u32], i: usize, pending: bool)
 
 // Its enable bit alone.
 pub fn put_enabled(part: &mut [u32], i: usize, enabled: bool)
-    requires { (length part.old ≡ domainSize) × (i < slotCount) }
-    ensures { domainOf part.new ≡ withEnables (domainOf part.old)
-        (put (domainOf part.old).enable i enabled) }
+    requires { (length part.old ≡ domain_size) × (i < slot_count) }
+    ensures { domain_of part.new ≡ with_enables (domain_of part.old)
+        (put (domain_of part.old).enable i enabled) }
 {
     let word = words::put_bit(part[ENABLES_PLACE + i / 32], (i % 32) as u32, enabled);
     part[ENABLES_PLACE + i / 32] = word;
@@ -54,8 +54,8 @@ pub fn put_enabled(part: &mut [u32], i: usize, enabled: bool)
 
 // Both words are read before the first is stored: part by part is seven instructions dearer.
 pub fn store(part: &mut [u32], i: usize, s: Source)
-    requires { (length part.old ≡ domainSize) × (i < slotCount) }
-    ensures { domainOf part.new ≡ withSource (domainOf part.old) i s }
+    requires { (length part.old ≡ domain_size) × (i < slot_count) }
+    ensures { domain_of part.new ≡ with_source (domain_of part.old) i s }
 {
     let k = (i % 32) as u32;
     let pending = words::put_bit(part[PENDINGS_PLACE + i / 32], k, s.pending);

@@ -1,15 +1,15 @@
 // A hart's delivery structure: three words.
 ghost use Rattle.std.specs.Prelude.{◌≡◌, ◌<◌, length};
-ghost use Rattle.sizes.specs.Sizes.{hartCount, domainSize};
-ghost use Rattle.domain.specs.Domain.{domainOf};
-ghost use Rattle.domain.specs.Structure.{structureAt, withStructure};
+ghost use Rattle.sizes.specs.Sizes.{hart_count, domain_size};
+ghost use Rattle.domain.specs.Domain.{domain_of};
+ghost use Rattle.domain.specs.Structure.{structure_at, with_structure};
 
 use domain_delivery::Delivery;
 use sizes::{STRUCTURE_SIZE, STRUCTURES_PLACE};
 
 pub fn load_structure(part: &[u32], h: usize) -> Delivery
-    requires { (length part.now ≡ domainSize) × (h < hartCount) }
-    ensures { result ≡ structureAt (domainOf part.now) h }
+    requires { (length part.now ≡ domain_size) × (h < hart_count) }
+    ensures { result ≡ structure_at (domain_of part.now) h }
 {
     let at = STRUCTURE_SIZE * h;
     Delivery {
@@ -20,8 +20,8 @@ pub fn load_structure(part: &[u32], h: usize) -> Delivery
 }
 
 pub fn store_structure(part: &mut [u32], h: usize, x: Delivery)
-    requires { (length part.old ≡ domainSize) × (h < hartCount) }
-    ensures { domainOf part.new ≡ withStructure (domainOf part.old) h x }
+    requires { (length part.old ≡ domain_size) × (h < hart_count) }
+    ensures { domain_of part.new ≡ with_structure (domain_of part.old) h x }
 {
     let at = STRUCTURE_SIZE * h;
     part[STRUCTURES_PLACE + at] = x.idelivery;

@@ -10,52 +10,52 @@ use borrow.Author.Tests.{lt-ltb, le-leb, lt-leb, eq-eqb, ne_eqb}
 use Rattle.words.proofs.TestsLaws.{tested, and_first, and_second, and_both, or_cases}
 use Rattle.words.proofs.ThresholdLaws.{passes-itself}
 use Rattle.domain_delivery.specs.declared.Delivery.{Delivery}
-use Rattle.domain_delivery.specs.Delivery.{switchOf, withIdelivery, withIforce, withIthreshold}
-use Rattle.domain_delivery.specs.Delivery.{withoutForce}
-use Rattle.domain_delivery.specs.Delivery.{deliverySound, lets, structureSignals}
+use Rattle.domain_delivery.specs.Delivery.{switch_of, with_idelivery, with_iforce, with_ithreshold}
+use Rattle.domain_delivery.specs.Delivery.{without_force}
+use Rattle.domain_delivery.specs.Delivery.{delivery_sound, lets, structure_signals}
 
 -- ---- writes
 
-pub switch-new : (old v : ℕ) → v < 2 → switchOf old v ≡ v
-unfolding switchOf
+pub switch-new : (old v : ℕ) → v < 2 → switch_of old v ≡ v
+unfolding switch_of
 switch-new old v h = simp (le-leb v 1 (omega arith))
 
-pub switch_kept : (old v : ℕ) → 2 ≤ v → switchOf old v ≡ old
-unfolding switchOf
+pub switch_kept : (old v : ℕ) → 2 ≤ v → switch_of old v ≡ old
+unfolding switch_of
 switch_kept old v h = simp (lt-leb v 1 h)
 
-pub switch-le : (old v : ℕ) → old ≤ 1 → switchOf old v ≤ 1
-unfolding switchOf
+pub switch-le : (old v : ℕ) → old ≤ 1 → switch_of old v ≤ 1
+unfolding switch_of
 switch-le old v h = tested (leb v 1) (λ t. simp t (leb-true v 1 t)) (λ f. simp f h)
 
 -- the three numbers after each
 module _ (d : Delivery) where
-  pub idelivery-written : (v : ℕ) → withIdelivery d v
-      ≡ record { idelivery = switchOf d.idelivery v; iforce = d.iforce; ithreshold = d.ithreshold }
-  unfolding withIdelivery
+  pub idelivery-written : (v : ℕ) → with_idelivery d v
+      ≡ record { idelivery = switch_of d.idelivery v; iforce = d.iforce; ithreshold = d.ithreshold }
+  unfolding with_idelivery
   idelivery-written v = refl
 
-  pub iforce-written : (v : ℕ) → withIforce d v
-      ≡ record { idelivery = d.idelivery; iforce = switchOf d.iforce v; ithreshold = d.ithreshold }
-  unfolding withIforce
+  pub iforce-written : (v : ℕ) → with_iforce d v
+      ≡ record { idelivery = d.idelivery; iforce = switch_of d.iforce v; ithreshold = d.ithreshold }
+  unfolding with_iforce
   iforce-written v = refl
 
-  pub ithreshold-written : (v : ℕ) → withIthreshold d v
+  pub ithreshold-written : (v : ℕ) → with_ithreshold d v
       ≡ record { idelivery = d.idelivery; iforce = d.iforce; ithreshold = v % 256 }
-  unfolding withIthreshold
+  unfolding with_ithreshold
   ithreshold-written v = refl
 
-  pub force-cleared : withoutForce d
+  pub force-cleared : without_force d
       ≡ record { idelivery = d.idelivery; iforce = 0; ithreshold = d.ithreshold }
-  unfolding withoutForce
+  unfolding without_force
   force-cleared = refl
 
 -- ---- soundness
 
 module _ (d : Delivery) where
-  pub sound-iff : deliverySound d ≡ true
+  pub sound-iff : delivery_sound d ≡ true
       ↔ ((d.idelivery ≤ 1) × (d.iforce ≤ 1) × (d.ithreshold < 256))
-  unfolding deliverySound
+  unfolding delivery_sound
   sound-iff =
       let first = leb d.idelivery 1 in
       let second = leb d.iforce 1 in (
@@ -67,43 +67,43 @@ module _ (d : Delivery) where
         λ p. and_both _ _ (and_both _ _ (le-leb _ 1 p.0) (le-leb _ 1 p.1)) (lt-ltb _ 256 p.2),
       )
 
-  pub unsound-idelivery : 1 < d.idelivery → deliverySound d ≡ false
-  unfolding deliverySound
+  pub unsound-idelivery : 1 < d.idelivery → delivery_sound d ≡ false
+  unfolding delivery_sound
   unsound-idelivery h = simp (lt-leb d.idelivery 1 h)
 
-  pub unsound-iforce : 1 < d.iforce → deliverySound d ≡ false
-  unfolding deliverySound
+  pub unsound-iforce : 1 < d.iforce → delivery_sound d ≡ false
+  unfolding delivery_sound
   unsound-iforce h = simp (lt-leb d.iforce 1 h, and-false)
 
-  pub sound-rest : d.idelivery ≤ 1 → d.iforce ≤ 1 → deliverySound d ≡ ltb d.ithreshold 256
-  unfolding deliverySound
+  pub sound-rest : d.idelivery ≤ 1 → d.iforce ≤ 1 → delivery_sound d ≡ ltb d.ithreshold 256
+  unfolding delivery_sound
   sound-rest a b = simp (le-leb d.idelivery 1 a, le-leb d.iforce 1 b)
 
 -- each write keeps it
-module _ (d : Delivery) (sound : deliverySound d ≡ true) where
-  pub idelivery-keeps : (v : ℕ) → deliverySound (withIdelivery d v) ≡ true
-  unfolding withIdelivery
+module _ (d : Delivery) (sound : delivery_sound d ≡ true) where
+  pub idelivery-keeps : (v : ℕ) → delivery_sound (with_idelivery d v) ≡ true
+  unfolding with_idelivery
   idelivery-keeps v =
       let p = (sound-iff d).0 sound in
-      (sound-iff (withIdelivery d v)).1 (switch-le d.idelivery v p.0, p.1, p.2)
+      (sound-iff (with_idelivery d v)).1 (switch-le d.idelivery v p.0, p.1, p.2)
 
-  pub iforce-keeps : (v : ℕ) → deliverySound (withIforce d v) ≡ true
-  unfolding withIforce
+  pub iforce-keeps : (v : ℕ) → delivery_sound (with_iforce d v) ≡ true
+  unfolding with_iforce
   iforce-keeps v =
       let p = (sound-iff d).0 sound in
-      (sound-iff (withIforce d v)).1 (p.0, switch-le d.iforce v p.1, p.2)
+      (sound-iff (with_iforce d v)).1 (p.0, switch-le d.iforce v p.1, p.2)
 
-  pub ithreshold-keeps : (v : ℕ) → deliverySound (withIthreshold d v) ≡ true
-  unfolding withIthreshold
+  pub ithreshold-keeps : (v : ℕ) → delivery_sound (with_ithreshold d v) ≡ true
+  unfolding with_ithreshold
   ithreshold-keeps v =
       let p = (sound-iff d).0 sound in
-      (sound-iff (withIthreshold d v)).1 (p.0, p.1, omega arith)
+      (sound-iff (with_ithreshold d v)).1 (p.0, p.1, omega arith)
 
-  pub force-keeps : deliverySound (withoutForce d) ≡ true
-  unfolding withoutForce
+  pub force-keeps : delivery_sound (without_force d) ≡ true
+  unfolding without_force
   force-keeps =
       let p = (sound-iff d).0 sound in
-      (sound-iff (withoutForce d)).1 (p.0, omega arith, p.2)
+      (sound-iff (without_force d)).1 (p.0, omega arith, p.2)
 
 -- ---- the threshold
 
@@ -115,9 +115,9 @@ lets-threshold d n = passes-itself d.ithreshold n
 -- ---- the signal
 
 module _ (d : Delivery) (e : Bool) (t : ℕ) where
-  pub signals-iff : structureSignals d e t ≡ true
+  pub signals-iff : structure_signals d e t ≡ true
       ↔ ((e ≡ true) × (d.idelivery ≡ 1) × ((d.iforce ≢ 0) ⊎ (t ≢ 0)))
-  unfolding structureSignals
+  unfolding structure_signals
   signals-iff =
       let on = eqb d.idelivery 1 in
       let forced = not (eqb d.iforce 0) in (
@@ -132,17 +132,17 @@ module _ (d : Delivery) (e : Bool) (t : ℕ) where
             (⊎_elim (λ n. simp (ne_eqb d.iforce 0 n)) (λ n. simp (ne_eqb t 0 n, or-true)) p.2),
       )
 
-  pub signals-disabled : e ≡ false → structureSignals d e t ≡ false
-  unfolding structureSignals
+  pub signals-disabled : e ≡ false → structure_signals d e t ≡ false
+  unfolding structure_signals
   signals-disabled z = simp z
 
-  pub signals-off : d.idelivery ≢ 1 → structureSignals d e t ≡ false
-  unfolding structureSignals
+  pub signals-off : d.idelivery ≢ 1 → structure_signals d e t ≡ false
+  unfolding structure_signals
   signals-off n = simp (ne_eqb d.idelivery 1 n, and-false)
 
-  pub signals-forced : e ≡ true → d.idelivery ≡ 1 → d.iforce ≢ 0 → structureSignals d e t ≡ true
+  pub signals-forced : e ≡ true → d.idelivery ≡ 1 → d.iforce ≢ 0 → structure_signals d e t ≡ true
   signals-forced z on n = signals-iff.1 (z, on, inl n)
 
-  pub signals-top : e ≡ true → d.idelivery ≡ 1 → d.iforce ≡ 0 → structureSignals d e t ≡ not (eqb t 0)
-  unfolding structureSignals
+  pub signals-top : e ≡ true → d.idelivery ≡ 1 → d.iforce ≡ 0 → structure_signals d e t ≡ not (eqb t 0)
+  unfolding structure_signals
   signals-top z on n = simp (z, eq-eqb d.idelivery 1 on, eq-eqb d.iforce 0 n)

@@ -1,16 +1,16 @@
 // What a claim answers and does, and the signal to a hart.
 ghost use Rattle.std.specs.Prelude.{◌≡◌, ◌<◌, length};
-ghost use Rattle.sizes.specs.Sizes.{hartCount, slotCount, domainSize};
-ghost use Rattle.domain.specs.Domain.{domainOf};
-ghost use Rattle.domain_direct.specs.Direct.{topiOf, unforced, released, hartClaimed, signalOf};
+ghost use Rattle.sizes.specs.Sizes.{hart_count, slot_count, domain_size};
+ghost use Rattle.domain.specs.Domain.{domain_of};
+ghost use Rattle.domain_direct.specs.Direct.{topi_of, unforced, released, hart_claimed, signal_of};
 
 use domain::{by_messages, enabled, load, load_structure, store, store_structure};
 use domain_topi::{top_source, topi, topi_word};
 
 // A claim with no top clears iforce.
 fn unforce(part: &mut [u32], h: usize)
-    requires { (length part.old ≡ domainSize) × (h < hartCount) }
-    ensures { domainOf part.new ≡ unforced (domainOf part.old) h }
+    requires { (length part.old ≡ domain_size) × (h < hart_count) }
+    ensures { domain_of part.new ≡ unforced (domain_of part.old) h }
 {
     let x = load_structure(part, h);
     store_structure(part, h, x.without_force());
@@ -18,17 +18,17 @@ fn unforce(part: &mut [u32], h: usize)
 
 // A claim of source `i` clears its pending bit, unless a level source keeps it.
 fn release(part: &mut [u32], i: usize)
-    requires { (length part.old ≡ domainSize) × (i < slotCount) }
-    ensures { domainOf part.new ≡ released (domainOf part.old) i }
+    requires { (length part.old ≡ domain_size) × (i < slot_count) }
+    ensures { domain_of part.new ≡ released (domain_of part.old) i }
 {
     let s = load(part, i);
     store(part, i, s.cleared(false));
 }
 
 pub fn claim(part: &mut [u32], h: usize) -> u32
-    requires { (length part.old ≡ domainSize) × (h < hartCount) }
-    ensures { (result ≡ topiOf (domainOf part.old) h)
-        × (domainOf part.new ≡ hartClaimed (domainOf part.old) h) }
+    requires { (length part.old ≡ domain_size) × (h < hart_count) }
+    ensures { (result ≡ topi_of (domain_of part.old) h)
+        × (domain_of part.new ≡ hart_claimed (domain_of part.old) h) }
 {
     if by_messages(part) {
         return 0;
@@ -45,8 +45,8 @@ pub fn claim(part: &mut [u32], h: usize) -> u32
 
 // The search for the top is made only where a top would raise the signal.
 pub fn signal(part: &[u32], h: usize) -> bool
-    requires { (length part.now ≡ domainSize) × (h < hartCount) }
-    ensures { result ≡ signalOf (domainOf part.now) h }
+    requires { (length part.now ≡ domain_size) × (h < hart_count) }
+    ensures { result ≡ signal_of (domain_of part.now) h }
 {
     if by_messages(part) {
         return false;

@@ -1,15 +1,15 @@
 // The three settable numbers of a hart's delivery structure, read and written.
 ghost use Rattle.std.specs.Prelude.{◌≡◌, ◌<◌, length};
-ghost use Rattle.sizes.specs.Sizes.{hartCount, domainSize};
-ghost use Rattle.domain.specs.Domain.{domainOf};
-ghost use Rattle.domain_direct.specs.Direct.{numberAt, writtenAt, setting_of, settingWritten};
+ghost use Rattle.sizes.specs.Sizes.{hart_count, domain_size};
+ghost use Rattle.domain.specs.Domain.{domain_of};
+ghost use Rattle.domain_direct.specs.Direct.{number_at, written_at, setting_of, setting_written};
 
 use super::Setting;
 use domain::{by_messages, load_structure, store_structure};
 use domain_delivery::Delivery;
 
 fn number_at(x: Delivery, which: Setting) -> u32
-    ensures { result ≡ numberAt x which }
+    ensures { result ≡ number_at x which }
 {
     match which {
         Setting::Idelivery => x.idelivery,
@@ -19,7 +19,7 @@ fn number_at(x: Delivery, which: Setting) -> u32
 }
 
 fn written_at(x: Delivery, which: Setting, value: u32) -> Delivery
-    ensures { result ≡ writtenAt x which value }
+    ensures { result ≡ written_at x which value }
 {
     match which {
         Setting::Idelivery => x.with_idelivery(value),
@@ -29,8 +29,8 @@ fn written_at(x: Delivery, which: Setting, value: u32) -> Delivery
 }
 
 pub fn setting_of(part: &[u32], h: usize, which: Setting) -> u32
-    requires { (length part.now ≡ domainSize) × (h < hartCount) }
-    ensures { result ≡ setting_of (domainOf part.now) h which }
+    requires { (length part.now ≡ domain_size) × (h < hart_count) }
+    ensures { result ≡ setting_of (domain_of part.now) h which }
 {
     if by_messages(part) {
         return 0;
@@ -39,9 +39,9 @@ pub fn setting_of(part: &[u32], h: usize, which: Setting) -> u32
 }
 
 pub fn put_setting(part: &mut [u32], h: usize, which: Setting, value: u32)
-    requires { (length part.old ≡ domainSize) × (h < hartCount) }
-    ensures { domainOf part.new
-        ≡ settingWritten (domainOf part.old) h which value }
+    requires { (length part.old ≡ domain_size) × (h < hart_count) }
+    ensures { domain_of part.new
+        ≡ setting_written (domain_of part.old) h which value }
 {
     if by_messages(part) {
         return;

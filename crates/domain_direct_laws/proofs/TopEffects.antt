@@ -9,19 +9,19 @@ use lib.Dec.{eqb, ltb}
 use borrow.Author.Tests.{ltb-true, ltb-false, eqb-true, eqb-false}
 use Rattle.words.proofs.TestsLaws.{tested, not_same}
 use Rattle.source_target.specs.Target.{number_of}
-use Rattle.source_target.proofs.TargetLaws.{numberOf-lt}
-use Rattle.domain.specs.Domain.{Domain, byMessages}
-use Rattle.domain.specs.Slot.{sourceAt}
-use Rattle.domain_direct.specs.Direct.{eligible, precedes, topFrom, topSource, topiOf, hartClaimed}
+use Rattle.source_target.proofs.TargetLaws.{number_of-lt}
+use Rattle.domain.specs.Domain.{Domain, by_messages}
+use Rattle.domain.specs.Slot.{source_at}
+use Rattle.domain_direct.specs.Direct.{eligible, precedes, top_from, top_source, topi_of, hart_claimed}
 use Rattle.domain_topi.proofs.TopLaws.{better, precedes-none, precedes-some, better-new, better-late}
 use Rattle.domain_topi.proofs.TopLaws.{better-other}
-use Rattle.domain_topi.proofs.TopLaws.{topFrom-end, topFrom-next, topSource-lt}
+use Rattle.domain_topi.proofs.TopLaws.{top_from-end, top_from-next, top_source-lt}
 use Rattle.domain_topi.proofs.WordLaws as word
 use Rattle.domain_direct.proofs.DirectLaws as direct
 
 -- the priority number of source i
-abbrev pub priorityAt : Domain → ℕ → ℕ
-priorityAt d i = number_of (sourceAt d i).target
+abbrev pub priority_at : Domain → ℕ → ℕ
+priority_at d i = number_of (source_at d i).target
 
 -- what holds below n and at n holds below n + 1
 below_next : (P : ℕ → Type 0) (n : ℕ) → ((j : ℕ) → j < n → P j) → P n → (j : ℕ) → j < suc n → P j
@@ -34,7 +34,7 @@ below_next P n rest here j h = at (ℕ_discrete n j)
 module _ (d : Domain) (h : ℕ) where
   -- t has no greater priority number than j, and is not above j where they are equal
   abbrev Before : ℕ → ℕ → Type 0
-  Before t j = (t ≢ 0) × (priorityAt d t ≤ priorityAt d j) × (priorityAt d j ≡ priorityAt d t → t ≤ j)
+  Before t j = (t ≢ 0) × (priority_at d t ≤ priority_at d j) × (priority_at d j ≡ priority_at d t → t ≤ j)
 
   -- t is the best of the sources below n, or 0 if none of them counts
   record Best (n t : ℕ) : Type 0 where
@@ -44,16 +44,16 @@ module _ (d : Domain) (h : ℕ) where
 
   -- ---- one source more
 
-  precedes-by : (i b : ℕ) → b ≢ 0 → precedes d i b ≡ ltb (priorityAt d i) (priorityAt d b)
-  precedes-by i b n = precedes-some d i b n (sourceAt d i) (sourceAt d b) refl refl
+  precedes-by : (i b : ℕ) → b ≢ 0 → precedes d i b ≡ ltb (priority_at d i) (priority_at d b)
+  precedes-by i b n = precedes-some d i b n (source_at d i) (source_at d b) refl refl
 
-  precedes-less : (i b : ℕ) → b ≢ 0 → precedes d i b ≡ true → priorityAt d i < priorityAt d b
+  precedes-less : (i b : ℕ) → b ≢ 0 → precedes d i b ≡ true → priority_at d i < priority_at d b
   precedes-less i b n p =
-      ltb-true (priorityAt d i) (priorityAt d b) (sym (precedes-by i b n) ∙ p)
+      ltb-true (priority_at d i) (priority_at d b) (sym (precedes-by i b n) ∙ p)
 
-  precedes-not : (i b : ℕ) → b ≢ 0 → precedes d i b ≡ false → priorityAt d b ≤ priorityAt d i
+  precedes-not : (i b : ℕ) → b ≢ 0 → precedes d i b ≡ false → priority_at d b ≤ priority_at d i
   precedes-not i b n p =
-      ltb-false (priorityAt d i) (priorityAt d b) (sym (precedes-by i b n) ∙ p)
+      ltb-false (priority_at d i) (priority_at d b) (sym (precedes-by i b n) ∙ p)
 
   module _ (i b : ℕ) (low : 1 ≤ i) (best : Best i b) where
     abbrev Counted : ℕ → ℕ → Type 0
@@ -100,14 +100,14 @@ module _ (d : Domain) (h : ℕ) where
         (λ p. rw (better-late d h i b p) (best-late p)))
         (λ e. rw (better-other d h i b e) (best-other e))
 
-  best-from : (m i n b : ℕ) → i + n ≡ m → 1 ≤ i → Best i b → Best m (topFrom d h i n b)
-  best-from m i zero b e low best = rw (topFrom-end d h i b) (subst (λ (k : ℕ). Best k b) (omega arith) best)
+  best-from : (m i n b : ℕ) → i + n ≡ m → 1 ≤ i → Best i b → Best m (top_from d h i n b)
+  best-from m i zero b e low best = rw (top_from-end d h i b) (subst (λ (k : ℕ). Best k b) (omega arith) best)
   best-from m i (suc n) b e low best =
-      rw (topFrom-next d h i n b)
+      rw (top_from-next d h i n b)
       (best-from m (suc i) n (better d h i b) (omega arith) (omega arith) (best-next i b low best))
 
-  best-top : Best 64 (topSource d h)
-  unfolding topSource
+  best-top : Best 64 (top_source d h)
+  unfolding top_source
   best-top =
       best-from 64 1 63 0 refl (omega arith)
       (record {
@@ -119,11 +119,11 @@ module _ (d : Domain) (h : ℕ) where
   -- ---- topi
 
   -- a top counts; of the sources that count it has the least priority number and is the lowest that has it
-  pub topi-least : topSource d h ≢ 0
-      → (eligible d h (topSource d h) ≡ true) × (1 ≤ topSource d h) × (topSource d h ≤ 63)
+  pub topi-least : top_source d h ≢ 0
+      → (eligible d h (top_source d h) ≡ true) × (1 ≤ top_source d h) × (top_source d h ≤ 63)
       × ((i : ℕ) → 1 ≤ i → i ≤ 63 → eligible d h i ≡ true
-      → (priorityAt d (topSource d h) ≤ priorityAt d i)
-      × (priorityAt d i ≡ priorityAt d (topSource d h) → topSource d h ≤ i))
+      → (priority_at d (top_source d h) ≤ priority_at d i)
+      × (priority_at d i ≡ priority_at d (top_source d h) → top_source d h ≤ i))
   topi-least some =
       let within = best-top.within in (
         best-top.counts some,
@@ -133,43 +133,43 @@ module _ (d : Domain) (h : ℕ) where
       )
 
   -- with no top no source counts
-  pub topi-none : topSource d h ≡ 0 ↔ ((i : ℕ) → 1 ≤ i → i ≤ 63 → eligible d h i ≡ false)
+  pub topi-none : top_source d h ≡ 0 ↔ ((i : ℕ) → 1 ≤ i → i ≤ 63 → eligible d h i ≡ false)
   topi-none = (
     λ z i l u. tested (eligible d h i) (λ c. absurd ((best-top.least i (omega arith) l c).0 z)) (λ f. f),
-    λ none. tested (eqb (topSource d h) 0) (λ t. eqb-true (topSource d h) 0 t)
-        (λ f. let some = eqb-false (topSource d h) 0 f in
+    λ none. tested (eqb (top_source d h) 0) (λ t. eqb-true (top_source d h) 0 t)
+        (λ f. let some = eqb-false (top_source d h) 0 f in
         let top = topi-least some in
-        absurd (not_same _ top.0 (none (topSource d h) top.1 top.2))),
+        absurd (not_same _ top.0 (none (top_source d h) top.1 top.2))),
   )
 
-  pub topi-is : byMessages d ≡ false → topSource d h ≢ 0
-      → topiOf d h ≡ topSource d h * 65536 + priorityAt d (topSource d h)
-  topi-is m some = word.topi-direct d h m ∙ word.word_some d (topSource d h) some
+  pub topi-is : by_messages d ≡ false → top_source d h ≢ 0
+      → topi_of d h ≡ top_source d h * 65536 + priority_at d (top_source d h)
+  topi-is m some = word.topi-direct d h m ∙ word.word_some d (top_source d h) some
 
   -- in direct mode topi is 0 exactly if the search finds nothing
-  pub topi-zero : byMessages d ≡ false → topiOf d h ≡ 0 ↔ topSource d h ≡ 0
+  pub topi-zero : by_messages d ≡ false → topi_of d h ≡ 0 ↔ top_source d h ≡ 0
   topi-zero m = (
-    λ z. tested (eqb (topSource d h) 0) (λ t. eqb-true (topSource d h) 0 t)
-        (λ f. let some = eqb-false (topSource d h) 0 f in absurd (some (omega (arith, topi-is m some)))),
-    λ z. word.topi-direct d h m ∙ word.word_none d (topSource d h) z,
+    λ z. tested (eqb (top_source d h) 0) (λ t. eqb-true (top_source d h) 0 t)
+        (λ f. let some = eqb-false (top_source d h) 0 f in absurd (some (omega (arith, topi-is m some)))),
+    λ z. word.topi-direct d h m ∙ word.word_none d (top_source d h) z,
   )
 
   -- topi reads 0 exactly if no source counts
-  pub topi-zero-iff : byMessages d ≡ false
-      → topiOf d h ≡ 0 ↔ ((i : ℕ) → 1 ≤ i → i ≤ 63 → eligible d h i ≡ false)
+  pub topi-zero-iff : by_messages d ≡ false
+      → topi_of d h ≡ 0 ↔ ((i : ℕ) → 1 ≤ i → i ≤ 63 → eligible d h i ≡ false)
   topi-zero-iff m = (λ z. topi-none.0 ((topi-zero m).0 z), λ none. (topi-zero m).1 (topi-none.1 none))
 
   -- by messages topi reads 0, and a claim changes nothing
-  pub topi-messages : byMessages d ≡ true → (topiOf d h ≡ 0) × (hartClaimed d h ≡ d)
+  pub topi-messages : by_messages d ≡ true → (topi_of d h ≡ 0) × (hart_claimed d h ≡ d)
   topi-messages m = (word.topi-messages d h m, direct.claimed-messages d h m)
 
-  pub topiOf-lt : topiOf d h < 2 ^ 32
-  topiOf-lt =
-      tested (byMessages d) (λ m. omega (arith, word.topi-messages d h m))
-      (λ m. tested (eqb (topSource d h) 0) (λ t. omega (arith, (topi-zero m).1 (eqb-true (topSource d h) 0 t)))
+  pub topi_of-lt : topi_of d h < 2 ^ 32
+  topi_of-lt =
+      tested (by_messages d) (λ m. omega (arith, word.topi-messages d h m))
+      (λ m. tested (eqb (top_source d h) 0) (λ t. omega (arith, (topi-zero m).1 (eqb-true (top_source d h) 0 t)))
       (λ f. omega (
         arith,
-        topi-is m (eqb-false (topSource d h) 0 f),
-        topSource-lt d h,
-        numberOf-lt (sourceAt d (topSource d h)).target,
+        topi-is m (eqb-false (top_source d h) 0 f),
+        top_source-lt d h,
+        number_of-lt (source_at d (top_source d h)).target,
       )))

@@ -1,9 +1,9 @@
 // What a write to domaincfg does to its domain, before anything is sent.
 ghost use Rattle.std.specs.Prelude.{◌≡◌, ◌-◌, ◌<◌, length};
-ghost use Rattle.sizes.specs.Sizes.{sourceCount, slotCount, domainSize};
-ghost use Rattle.domain.specs.Domain.{domainOf, byMessages};
-ghost use Rattle.domain_domaincfg.specs.Domaincfg.{keptDomaincfg, redeliveredAt, redeliveredFrom};
-ghost use Rattle.domain_domaincfg.specs.Domaincfg.{domaincfgWritten};
+ghost use Rattle.sizes.specs.Sizes.{source_count, slot_count, domain_size};
+ghost use Rattle.domain.specs.Domain.{domain_of, by_messages};
+ghost use Rattle.domain_domaincfg.specs.Domaincfg.{kept_domaincfg, redelivered_at, redelivered_from};
+ghost use Rattle.domain_domaincfg.specs.Domaincfg.{domaincfg_written};
 
 use domain::{DM_BIT, IE_BIT};
 use sizes::{SLOT_COUNT, SOURCE_SET_SIZE};
@@ -13,7 +13,7 @@ use source_wire::wire_at;
 
 // What of a written domaincfg is stored.
 pub fn kept_domaincfg(value: u32) -> u32
-    ensures { result ≡ keptDomaincfg value }
+    ensures { result ≡ kept_domaincfg value }
 {
     let ie = words::field32(value, IE_BIT, 1);
     let dm = words::field32(value, DM_BIT, 1);
@@ -22,9 +22,9 @@ pub fn kept_domaincfg(value: u32) -> u32
 
 // An inactive source stays; of an active one the target is stored, and of a level source the pending bit.
 fn redeliver_source(part: &mut [u32], wires: [u32; SOURCE_SET_SIZE], messages: bool, i: usize)
-    requires { (length part.old ≡ domainSize) × (i < slotCount)
-        × (messages ≡ byMessages (domainOf part.old)) }
-    ensures { domainOf part.new ≡ redeliveredAt (domainOf part.old) wires i }
+    requires { (length part.old ≡ domain_size) × (i < slot_count)
+        × (messages ≡ by_messages (domain_of part.old)) }
+    ensures { domain_of part.new ≡ redelivered_at (domain_of part.old) wires i }
 {
     let s = domain::load(part, i);
     if !active(s.mode) {
@@ -40,9 +40,9 @@ fn redeliver_source(part: &mut [u32], wires: [u32; SOURCE_SET_SIZE], messages: b
 }
 
 fn redeliver(part: &mut [u32], wires: [u32; SOURCE_SET_SIZE])
-    requires { length part.old ≡ domainSize }
-    ensures { domainOf part.new
-        ≡ redeliveredFrom (domainOf part.old) wires 1 sourceCount }
+    requires { length part.old ≡ domain_size }
+    ensures { domain_of part.new
+        ≡ redelivered_from (domain_of part.old) wires 1 source_count }
 {
     let messages = domain::by_messages(part);
     let mut i: usize = 1;
@@ -53,9 +53,9 @@ fn redeliver(part: &mut [u32], wires: [u32; SOURCE_SET_SIZE])
 }
 
 pub fn write_domaincfg(part: &mut [u32], wires: [u32; SOURCE_SET_SIZE], value: u32)
-    requires { length part.old ≡ domainSize }
-    ensures { domainOf part.new
-        ≡ domaincfgWritten (domainOf part.old) wires value }
+    requires { length part.old ≡ domain_size }
+    ensures { domain_of part.new
+        ≡ domaincfg_written (domain_of part.old) wires value }
 {
     let before = domain::by_messages(part);
     domain::put_domaincfg(part, kept_domaincfg(value));

@@ -1,24 +1,24 @@
 // genmsi: what a write stores, what a read gives, and the message that a write sends at once.
 ghost use Rattle.std.specs.Prelude.{◌≡◌, length};
-ghost use Rattle.sizes.specs.Sizes.{domainSize, logSize};
-ghost use Rattle.domain.specs.Domain.{domainOf};
+ghost use Rattle.sizes.specs.Sizes.{domain_size, log_size};
+ghost use Rattle.domain.specs.Domain.{domain_of};
 ghost use Rattle.domain_sending.specs.Sending.{logged};
-ghost use Rattle.domain_genmsi.specs.Genmsi.{keptGenmsi, genmsiMessage, genmsiWritten};
-ghost use Rattle.domain_genmsi.specs.Genmsi.{genmsiRead};
-ghost use Rattle.domain_genmsi.specs.Genmsi.{genmsiSent};
+ghost use Rattle.domain_genmsi.specs.Genmsi.{kept_genmsi, genmsi_message, genmsi_written};
+ghost use Rattle.domain_genmsi.specs.Genmsi.{genmsi_read};
+ghost use Rattle.domain_genmsi.specs.Genmsi.{genmsi_sent};
 
 use file_message::log_word;
 use source_target::{hart_of, number_of, under_hart};
 
 // What a write keeps, and the log word of the message that it sends at once.
 pub fn kept_genmsi(value: u32) -> u32
-    ensures { result ≡ keptGenmsi value }
+    ensures { result ≡ kept_genmsi value }
 {
     under_hart(hart_of(value), number_of(value))
 }
 
 pub fn genmsi_message(child: bool, value: u32) -> u32
-    ensures { result ≡ genmsiMessage child value }
+    ensures { result ≡ genmsi_message child value }
 {
     if child {
         return log_word(hart_of(value), 1, number_of(value));
@@ -28,8 +28,8 @@ pub fn genmsi_message(child: bool, value: u32) -> u32
 
 // Ignored in direct mode. What it sends is not sent here.
 pub fn write_genmsi(part: &mut [u32], value: u32)
-    requires { length part.old ≡ domainSize }
-    ensures { domainOf part.new ≡ genmsiWritten (domainOf part.old) value }
+    requires { length part.old ≡ domain_size }
+    ensures { domain_of part.new ≡ genmsi_written (domain_of part.old) value }
 {
     if domain::by_messages(part) {
         domain::put_genmsi(part, kept_genmsi(value));
@@ -38,8 +38,8 @@ pub fn write_genmsi(part: &mut [u32], value: u32)
 
 // 0 in direct mode.
 pub fn read_genmsi(part: &[u32]) -> u32
-    requires { length part.now ≡ domainSize }
-    ensures { result ≡ genmsiRead (domainOf part.now) }
+    requires { length part.now ≡ domain_size }
+    ensures { result ≡ genmsi_read (domain_of part.now) }
 {
     if domain::by_messages(part) {
         return domain::genmsi(part);
@@ -49,10 +49,10 @@ pub fn read_genmsi(part: &[u32]) -> u32
 
 // Sent whatever IE is, and in message mode only. It comes first in `log`; answers the number of messages.
 pub fn send_genmsi(part: &[u32], child: bool, value: u32, log: &mut [u32]) -> usize
-    requires { (length part.now ≡ domainSize) × (length log.old ≡ logSize) }
+    requires { (length part.now ≡ domain_size) × (length log.old ≡ log_size) }
     ensures { (log.new
-        ≡ logged log.old (genmsiSent child (domainOf part.now) value))
-        × (result ≡ length (genmsiSent child (domainOf part.now) value)) }
+        ≡ logged log.old (genmsi_sent child (domain_of part.now) value))
+        × (result ≡ length (genmsi_sent child (domain_of part.now) value)) }
 {
     if !domain::by_messages(part) {
         return 0;

@@ -1,8 +1,8 @@
 // What in_clrip reads: the rectified values of a domain's sources, a word of them at a time.
 ghost use Rattle.std.specs.Prelude.{◌≡◌, ◌+◌, ◌≤◌, ◌<◌, length};
-ghost use Rattle.sizes.specs.Sizes.{sourceSetSize, domainSize};
-ghost use Rattle.domain.specs.Domain.{domainOf};
-ghost use Rattle.domain_inputs.specs.Inputs.{inputWord};
+ghost use Rattle.sizes.specs.Sizes.{source_set_size, domain_size};
+ghost use Rattle.domain.specs.Domain.{domain_of};
+ghost use Rattle.domain_inputs.specs.Inputs.{input_word};
 ghost use Rattle.domain_inputs.specs.Gathering.{RectifiedTo};
 
 use sizes::SOURCE_SET_SIZE;
@@ -16,9 +16,9 @@ pub struct Rectified {
 }
 
 fn with_source(mut x: Rectified, part: &[u32], k: usize, b: u32) -> Rectified
-    requires { (length part.now ≡ domainSize) × (k < sourceSetSize) × (b < 32)
-        × RectifiedTo (domainOf part.now) k b x }
-    ensures { RectifiedTo (domainOf part.now) k (b + 1) result }
+    requires { (length part.now ≡ domain_size) × (k < source_set_size) × (b < 32)
+        × RectifiedTo (domain_of part.now) k b x }
+    ensures { RectifiedTo (domain_of part.now) k (b + 1) result }
 {
     let s = domain::load(part, 32 * k + (b as usize));
     x.high = put_bit(x.high, b, source_mode::rectified(s.mode, true));
@@ -28,9 +28,9 @@ fn with_source(mut x: Rectified, part: &[u32], k: usize, b: u32) -> Rectified
 
 // Eight sources more: a loop this short is unrolled whole, one of 32 is not.
 fn with_eight(mut x: Rectified, part: &[u32], k: usize, b: u32) -> Rectified
-    requires { (length part.now ≡ domainSize) × (k < sourceSetSize) × (b + 8 ≤ 32)
-        × RectifiedTo (domainOf part.now) k b x }
-    ensures { RectifiedTo (domainOf part.now) k (b + 8) result }
+    requires { (length part.now ≡ domain_size) × (k < source_set_size) × (b + 8 ≤ 32)
+        × RectifiedTo (domain_of part.now) k b x }
+    ensures { RectifiedTo (domain_of part.now) k (b + 8) result }
 {
     let mut j: u32 = 0;
     while j < 8 {
@@ -41,8 +41,8 @@ fn with_eight(mut x: Rectified, part: &[u32], k: usize, b: u32) -> Rectified
 }
 
 fn gather(part: &[u32], k: usize) -> Rectified
-    requires { (length part.now ≡ domainSize) × (k < sourceSetSize) }
-    ensures { RectifiedTo (domainOf part.now) k 32 result }
+    requires { (length part.now ≡ domain_size) × (k < source_set_size) }
+    ensures { RectifiedTo (domain_of part.now) k 32 result }
 {
     let mut x = Rectified { high: 0, low: 0 };
     let mut b: u32 = 0;
@@ -54,8 +54,8 @@ fn gather(part: &[u32], k: usize) -> Rectified
 }
 
 pub fn input_word(part: &[u32], wires: [u32; SOURCE_SET_SIZE], k: usize) -> u32
-    requires { (length part.now ≡ domainSize) × (k < sourceSetSize) }
-    ensures { result ≡ inputWord (domainOf part.now) wires k }
+    requires { (length part.now ≡ domain_size) × (k < source_set_size) }
+    ensures { result ≡ input_word (domain_of part.now) wires k }
 {
     let x = gather(part, k);
     let levels = wires[k] as u64;

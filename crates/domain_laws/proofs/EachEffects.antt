@@ -11,12 +11,12 @@ use borrow.Author.Tests.{eq-eqb, ne_eqb, lt-ltb, le-ltb, le-leb, lt-leb, ltb-tru
 use Rattle.words.proofs.TestsLaws.{tested}
 use Rattle.source.specs.declared.Source.{Source}
 use Rattle.domain.specs.Domain.{Domain}
-use Rattle.domain.specs.Slot.{sourceAt}
+use Rattle.domain.specs.Slot.{source_at}
 use Rattle.domain_laws.specs.Shape.{DomainShaped}
 use Rattle.domain_laws.specs.Became.{Touched}
-use Rattle.domain_laws.specs.Each.{withEach, among}
+use Rattle.domain_laws.specs.Each.{with_each, among}
 use Rattle.domain_laws.proofs.BecameEffects.{touched_none, became-touched, touched-as}
-use Rattle.domain_laws.proofs.BecameEffects.{touched-withSource}
+use Rattle.domain_laws.proofs.BecameEffects.{touched-with_source}
 
 -- ---- the n numbers from i on
 
@@ -65,14 +65,14 @@ module _ (f : Source → Source) (s : Source) (i n j : ℕ) where
   once (no x) = rw (ne_eqb i j x, among_next i n j x)
 
 module _ (f : ℕ → Source → Source) where
-  pub touched-withEach : (d : Domain) (i n : ℕ) → DomainShaped d → 1 ≤ i → i + n ≤ 64
-      → Touched d (withEach f d i n) (λ j s. cond (among i n j) (f j s) s)
-  unfolding withEach
-  touched-withEach d i zero shaped l h =
+  pub touched-with_each : (d : Domain) (i n : ℕ) → DomainShaped d → 1 ≤ i → i + n ≤ 64
+      → Touched d (with_each f d i n) (λ j s. cond (among i n j) (f j s) s)
+  unfolding with_each
+  touched-with_each d i zero shaped l h =
       touched-as (touched_none d shaped) (λ j s. cond (among i 0 j) (f j s) s)
       (λ j _ _. rw (among_none i j))
-  touched-withEach d i (suc n) shaped l h =
-      let one = touched-withSource d i f shaped l (omega arith) in
-      let rest = touched-withEach _ (suc i) n one.shaped (omega arith) (omega arith) in
+  touched-with_each d i (suc n) shaped l h =
+      let one = touched-with_source d i f shaped l (omega arith) in
+      let rest = touched-with_each _ (suc i) n one.shaped (omega arith) (omega arith) in
       touched-as (became-touched one rest) (λ j s. cond (among i (suc n) j) (f j s) s)
-      (λ j _ _. once (f j) (sourceAt d j) i n j (ℕ_discrete i j))
+      (λ j _ _. once (f j) (source_at d j) i n j (ℕ_discrete i j))

@@ -5,84 +5,84 @@ use mathlib.Core.Path.{◌≡◌, refl, ap}
 use native.Mathlib.Omega.{arith}
 use lib.ListN.{length-set}
 use lib.Seq.{get_or-set_same, get_or-set_other}
-use Rattle.words.specs.Bits.{hasBit}
+use Rattle.words.specs.Bits.{has_bit}
 use Rattle.source.specs.declared.Source.{Source}
 use Rattle.domain_delivery.specs.declared.Delivery.{Delivery}
-use Rattle.domain.specs.Domain.{Domain, domaincfgOf, isEnabled, byMessages, genmsiOf, withDomaincfg}
-use Rattle.domain.specs.Domain.{withGenmsi}
-use Rattle.domain.specs.Slot.{sourceAt, withSource}
-use Rattle.domain.specs.Structure.{structureAt, withStructure}
+use Rattle.domain.specs.Domain.{Domain, domaincfg_of, is_enabled, by_messages, genmsi_of, with_domaincfg}
+use Rattle.domain.specs.Domain.{with_genmsi}
+use Rattle.domain.specs.Slot.{source_at, with_source}
+use Rattle.domain.specs.Structure.{structure_at, with_structure}
 use Rattle.domain.proofs.SlotLaws.{source-path}
 use Rattle.domain_laws.specs.Shape.{DomainShaped}
 
 -- ---- IE and DM follow domaincfg
 
-module _ (d e : Domain) (same : domaincfgOf e ≡ domaincfgOf d) where
-  pub isEnabled-same : isEnabled e ≡ isEnabled d
-  unfolding isEnabled
-  isEnabled-same = ap (λ (w : ℕ). hasBit w 8) same
+module _ (d e : Domain) (same : domaincfg_of e ≡ domaincfg_of d) where
+  pub is_enabled-same : is_enabled e ≡ is_enabled d
+  unfolding is_enabled
+  is_enabled-same = ap (λ (w : ℕ). has_bit w 8) same
 
-  pub byMessages-same : byMessages e ≡ byMessages d
-  unfolding byMessages
-  byMessages-same = ap (λ (w : ℕ). hasBit w 2) same
+  pub by_messages-same : by_messages e ≡ by_messages d
+  unfolding by_messages
+  by_messages-same = ap (λ (w : ℕ). has_bit w 2) same
 
 -- ---- a source replaced
 
 module _ (d : Domain) (i : ℕ) (s : Source) (low : 1 ≤ i) where
-  pub domaincfgOf-withSource : domaincfgOf (withSource d i s) ≡ domaincfgOf d
-  unfolding domaincfgOf withSource
-  domaincfgOf-withSource = get_or-set_other d.source i 0 s.mode 0 (λ e. omega arith)
+  pub domaincfg_of-with_source : domaincfg_of (with_source d i s) ≡ domaincfg_of d
+  unfolding domaincfg_of with_source
+  domaincfg_of-with_source = get_or-set_other d.source i 0 s.mode 0 (λ e. omega arith)
 
-  pub isEnabled-withSource : isEnabled (withSource d i s) ≡ isEnabled d
-  isEnabled-withSource = isEnabled-same d (withSource d i s) domaincfgOf-withSource
+  pub is_enabled-with_source : is_enabled (with_source d i s) ≡ is_enabled d
+  is_enabled-with_source = is_enabled-same d (with_source d i s) domaincfg_of-with_source
 
-  pub byMessages-withSource : byMessages (withSource d i s) ≡ byMessages d
-  byMessages-withSource = byMessages-same d (withSource d i s) domaincfgOf-withSource
+  pub by_messages-with_source : by_messages (with_source d i s) ≡ by_messages d
+  by_messages-with_source = by_messages-same d (with_source d i s) domaincfg_of-with_source
 
-  pub genmsiOf-withSource : genmsiOf (withSource d i s) ≡ genmsiOf d
-  unfolding genmsiOf withSource
-  genmsiOf-withSource = get_or-set_other d.target i 0 s.target 0 (λ e. omega arith)
+  pub genmsi_of-with_source : genmsi_of (with_source d i s) ≡ genmsi_of d
+  unfolding genmsi_of with_source
+  genmsi_of-with_source = get_or-set_other d.target i 0 s.target 0 (λ e. omega arith)
 
 -- ---- a delivery structure replaced
 
 module _ (d : Domain) (h : ℕ) (x : Delivery) where
-  pub domaincfgOf-withStructure : domaincfgOf (withStructure d h x) ≡ domaincfgOf d
-  unfolding domaincfgOf withStructure
-  domaincfgOf-withStructure = refl
+  pub domaincfg_of-with_structure : domaincfg_of (with_structure d h x) ≡ domaincfg_of d
+  unfolding domaincfg_of with_structure
+  domaincfg_of-with_structure = refl
 
-  pub isEnabled-withStructure : isEnabled (withStructure d h x) ≡ isEnabled d
-  isEnabled-withStructure = isEnabled-same d (withStructure d h x) domaincfgOf-withStructure
+  pub is_enabled-with_structure : is_enabled (with_structure d h x) ≡ is_enabled d
+  is_enabled-with_structure = is_enabled-same d (with_structure d h x) domaincfg_of-with_structure
 
-  pub byMessages-withStructure : byMessages (withStructure d h x) ≡ byMessages d
-  byMessages-withStructure = byMessages-same d (withStructure d h x) domaincfgOf-withStructure
+  pub by_messages-with_structure : by_messages (with_structure d h x) ≡ by_messages d
+  by_messages-with_structure = by_messages-same d (with_structure d h x) domaincfg_of-with_structure
 
-  pub genmsiOf-withStructure : genmsiOf (withStructure d h x) ≡ genmsiOf d
-  unfolding genmsiOf withStructure
-  genmsiOf-withStructure = refl
+  pub genmsi_of-with_structure : genmsi_of (with_structure d h x) ≡ genmsi_of d
+  unfolding genmsi_of with_structure
+  genmsi_of-with_structure = refl
 
 -- ---- domaincfg replaced
 
 module _ (d : Domain) (v : ℕ) where
-  pub domaincfgOf-withDomaincfg : DomainShaped d → domaincfgOf (withDomaincfg d v) ≡ v
-  unfolding domaincfgOf withDomaincfg
-  domaincfgOf-withDomaincfg shaped = get_or-set_same d.source 0 v 0 (omega arith)
+  pub domaincfg_of-with_domaincfg : DomainShaped d → domaincfg_of (with_domaincfg d v) ≡ v
+  unfolding domaincfg_of with_domaincfg
+  domaincfg_of-with_domaincfg shaped = get_or-set_same d.source 0 v 0 (omega arith)
 
-  pub genmsiOf-withDomaincfg : genmsiOf (withDomaincfg d v) ≡ genmsiOf d
-  unfolding genmsiOf withDomaincfg
-  genmsiOf-withDomaincfg = refl
+  pub genmsi_of-with_domaincfg : genmsi_of (with_domaincfg d v) ≡ genmsi_of d
+  unfolding genmsi_of with_domaincfg
+  genmsi_of-with_domaincfg = refl
 
-  pub sourceAt-withDomaincfg : (i : ℕ) → 1 ≤ i → sourceAt (withDomaincfg d v) i ≡ sourceAt d i
-  unfolding sourceAt withDomaincfg
-  sourceAt-withDomaincfg i l =
+  pub source_at-with_domaincfg : (i : ℕ) → 1 ≤ i → source_at (with_domaincfg d v) i ≡ source_at d i
+  unfolding source_at with_domaincfg
+  source_at-with_domaincfg i l =
       source-path (get_or-set_other d.source 0 i v 0 (λ e. omega arith)) refl refl refl
 
-  pub structureAt-withDomaincfg : (h : ℕ) → structureAt (withDomaincfg d v) h ≡ structureAt d h
-  unfolding structureAt withDomaincfg
-  structureAt-withDomaincfg h = refl
+  pub structure_at-with_domaincfg : (h : ℕ) → structure_at (with_domaincfg d v) h ≡ structure_at d h
+  unfolding structure_at with_domaincfg
+  structure_at-with_domaincfg h = refl
 
-  pub shaped-withDomaincfg : DomainShaped d → DomainShaped (withDomaincfg d v)
-  unfolding withDomaincfg
-  shaped-withDomaincfg shaped =
+  pub shaped-with_domaincfg : DomainShaped d → DomainShaped (with_domaincfg d v)
+  unfolding with_domaincfg
+  shaped-with_domaincfg shaped =
       record {
         sources = simp length-set shaped.sources;
         targets = shaped.targets;
@@ -93,32 +93,32 @@ module _ (d : Domain) (v : ℕ) where
   -- ---- genmsi replaced
 
 module _ (d : Domain) (v : ℕ) where
-  pub genmsiOf-withGenmsi : DomainShaped d → genmsiOf (withGenmsi d v) ≡ v
-  unfolding genmsiOf withGenmsi
-  genmsiOf-withGenmsi shaped = get_or-set_same d.target 0 v 0 (omega arith)
+  pub genmsi_of-with_genmsi : DomainShaped d → genmsi_of (with_genmsi d v) ≡ v
+  unfolding genmsi_of with_genmsi
+  genmsi_of-with_genmsi shaped = get_or-set_same d.target 0 v 0 (omega arith)
 
-  pub domaincfgOf-withGenmsi : domaincfgOf (withGenmsi d v) ≡ domaincfgOf d
-  unfolding domaincfgOf withGenmsi
-  domaincfgOf-withGenmsi = refl
+  pub domaincfg_of-with_genmsi : domaincfg_of (with_genmsi d v) ≡ domaincfg_of d
+  unfolding domaincfg_of with_genmsi
+  domaincfg_of-with_genmsi = refl
 
-  pub isEnabled-withGenmsi : isEnabled (withGenmsi d v) ≡ isEnabled d
-  isEnabled-withGenmsi = isEnabled-same d (withGenmsi d v) domaincfgOf-withGenmsi
+  pub is_enabled-with_genmsi : is_enabled (with_genmsi d v) ≡ is_enabled d
+  is_enabled-with_genmsi = is_enabled-same d (with_genmsi d v) domaincfg_of-with_genmsi
 
-  pub byMessages-withGenmsi : byMessages (withGenmsi d v) ≡ byMessages d
-  byMessages-withGenmsi = byMessages-same d (withGenmsi d v) domaincfgOf-withGenmsi
+  pub by_messages-with_genmsi : by_messages (with_genmsi d v) ≡ by_messages d
+  by_messages-with_genmsi = by_messages-same d (with_genmsi d v) domaincfg_of-with_genmsi
 
-  pub sourceAt-withGenmsi : (i : ℕ) → 1 ≤ i → sourceAt (withGenmsi d v) i ≡ sourceAt d i
-  unfolding sourceAt withGenmsi
-  sourceAt-withGenmsi i l =
+  pub source_at-with_genmsi : (i : ℕ) → 1 ≤ i → source_at (with_genmsi d v) i ≡ source_at d i
+  unfolding source_at with_genmsi
+  source_at-with_genmsi i l =
       source-path refl (get_or-set_other d.target 0 i v 0 (λ e. omega arith)) refl refl
 
-  pub structureAt-withGenmsi : (h : ℕ) → structureAt (withGenmsi d v) h ≡ structureAt d h
-  unfolding structureAt withGenmsi
-  structureAt-withGenmsi h = refl
+  pub structure_at-with_genmsi : (h : ℕ) → structure_at (with_genmsi d v) h ≡ structure_at d h
+  unfolding structure_at with_genmsi
+  structure_at-with_genmsi h = refl
 
-  pub shaped-withGenmsi : DomainShaped d → DomainShaped (withGenmsi d v)
-  unfolding withGenmsi
-  shaped-withGenmsi shaped =
+  pub shaped-with_genmsi : DomainShaped d → DomainShaped (with_genmsi d v)
+  unfolding with_genmsi
+  shaped-with_genmsi shaped =
       record {
         sources = shaped.sources;
         targets = simp length-set shaped.targets;

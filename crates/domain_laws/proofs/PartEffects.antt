@@ -3,10 +3,10 @@
 use mathlib.Core.Path.{◌≡◌, refl}
 use mathlib.Core.Bool.{Bool, true, false}
 use Rattle.words.proofs.TestsLaws.{tested}
-use Rattle.source_mode.specs.Mode.{isActive}
+use Rattle.source_mode.specs.Mode.{is_active}
 use Rattle.source.specs.declared.Source.{Source}
 use Rattle.source.specs.declared.Change.TheVariants.{Pend, Clear, Enable, Disable}
-use Rattle.source.specs.Pending.{withPending, pended, cleared, switched, changed}
+use Rattle.source.specs.Pending.{with_pending, pended, cleared, switched, changed}
 
 module _ (s : Source) (m wire : Bool) where
   pub changed-pend : changed s Pend m wire ≡ pended s m wire
@@ -25,10 +25,10 @@ module _ (s : Source) (m wire : Bool) where
   unfolding changed
   changed-disable = refl
 
-  pub pended-part : pended s m wire ≡ withPending s (pended s m wire).pending
+  pub pended-part : pended s m wire ≡ with_pending s (pended s m wire).pending
   unfolding pended
-  pended-part = tested (isActive s.mode) (λ t. rw t) (λ f. rw f)
+  pended-part = tested (is_active s.mode) (λ t. rw t) (λ f. rw f)
 
-  pub cleared-part : cleared s m ≡ withPending s (cleared s m).pending
+  pub cleared-part : cleared s m ≡ with_pending s (cleared s m).pending
   unfolding cleared
   cleared-part = refl

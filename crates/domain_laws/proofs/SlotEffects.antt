@@ -11,22 +11,22 @@ use lib.Seq.{get_or-set_same, get_or-set_other, set-get_or}
 use Rattle.words.specs.Sets.{member, remove, put}
 use Rattle.words.proofs.SetsLaws.{member-put-same, member-put-other, length-put}
 use Rattle.source.specs.declared.Source.{Source}
-use Rattle.source.specs.Pending.{withPending, withEnabled, withTarget, candidate}
+use Rattle.source.specs.Pending.{with_pending, with_enabled, with_target, candidate}
 use Rattle.source.proofs.PendingLaws.{not-candidate}
-use Rattle.domain.specs.Domain.{Domain, domainOf, withTargets, withPendings, withEnables}
-use Rattle.domain.specs.Slot.{sourceAt, withSource, standing}
-use Rattle.domain.specs.Structure.{structureAt}
+use Rattle.domain.specs.Domain.{Domain, domain_of, with_targets, with_pendings, with_enables}
+use Rattle.domain.specs.Slot.{source_at, with_source, standing}
+use Rattle.domain.specs.Structure.{structure_at}
 use Rattle.domain.proofs.DomainLaws.{domain-path}
 use Rattle.words.proofs.SegmentLaws.{segment-long}
 use Rattle.domain.proofs.SlotLaws.{source-path}
 use Rattle.domain_laws.specs.Shape.{DomainShaped}
 use Rattle.domain_laws.proofs.SetsBack.{put_back}
-use Rattle.sizes.specs.Sizes.{domainSize}
+use Rattle.sizes.specs.Sizes.{domain_size}
 
 -- a domain of 144 words has the lengths
-pub domainOf-shaped : (l : List ℕ) → length l ≡ domainSize → DomainShaped (domainOf l)
-unfolding domainOf
-domainOf-shaped l h =
+pub domain_of-shaped : (l : List ℕ) → length l ≡ domain_size → DomainShaped (domain_of l)
+unfolding domain_of
+domain_of-shaped l h =
     record {
       sources = simp length-take (omega arith);
       targets = segment-long l 64 64 (omega arith);
@@ -36,33 +36,33 @@ domainOf-shaped l h =
     }
 
 module _ (d : Domain) (i : ℕ) (s : Source) where
-  pub sourceAt-withSource-same : DomainShaped d → i < 64 → sourceAt (withSource d i s) i ≡ s
-  unfolding sourceAt withSource
-  sourceAt-withSource-same shaped h =
+  pub source_at-with_source-same : DomainShaped d → i < 64 → source_at (with_source d i s) i ≡ s
+  unfolding source_at with_source
+  source_at-with_source-same shaped h =
       source-path (get_or-set_same d.source i s.mode 0 (omega arith))
       (get_or-set_same d.target i s.target 0 (omega arith))
       (member-put-same d.pending i s.pending (omega arith))
       (member-put-same d.enable i s.enabled (omega arith))
 
-  pub sourceAt-withSource-other : (j : ℕ) → j ≢ i → sourceAt (withSource d i s) j ≡ sourceAt d j
-  unfolding sourceAt withSource
-  sourceAt-withSource-other j n =
+  pub source_at-with_source-other : (j : ℕ) → j ≢ i → source_at (with_source d i s) j ≡ source_at d j
+  unfolding source_at with_source
+  source_at-with_source-other j n =
       source-path (get_or-set_other d.source i j s.mode 0 n)
       (get_or-set_other d.target i j s.target 0 n)
       (member-put-other d.pending i s.pending j n) (member-put-other d.enable i s.enabled j n)
 
-  pub standing-withSource-other : (j : ℕ) → j ≢ i → standing (withSource d i s) j ≡ standing d j
+  pub standing-with_source-other : (j : ℕ) → j ≢ i → standing (with_source d i s) j ≡ standing d j
   unfolding standing
-  standing-withSource-other j n =
-      ap (λ (x : Source). x.pending && x.enabled) (sourceAt-withSource-other j n)
+  standing-with_source-other j n =
+      ap (λ (x : Source). x.pending && x.enabled) (source_at-with_source-other j n)
 
-  pub structureAt-withSource : (h : ℕ) → structureAt (withSource d i s) h ≡ structureAt d h
-  unfolding structureAt withSource
-  structureAt-withSource h = refl
+  pub structure_at-with_source : (h : ℕ) → structure_at (with_source d i s) h ≡ structure_at d h
+  unfolding structure_at with_source
+  structure_at-with_source h = refl
 
-  pub shaped-withSource : DomainShaped d → DomainShaped (withSource d i s)
-  unfolding withSource
-  shaped-withSource shaped =
+  pub shaped-with_source : DomainShaped d → DomainShaped (with_source d i s)
+  unfolding with_source
+  shaped-with_source shaped =
       record {
         sources = simp length-set shaped.sources;
         targets = simp length-set shaped.targets;
@@ -72,59 +72,59 @@ module _ (d : Domain) (i : ℕ) (s : Source) where
       }
 
   -- number 0, which is no source, is in the sets as before
-  pub pending-zero-withSource : 1 ≤ i → member (withSource d i s).pending 0 ≡ member d.pending 0
-  unfolding withSource
-  pending-zero-withSource l = member-put-other d.pending i s.pending 0 (λ e. omega arith)
+  pub pending-zero-with_source : 1 ≤ i → member (with_source d i s).pending 0 ≡ member d.pending 0
+  unfolding with_source
+  pending-zero-with_source l = member-put-other d.pending i s.pending 0 (λ e. omega arith)
 
-  pub enable-zero-withSource : 1 ≤ i → member (withSource d i s).enable 0 ≡ member d.enable 0
-  unfolding withSource
-  enable-zero-withSource l = member-put-other d.enable i s.enabled 0 (λ e. omega arith)
+  pub enable-zero-with_source : 1 ≤ i → member (with_source d i s).enable 0 ≡ member d.enable 0
+  unfolding with_source
+  enable-zero-with_source l = member-put-other d.enable i s.enabled 0 (λ e. omega arith)
 
 module _ (d : Domain) (i : ℕ) where
   -- a source that does not stand is not to be sent
-  pub candidate-unstanding : standing d i ≡ false → candidate (sourceAt d i) ≡ false
+  pub candidate-unstanding : standing d i ≡ false → candidate (source_at d i) ≡ false
   unfolding standing
-  candidate-unstanding = not-candidate (sourceAt d i)
+  candidate-unstanding = not-candidate (source_at d i)
 
   -- putting back what was read changes nothing
-  pub withSource-back : withSource d i (sourceAt d i) ≡ d
-  unfolding sourceAt withSource
-  withSource-back =
+  pub with_source-back : with_source d i (source_at d i) ≡ d
+  unfolding source_at with_source
+  with_source-back =
       domain-path (set-get_or d.source i 0) (set-get_or d.target i 0) (put_back d.pending i)
       (put_back d.enable i) refl
 
   -- a part stored alone is the source put with that part replaced
-  pub withSource-target : (v : ℕ)
-      → withTargets d (set d.target i v) ≡ withSource d i (withTarget (sourceAt d i) v)
-  unfolding sourceAt withSource
-  withSource-target v =
+  pub with_source-target : (v : ℕ)
+      → with_targets d (set d.target i v) ≡ with_source d i (with_target (source_at d i) v)
+  unfolding source_at with_source
+  with_source-target v =
       sym
       (domain-path (set-get_or d.source i 0) refl (put_back d.pending i) (put_back d.enable i) refl)
 
-  pub withSource-pending : (b : Bool)
-      → withPendings d (put d.pending i b) ≡ withSource d i (withPending (sourceAt d i) b)
-  unfolding sourceAt withSource
-  withSource-pending b =
+  pub with_source-pending : (b : Bool)
+      → with_pendings d (put d.pending i b) ≡ with_source d i (with_pending (source_at d i) b)
+  unfolding source_at with_source
+  with_source-pending b =
       sym
       (domain-path (set-get_or d.source i 0) (set-get_or d.target i 0) refl (put_back d.enable i) refl)
 
-  pub withSource-enabled : (b : Bool)
-      → withEnables d (put d.enable i b) ≡ withSource d i (withEnabled (sourceAt d i) b)
-  unfolding sourceAt withSource
-  withSource-enabled b =
+  pub with_source-enabled : (b : Bool)
+      → with_enables d (put d.enable i b) ≡ with_source d i (with_enabled (source_at d i) b)
+  unfolding source_at with_source
+  with_source-enabled b =
       sym
       (domain-path (set-get_or d.source i 0) (set-get_or d.target i 0) (put_back d.pending i) refl refl)
 
   -- the target, and then the pending bit
-  pub withSource-target-pending : (v : ℕ) (b : Bool)
-      → withPendings (withTargets d (set d.target i v)) (put d.pending i b)
-      ≡ withSource d i (withPending (withTarget (sourceAt d i) v) b)
-  unfolding sourceAt withSource
-  withSource-target-pending v b =
+  pub with_source-target-pending : (v : ℕ) (b : Bool)
+      → with_pendings (with_targets d (set d.target i v)) (put d.pending i b)
+      ≡ with_source d i (with_pending (with_target (source_at d i) v) b)
+  unfolding source_at with_source
+  with_source-target-pending v b =
       sym (domain-path (set-get_or d.source i 0) refl refl (put_back d.enable i) refl)
 
   -- a source that lost its pending bit, and nothing else
-  pub withSource-unpended : withSource d i (withPending (sourceAt d i) false)
-      ≡ withPendings d (remove d.pending i)
+  pub with_source-unpended : with_source d i (with_pending (source_at d i) false)
+      ≡ with_pendings d (remove d.pending i)
   unfolding put
-  withSource-unpended = sym (withSource-pending false)
+  with_source-unpended = sym (with_source-pending false)

@@ -9,8 +9,8 @@ use lib.ListN.{length, get_or, set, length-set}
 use lib.Seq.{get_or-set_same, get_or-set_other}
 use Rattle.domain_delivery.specs.declared.Delivery.{Delivery}
 use Rattle.domain.specs.Domain.{Domain}
-use Rattle.domain.specs.Slot.{sourceAt}
-use Rattle.domain.specs.Structure.{structureAt, withStructure}
+use Rattle.domain.specs.Slot.{source_at}
+use Rattle.domain.specs.Structure.{structure_at, with_structure}
 use Rattle.domain_laws.specs.Shape.{DomainShaped}
 
 -- three elements stored in a row
@@ -37,9 +37,9 @@ module _ (l : List ℕ) (p a b c : ℕ) where
       ∙ get_or-set_other (set l p a) (p + 1) k b 0 y ∙ get_or-set_other l p k a 0 x
 
 module _ (d : Domain) (h : ℕ) (x : Delivery) where
-  pub structureAt-withStructure-same : DomainShaped d → h < 4 → structureAt (withStructure d h x) h ≡ x
-  unfolding structureAt withStructure
-  structureAt-withStructure-same shaped q =
+  pub structure_at-with_structure-same : DomainShaped d → h < 4 → structure_at (with_structure d h x) h ≡ x
+  unfolding structure_at with_structure
+  structure_at-with_structure-same shaped q =
       let within : 3 * h + 2 < length d.delivery = omega arith in
       λ k. record {
         idelivery = three-first d.delivery (3 * h) x.idelivery x.iforce x.ithreshold within k;
@@ -47,10 +47,10 @@ module _ (d : Domain) (h : ℕ) (x : Delivery) where
         ithreshold = three_third d.delivery (3 * h) x.idelivery x.iforce x.ithreshold within k;
       }
 
-  pub structureAt-withStructure-other : (g : ℕ) → g ≢ h
-      → structureAt (withStructure d h x) g ≡ structureAt d g
-  unfolding structureAt withStructure
-  structureAt-withStructure-other g n =
+  pub structure_at-with_structure-other : (g : ℕ) → g ≢ h
+      → structure_at (with_structure d h x) g ≡ structure_at d g
+  unfolding structure_at with_structure
+  structure_at-with_structure-other g n =
       let stays = three-other d.delivery (3 * h) x.idelivery x.iforce x.ithreshold in
       λ k. record {
         idelivery = stays (3 * g) (λ q. n (omega arith)) (λ q. omega arith) (λ q. omega arith) k;
@@ -58,13 +58,13 @@ module _ (d : Domain) (h : ℕ) (x : Delivery) where
         ithreshold = stays (3 * g + 2) (λ q. omega arith) (λ q. omega arith) (λ q. n (omega arith)) k;
       }
 
-  pub sourceAt-withStructure : (i : ℕ) → sourceAt (withStructure d h x) i ≡ sourceAt d i
-  unfolding sourceAt withStructure
-  sourceAt-withStructure i = refl
+  pub source_at-with_structure : (i : ℕ) → source_at (with_structure d h x) i ≡ source_at d i
+  unfolding source_at with_structure
+  source_at-with_structure i = refl
 
-  pub shaped-withStructure : DomainShaped d → DomainShaped (withStructure d h x)
-  unfolding withStructure
-  shaped-withStructure shaped =
+  pub shaped-with_structure : DomainShaped d → DomainShaped (with_structure d h x)
+  unfolding with_structure
+  shaped-with_structure shaped =
       record {
         sources = shaped.sources;
         targets = shaped.targets;

@@ -4,22 +4,22 @@
 --                        which is no source, in the sets or not
 --   Touched d d' f       the same where domaincfg and genmsi stay
 use Rattle.std.specs.Prelude.{ℕ, ◌≤◌, ◌<◌, ◌≡◌}
-use Rattle.sizes.specs.Sizes.{slotCount}
+use Rattle.sizes.specs.Sizes.{slot_count}
 use Rattle.words.specs.Sets.{member}
 use Rattle.source.specs.declared.Source.{Source}
-use Rattle.domain.specs.Domain.{Domain, domaincfgOf, genmsiOf}
-use Rattle.domain.specs.Slot.{sourceAt}
-use Rattle.domain.specs.Structure.{structureAt}
+use Rattle.domain.specs.Domain.{Domain, domaincfg_of, genmsi_of}
+use Rattle.domain.specs.Slot.{source_at}
+use Rattle.domain.specs.Structure.{structure_at}
 use Rattle.domain_laws.specs.Shape.{DomainShaped}
 
 pub record Became (d d' : Domain) (w g : ℕ) (f : ℕ → Source → Source) : Type 0 where
   pub shaped : DomainShaped d'
-  pub domaincfg : domaincfgOf d' ≡ w
-  pub genmsi : genmsiOf d' ≡ g
-  pub source : (j : ℕ) → 1 ≤ j → j < slotCount → sourceAt d' j ≡ f j (sourceAt d j)
-  pub structure : (h : ℕ) → structureAt d' h ≡ structureAt d h
+  pub domaincfg : domaincfg_of d' ≡ w
+  pub genmsi : genmsi_of d' ≡ g
+  pub source : (j : ℕ) → 1 ≤ j → j < slot_count → source_at d' j ≡ f j (source_at d j)
+  pub structure : (h : ℕ) → structure_at d' h ≡ structure_at d h
   pub pending-zero : member d'.pending 0 ≡ member d.pending 0
   pub enable-zero : member d'.enable 0 ≡ member d.enable 0
 
 abbrev pub Touched : (d d' : Domain) → (ℕ → Source → Source) → Type 0
-Touched d d' f = Became d d' (domaincfgOf d) (genmsiOf d) f
+Touched d d' f = Became d d' (domaincfg_of d) (genmsi_of d) f

@@ -18,21 +18,21 @@ use Rattle.domain_region.specs.declared.Word.TheVariants.{Clripnum, Setie, Setie
 use Rattle.domain_region.specs.declared.Word.TheVariants.{SetipnumLe, SetipnumBe, Genmsi, Target}
 use Rattle.domain_region.specs.declared.Word.TheVariants.{Idelivery}
 use Rattle.domain_region.specs.declared.Word.TheVariants.{Iforce, Ithreshold, Topi, Claimi, Unused}
-use Rattle.domain_region.specs.Region.{addressLegal, Row, wordsFrom, registers, nameIn, word_in}
-use Rattle.domain_region.specs.Region.{wordAt, Within}
+use Rattle.domain_region.specs.Region.{address_legal, Row, words_from, registers, name_in, word_in}
+use Rattle.domain_region.specs.Region.{word_at, Within}
 
 -- ---- legal addresses
 
-pub legal-past : (a : ℕ) → 0x5000 ≤ a → addressLegal a ≡ false
-unfolding addressLegal
+pub legal-past : (a : ℕ) → 0x5000 ≤ a → address_legal a ≡ false
+unfolding address_legal
 legal-past a h = simp (le-ltb a 0x5000 h, and-false)
 
-pub legal-inside : (a : ℕ) → a < 0x5000 → addressLegal a ≡ eqb (a % 4) 0
-unfolding addressLegal
+pub legal-inside : (a : ℕ) → a < 0x5000 → address_legal a ≡ eqb (a % 4) 0
+unfolding address_legal
 legal-inside a h = simp (lt-ltb a 0x5000 h, and-true)
 
-pub legal-iff : (a : ℕ) → addressLegal a ≡ true ↔ ((a % 4 ≡ 0) × (a < 0x5000))
-unfolding addressLegal
+pub legal-iff : (a : ℕ) → address_legal a ≡ true ↔ ((a % 4 ≡ 0) × (a < 0x5000))
+unfolding address_legal
 legal-iff a = (
   λ t. (eqb-true (a % 4) 0 (and_first _ _ t), ltb-true a 0x5000 (and_second (eqb (a % 4) 0) _ t)),
   λ p. and_both _ _ (eq-eqb (a % 4) 0 p.0) (lt-ltb a 0x5000 p.1),
@@ -52,8 +52,8 @@ record At (r : Row) (a : ℕ) : Type 0 where
   pub place : a ≡ r.base + r.step * number
 
 name-cases : (P : Word → Type 0) (a : ℕ) (r : Row) (w : Word)
-    → ((p : At r a) → P (r.name p.number)) → P w → P (nameIn r a w)
-unfolding nameIn
+    → ((p : At r a) → P (r.name p.number)) → P w → P (name_in r a w)
+unfolding name_in
 name-cases P a r w there other =
     let k = (a - r.base) / r.step in
     let here = eqb a (r.base + r.step * k) in
@@ -81,12 +81,12 @@ word-cases P a [] each other = other
 word-cases P a (r ∷ rs) each other =
     name-cases P a r (word_in rs a) each.0 (word-cases P a rs each.1 other)
 
-pub word-within : (a : ℕ) → Within (wordAt a)
-unfolding wordAt registers
+pub word-within : (a : ℕ) → Within (word_at a)
+unfolding word_at registers
 word-within a = word-cases Within a registers (omega arith) tt
 
 -- the bounds of whatever number a register's name carries
-pub bounds_of : (a : ℕ) (w : Word) → wordAt a ≡ w → Within w
+pub bounds_of : (a : ℕ) (w : Word) → word_at a ≡ w → Within w
 bounds_of a w e = subst Within e (word-within a)
 
 absurd-all : (a : ℕ) (rs : List Row) → All (λ r. At r a → ⊥) rs
@@ -95,38 +95,38 @@ absurd-all a [] none = tt
 absurd-all a (r ∷ rs) none = (λ p. absurd (none.0 p), absurd-all a rs none.1)
 
 -- an address in no row
-word-unused : (a : ℕ) → All (λ r. At r a → ⊥) registers → wordAt a ≡ Unused
-unfolding wordAt
+word-unused : (a : ℕ) → All (λ r. At r a → ⊥) registers → word_at a ≡ Unused
+unfolding word_at
 word-unused a none = word-cases (λ w. w ≡ Unused) a registers (absurd-all a registers none) refl
 
 -- ---- where there is no register
 
-pub unaligned-unused : (a : ℕ) → (a % 4 ≡ 0 → ⊥) → wordAt a ≡ Unused
+pub unaligned-unused : (a : ℕ) → (a % 4 ≡ 0 → ⊥) → word_at a ≡ Unused
 unfolding registers
 unaligned-unused a n = word-unused a (omega arith)
 
-pub config-unused : (a : ℕ) → 0x100 ≤ a → a < 0x1C00 → wordAt a ≡ Unused
+pub config-unused : (a : ℕ) → 0x100 ≤ a → a < 0x1C00 → word_at a ≡ Unused
 unfolding registers
 config-unused a l h = word-unused a (omega arith)
 
 pub bits-unused : (a : ℕ) → 0x1C00 ≤ a → a < 0x2000 → 8 ≤ a % 0x100 → (a % 0x100 ≡ 0xDC → ⊥)
-    → wordAt a ≡ Unused
+    → word_at a ≡ Unused
 unfolding registers
 bits-unused a l h m n = word-unused a (omega arith)
 
-pub numbers-unused : (a : ℕ) → 0x2008 ≤ a → a < 0x3000 → wordAt a ≡ Unused
+pub numbers-unused : (a : ℕ) → 0x2008 ≤ a → a < 0x3000 → word_at a ≡ Unused
 unfolding registers
 numbers-unused a l h = word-unused a (omega arith)
 
-pub targets-unused : (a : ℕ) → 0x3100 ≤ a → a < 0x4000 → wordAt a ≡ Unused
+pub targets-unused : (a : ℕ) → 0x3100 ≤ a → a < 0x4000 → word_at a ≡ Unused
 unfolding registers
 targets-unused a l h = word-unused a (omega arith)
 
-pub structures-unused : (a : ℕ) → 0x4000 ≤ a → 8 < a % 32 → a % 32 < 0x18 → wordAt a ≡ Unused
+pub structures-unused : (a : ℕ) → 0x4000 ≤ a → 8 < a % 32 → a % 32 < 0x18 → word_at a ≡ Unused
 unfolding registers
 structures-unused a l m h = word-unused a (omega arith)
 
-pub past-unused : (a : ℕ) → 0x4080 ≤ a → wordAt a ≡ Unused
+pub past-unused : (a : ℕ) → 0x4080 ≤ a → word_at a ≡ Unused
 unfolding registers
 past-unused a l = word-unused a (omega arith)
 
@@ -140,100 +140,100 @@ word-skip a (r ∷ xs) ys none =
     name-cases (λ w. w ≡ word_in ys a) a r _ (λ p. absurd (none.0 p)) (word-skip a xs ys none.1)
 
 name-at : (r : Row) (a k : ℕ) (w : Word) → 0 < r.step → r.first ≤ k → k ≤ r.last
-    → a ≡ r.base + r.step * k → nameIn r a w ≡ r.name k
-unfolding nameIn
+    → a ≡ r.base + r.step * k → name_in r a w ≡ r.name k
+unfolding name_in
 name-at r a k w p l m e =
     let off : a - r.base ≡ r.step * k =
     ap (λ (x : ℕ). x - r.base) e ∙ add-sub_cancel_left r.base (r.step * k) in
     let q : (a - r.base) / r.step ≡ k = ap (λ (x : ℕ). x / r.step) off ∙ mul-div_right k p in
     rw (q, eq-eqb a _ e, le-leb r.first k l, le-leb k r.last m)
 
-pub sourcecfg-at : (s : ℕ) → 1 ≤ s → s ≤ 63 → wordAt (4 * s) ≡ Sourcecfg s
-unfolding registers wordAt word_in
+pub sourcecfg-at : (s : ℕ) → 1 ≤ s → s ≤ 63 → word_at (4 * s) ≡ Sourcecfg s
+unfolding registers word_at word_in
 sourcecfg-at s l m =
     word-skip (4 * s) (take 1 registers) (drop 1 registers) (omega arith)
-    ∙ name-at (wordsFrom 0x0000 1 63 Sourcecfg) (4 * s) s _ (lit< tt) l m (omega arith)
+    ∙ name-at (words_from 0x0000 1 63 Sourcecfg) (4 * s) s _ (lit< tt) l m (omega arith)
 
-pub target_at : (s : ℕ) → 1 ≤ s → s ≤ 63 → wordAt (0x3000 + 4 * s) ≡ Target s
-unfolding registers wordAt word_in
+pub target_at : (s : ℕ) → 1 ≤ s → s ≤ 63 → word_at (0x3000 + 4 * s) ≡ Target s
+unfolding registers word_at word_in
 target_at s l m =
     word-skip (0x3000 + 4 * s) (take 13 registers) (drop 13 registers) (omega arith)
-    ∙ name-at (wordsFrom 0x3000 1 63 Target) (0x3000 + 4 * s) s _ (lit< tt) l m refl
+    ∙ name-at (words_from 0x3000 1 63 Target) (0x3000 + 4 * s) s _ (lit< tt) l m refl
 
 below-four : (P : ℕ → Type 0) → P 0 → P 1 → P 2 → P 3 → (k : ℕ) → k < 4 → P k
 below-four P a b c d zero h = a
 below-four P a b c d (suc zero) h = b
 below-four P a b c d (suc (suc k)) h = bit-cases (λ (n : ℕ). P (suc (suc n))) c d k (omega arith)
 
-pub setip-at : (k : ℕ) → k < 2 → wordAt (0x1C00 + 4 * k) ≡ Setip k
-unfolding registers wordAt word_in nameIn
-setip-at k h = bit-cases (λ (k : ℕ). wordAt (0x1C00 + 4 * k) ≡ Setip k) refl refl k h
+pub setip-at : (k : ℕ) → k < 2 → word_at (0x1C00 + 4 * k) ≡ Setip k
+unfolding registers word_at word_in name_in
+setip-at k h = bit-cases (λ (k : ℕ). word_at (0x1C00 + 4 * k) ≡ Setip k) refl refl k h
 
-pub in-clrip-at : (k : ℕ) → k < 2 → wordAt (0x1D00 + 4 * k) ≡ InClrip k
-unfolding registers wordAt word_in nameIn
-in-clrip-at k h = bit-cases (λ (k : ℕ). wordAt (0x1D00 + 4 * k) ≡ InClrip k) refl refl k h
+pub in-clrip-at : (k : ℕ) → k < 2 → word_at (0x1D00 + 4 * k) ≡ InClrip k
+unfolding registers word_at word_in name_in
+in-clrip-at k h = bit-cases (λ (k : ℕ). word_at (0x1D00 + 4 * k) ≡ InClrip k) refl refl k h
 
-pub setie-at : (k : ℕ) → k < 2 → wordAt (0x1E00 + 4 * k) ≡ Setie k
-unfolding registers wordAt word_in nameIn
-setie-at k h = bit-cases (λ (k : ℕ). wordAt (0x1E00 + 4 * k) ≡ Setie k) refl refl k h
+pub setie-at : (k : ℕ) → k < 2 → word_at (0x1E00 + 4 * k) ≡ Setie k
+unfolding registers word_at word_in name_in
+setie-at k h = bit-cases (λ (k : ℕ). word_at (0x1E00 + 4 * k) ≡ Setie k) refl refl k h
 
-pub clrie-at : (k : ℕ) → k < 2 → wordAt (0x1F00 + 4 * k) ≡ Clrie k
-unfolding registers wordAt word_in nameIn
-clrie-at k h = bit-cases (λ (k : ℕ). wordAt (0x1F00 + 4 * k) ≡ Clrie k) refl refl k h
+pub clrie-at : (k : ℕ) → k < 2 → word_at (0x1F00 + 4 * k) ≡ Clrie k
+unfolding registers word_at word_in name_in
+clrie-at k h = bit-cases (λ (k : ℕ). word_at (0x1F00 + 4 * k) ≡ Clrie k) refl refl k h
 
-pub idelivery-at : (h : ℕ) → h < 4 → wordAt (0x4000 + 32 * h + 0x00) ≡ Idelivery h
-unfolding registers wordAt word_in nameIn
+pub idelivery-at : (h : ℕ) → h < 4 → word_at (0x4000 + 32 * h + 0x00) ≡ Idelivery h
+unfolding registers word_at word_in name_in
 idelivery-at h l =
-    below-four (λ (h : ℕ). wordAt (0x4000 + 32 * h + 0x00) ≡ Idelivery h) refl refl refl refl h l
+    below-four (λ (h : ℕ). word_at (0x4000 + 32 * h + 0x00) ≡ Idelivery h) refl refl refl refl h l
 
-pub iforce-at : (h : ℕ) → h < 4 → wordAt (0x4000 + 32 * h + 0x04) ≡ Iforce h
-unfolding registers wordAt word_in nameIn
+pub iforce-at : (h : ℕ) → h < 4 → word_at (0x4000 + 32 * h + 0x04) ≡ Iforce h
+unfolding registers word_at word_in name_in
 iforce-at h l =
-    below-four (λ (h : ℕ). wordAt (0x4000 + 32 * h + 0x04) ≡ Iforce h) refl refl refl refl h l
+    below-four (λ (h : ℕ). word_at (0x4000 + 32 * h + 0x04) ≡ Iforce h) refl refl refl refl h l
 
-pub ithreshold-at : (h : ℕ) → h < 4 → wordAt (0x4000 + 32 * h + 0x08) ≡ Ithreshold h
-unfolding registers wordAt word_in nameIn
+pub ithreshold-at : (h : ℕ) → h < 4 → word_at (0x4000 + 32 * h + 0x08) ≡ Ithreshold h
+unfolding registers word_at word_in name_in
 ithreshold-at h l =
-    below-four (λ (h : ℕ). wordAt (0x4000 + 32 * h + 0x08) ≡ Ithreshold h) refl refl refl refl h l
+    below-four (λ (h : ℕ). word_at (0x4000 + 32 * h + 0x08) ≡ Ithreshold h) refl refl refl refl h l
 
-pub topi-at : (h : ℕ) → h < 4 → wordAt (0x4000 + 32 * h + 0x18) ≡ Topi h
-unfolding registers wordAt word_in nameIn
+pub topi-at : (h : ℕ) → h < 4 → word_at (0x4000 + 32 * h + 0x18) ≡ Topi h
+unfolding registers word_at word_in name_in
 topi-at h l =
-    below-four (λ (h : ℕ). wordAt (0x4000 + 32 * h + 0x18) ≡ Topi h) refl refl refl refl h l
+    below-four (λ (h : ℕ). word_at (0x4000 + 32 * h + 0x18) ≡ Topi h) refl refl refl refl h l
 
-pub claimi-at : (h : ℕ) → h < 4 → wordAt (0x4000 + 32 * h + 0x1C) ≡ Claimi h
-unfolding registers wordAt word_in nameIn
+pub claimi-at : (h : ℕ) → h < 4 → word_at (0x4000 + 32 * h + 0x1C) ≡ Claimi h
+unfolding registers word_at word_in name_in
 claimi-at h l =
-    below-four (λ (h : ℕ). wordAt (0x4000 + 32 * h + 0x1C) ≡ Claimi h) refl refl refl refl h l
+    below-four (λ (h : ℕ). word_at (0x4000 + 32 * h + 0x1C) ≡ Claimi h) refl refl refl refl h l
 
-pub domaincfg-at : wordAt 0x0000 ≡ Domaincfg
-unfolding registers wordAt word_in nameIn
+pub domaincfg-at : word_at 0x0000 ≡ Domaincfg
+unfolding registers word_at word_in name_in
 domaincfg-at = refl
 
-pub setipnum-at : wordAt 0x1CDC ≡ Setipnum
-unfolding registers wordAt word_in nameIn
+pub setipnum-at : word_at 0x1CDC ≡ Setipnum
+unfolding registers word_at word_in name_in
 setipnum-at = refl
 
-pub clripnum-at : wordAt 0x1DDC ≡ Clripnum
-unfolding registers wordAt word_in nameIn
+pub clripnum-at : word_at 0x1DDC ≡ Clripnum
+unfolding registers word_at word_in name_in
 clripnum-at = refl
 
-pub setienum-at : wordAt 0x1EDC ≡ Setienum
-unfolding registers wordAt word_in nameIn
+pub setienum-at : word_at 0x1EDC ≡ Setienum
+unfolding registers word_at word_in name_in
 setienum-at = refl
 
-pub clrienum-at : wordAt 0x1FDC ≡ Clrienum
-unfolding registers wordAt word_in nameIn
+pub clrienum-at : word_at 0x1FDC ≡ Clrienum
+unfolding registers word_at word_in name_in
 clrienum-at = refl
 
-pub setipnum-le-at : wordAt 0x2000 ≡ SetipnumLe
-unfolding registers wordAt word_in nameIn
+pub setipnum-le-at : word_at 0x2000 ≡ SetipnumLe
+unfolding registers word_at word_in name_in
 setipnum-le-at = refl
 
-pub setipnum-be-at : wordAt 0x2004 ≡ SetipnumBe
-unfolding registers wordAt word_in nameIn
+pub setipnum-be-at : word_at 0x2004 ≡ SetipnumBe
+unfolding registers word_at word_in name_in
 setipnum-be-at = refl
 
-pub genmsi-at : wordAt 0x3000 ≡ Genmsi
-unfolding registers wordAt word_in nameIn
+pub genmsi-at : word_at 0x3000 ≡ Genmsi
+unfolding registers word_at word_in name_in
 genmsi-at = refl

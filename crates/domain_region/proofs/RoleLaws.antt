@@ -19,7 +19,7 @@ use Rattle.domain_region.specs.declared.Word.TheVariants.{Iforce, Ithreshold, To
 use Rattle.domain_region.specs.declared.role.Role.{Role}
 use Rattle.domain_region.specs.declared.role.Role.TheVariants.{Claims, Configures, Generates, Plain}
 use Rattle.domain_region.specs.Region.{Within}
-use Rattle.domain_region.specs.Role.{roleOf}
+use Rattle.domain_region.specs.Role.{role_of}
 
 -- in the arm `_` a value's tag is one of those that no arm before names
 pub arm-else : (ks : List ℕ) {x : ℕ} → OneOf ks x → (k : ℕ) → T (not (has_key ks k)) → x ≢ k
@@ -31,7 +31,7 @@ Means (Configures i) w = w ≡ Sourcecfg i
 Means Generates w = w ≡ Genmsi
 Means Plain w = Unit {0}
 
-role-means : (w : Word) → Means (roleOf w) w
+role-means : (w : Word) → Means (role_of w) w
 role-means Domaincfg = tt
 role-means (Sourcecfg i) = refl
 role-means (Setip k) = tt
@@ -54,29 +54,29 @@ role-means (Claimi h) = refl
 role-means Unused = tt
 
 module _ (w : Word) where
-  meant : (r : Role) → roleOf w ≡ r → Means r w
+  meant : (r : Role) → role_of w ≡ r → Means r w
   meant r e = subst (λ (x : Role). Means x w) e (role-means w)
 
-  pub claims-only : (h : ℕ) → roleOf w ≡ Claims h → w ≡ Claimi h
+  pub claims-only : (h : ℕ) → role_of w ≡ Claims h → w ≡ Claimi h
   claims-only h = meant (Claims h)
 
-  pub configures-only : (i : ℕ) → roleOf w ≡ Configures i → w ≡ Sourcecfg i
+  pub configures-only : (i : ℕ) → role_of w ≡ Configures i → w ≡ Sourcecfg i
   configures-only i = meant (Configures i)
 
-  pub generates-only : roleOf w ≡ Generates → w ≡ Genmsi
+  pub generates-only : role_of w ≡ Generates → w ≡ Genmsi
   generates-only = meant Generates
 
   -- the number that a role carries is in its range
   module _ (q : Within w) where
-    pub claims-lt : (h : ℕ) → roleOf w ≡ Claims h → h < 4
+    pub claims-lt : (h : ℕ) → role_of w ≡ Claims h → h < 4
     claims-lt h e = subst Within (claims-only h e) q
 
-    pub configures-range : (i : ℕ) → roleOf w ≡ Configures i → (1 ≤ i) × (i ≤ 63)
+    pub configures-range : (i : ℕ) → role_of w ≡ Configures i → (1 ≤ i) × (i ≤ 63)
     configures-range i e = subst Within (configures-only i e) q
 
 pub plain-else : (w : Word) → ((h : ℕ) → w ≢ Claimi h) → ((i : ℕ) → w ≢ Sourcecfg i) → w ≢ Genmsi
-    → roleOf w ≡ Plain
-plain-else w claims configures generates = at (roleOf w) (role-means w)
+    → role_of w ≡ Plain
+plain-else w claims configures generates = at (role_of w) (role-means w)
   where
     at : (r : Role) → Means r w → r ≡ Plain
     at (Claims h) m = absurd (claims h m)

@@ -1,7 +1,7 @@
 -- What is special about a register: a claimi claims when it is read, a sourcecfg concerns both domains when
 -- it is written, genmsi sends at once. 01, "The wired controller", "Direct delivery and signals"; the
 -- standard 4.5.15, 4.8.1.5. Assumes nothing.
---   roleOf w    the role of register w: Claims h for the claimi of hart h, Configures i for the sourcecfg of
+--   role_of w    the role of register w: Claims h for the claimi of hart h, Configures i for the sourcecfg of
 --               source i, Generates for genmsi, and Plain for every other register
 use Rattle.domain_region.specs.declared.Word.{Word}
 use Rattle.domain_region.specs.declared.Word.TheVariants.{Domaincfg, Sourcecfg, Setip, Setipnum}
@@ -14,24 +14,24 @@ use Rattle.domain_region.specs.declared.role.Role.{Role}
 use Rattle.domain_region.specs.declared.role.Role.TheVariants.{Claims, Configures, Generates, Plain}
 
 -- [01 S4]
-abbrev pub roleOf : Word → Role
-roleOf Domaincfg = Plain
-roleOf (Sourcecfg i) = Configures i
-roleOf (Setip k) = Plain
-roleOf Setipnum = Plain
-roleOf (InClrip k) = Plain
-roleOf Clripnum = Plain
-roleOf (Setie k) = Plain
-roleOf Setienum = Plain
-roleOf (Clrie k) = Plain
-roleOf Clrienum = Plain
-roleOf SetipnumLe = Plain
-roleOf SetipnumBe = Plain
-roleOf Genmsi = Generates
-roleOf (Target i) = Plain
-roleOf (Idelivery h) = Plain
-roleOf (Iforce h) = Plain
-roleOf (Ithreshold h) = Plain
-roleOf (Topi h) = Plain
-roleOf (Claimi h) = Claims h
-roleOf Unused = Plain
+abbrev pub role_of : Word → Role
+role_of Domaincfg = Plain
+role_of (Sourcecfg i) = Configures i
+role_of (Setip k) = Plain
+role_of Setipnum = Plain
+role_of (InClrip k) = Plain
+role_of Clripnum = Plain
+role_of (Setie k) = Plain
+role_of Setienum = Plain
+role_of (Clrie k) = Plain
+role_of Clrienum = Plain
+role_of SetipnumLe = Plain
+role_of SetipnumBe = Plain
+role_of Genmsi = Generates
+role_of (Target i) = Plain
+role_of (Idelivery h) = Plain
+role_of (Iforce h) = Plain
+role_of (Ithreshold h) = Plain
+role_of (Topi h) = Plain
+role_of (Claimi h) = Claims h
+role_of Unused = Plain

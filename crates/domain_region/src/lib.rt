@@ -1,7 +1,7 @@
 // An address of a domain's region, taken apart into the register that it names. 01, "The wired controller".
 ghost use Rattle.std.specs.Prelude.{◌≡◌, ◌+◌, ◌*◌, ◌%◌, ◌≤◌, ◌<◌};
-ghost use Rattle.sizes.specs.Sizes.{sourceSetSize};
-ghost use Rattle.domain_region.specs.Region.{addressLegal, wordAt};
+ghost use Rattle.sizes.specs.Sizes.{source_set_size};
+ghost use Rattle.domain_region.specs.Region.{address_legal, word_at};
 
 mod role;
 
@@ -37,7 +37,7 @@ pub enum Word {
 }
 
 pub fn address_legal(address: u64) -> bool
-    ensures { result ≡ addressLegal address }
+    ensures { result ≡ address_legal address }
 {
     if 0x5000 <= address {
         return false;
@@ -46,7 +46,7 @@ pub fn address_legal(address: u64) -> bool
 }
 
 pub fn word_at(address: u64) -> Word
-    ensures { result ≡ wordAt address }
+    ensures { result ≡ word_at address }
 {
     if address % 4 != 0 {
         return Word::Unused;
@@ -69,7 +69,7 @@ pub fn word_at(address: u64) -> Word
 // 0x0000 to 0x0FFF
 fn config_word(address: u64) -> Word
     requires { (address % 4 ≡ 0) × (address < 0x1000) }
-    ensures { result ≡ wordAt address }
+    ensures { result ≡ word_at address }
 {
     if address == 0 {
         return Word::Domaincfg;
@@ -83,7 +83,7 @@ fn config_word(address: u64) -> Word
 // 0x1000 to 0x1FFF: four blocks of 0x100 from 0x1C00 on, each with two words of bits and a number register
 fn bits_word(address: u64) -> Word
     requires { (address % 4 ≡ 0) × (0x1000 ≤ address) × (address < 0x2000) }
-    ensures { result ≡ wordAt address }
+    ensures { result ≡ word_at address }
 {
     if address < 0x1C00 {
         return Word::Unused;
@@ -100,8 +100,8 @@ fn bits_word(address: u64) -> Word
 }
 
 fn bits_of(block: u64, k: u64) -> Word
-    requires { (block < 4) × (k < sourceSetSize) }
-    ensures { result ≡ wordAt (0x1C00 + 0x100 * block + 4 * k) }
+    requires { (block < 4) × (k < source_set_size) }
+    ensures { result ≡ word_at (0x1C00 + 0x100 * block + 4 * k) }
 {
     match block {
         0 => Word::Setip(k),
@@ -113,7 +113,7 @@ fn bits_of(block: u64, k: u64) -> Word
 
 fn number_of(block: u64) -> Word
     requires { block < 4 }
-    ensures { result ≡ wordAt (0x1CDC + 0x100 * block) }
+    ensures { result ≡ word_at (0x1CDC + 0x100 * block) }
 {
     match block {
         0 => Word::Setipnum,
@@ -126,7 +126,7 @@ fn number_of(block: u64) -> Word
 // 0x2000 to 0x2FFF
 fn number_word(address: u64) -> Word
     requires { (address % 4 ≡ 0) × (0x2000 ≤ address) × (address < 0x3000) }
-    ensures { result ≡ wordAt address }
+    ensures { result ≡ word_at address }
 {
     if address == 0x2000 {
         return Word::SetipnumLe;
@@ -140,7 +140,7 @@ fn number_word(address: u64) -> Word
 // 0x3000 to 0x3FFF
 fn target_word(address: u64) -> Word
     requires { (address % 4 ≡ 0) × (0x3000 ≤ address) × (address < 0x4000) }
-    ensures { result ≡ wordAt address }
+    ensures { result ≡ word_at address }
 {
     if address == 0x3000 {
         return Word::Genmsi;
@@ -155,7 +155,7 @@ fn target_word(address: u64) -> Word
 // from 0x4000 on: the delivery structures, 32 bytes for each hart
 fn structure_word(address: u64) -> Word
     requires { (address % 4 ≡ 0) × (0x4000 ≤ address) }
-    ensures { result ≡ wordAt address }
+    ensures { result ≡ word_at address }
 {
     if 0x4080 <= address {
         return Word::Unused;

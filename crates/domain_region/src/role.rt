@@ -1,7 +1,7 @@
 // The registers that are not treated as all others: claimi when it is read, sourcecfg and genmsi when they
 // are written. The functions that read, write and send ask here, so that the list of registers stands once.
 ghost use Rattle.std.specs.Prelude.{◌≡◌};
-ghost use Rattle.domain_region.specs.Role.{roleOf};
+ghost use Rattle.domain_region.specs.Role.{role_of};
 
 use super::Word;
 
@@ -18,7 +18,7 @@ pub enum Role {
 }
 
 pub fn role_of(word: Word) -> Role
-    ensures { result ≡ roleOf word }
+    ensures { result ≡ role_of word }
 {
     match word {
         Word::Claimi(h) => Role::Claims(h),

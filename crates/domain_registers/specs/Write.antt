@@ -1,7 +1,7 @@
 -- What a write to a register does to its domain, before anything is sent. 01, "The wired controller", "Direct
 -- delivery and signals"; the standard 4.5, 4.8.1. Assumes nothing.
---   registerWritten c d ws w v   d after v was written to register w; c: d is the child; ws: the wires
---   writtenElsewhere d           d as it is: what the write does is not said here, and not done here
+--   register_written c d ws w v   d after v was written to register w; c: d is the child; ws: the wires
+--   written_elsewhere d           d as it is: what the write does is not said here, and not done here
 -- setipnum_le takes the value as it is, setipnum_be its four bytes reversed. topi, claimi and what is not
 -- named ignore writes.
 use Rattle.std.specs.Prelude.{ℕ, Bool, List}
@@ -17,35 +17,35 @@ use Rattle.domain_region.specs.declared.Word.TheVariants.{Claimi}
 use Rattle.domain_region.specs.declared.Word.TheVariants.{Unused}
 use Rattle.source.specs.declared.Change.TheVariants.{Pend, Clear, Enable, Disable}
 use Rattle.domain.specs.Domain.{Domain}
-use Rattle.domain_writes.specs.Writes.{wordChanged, numberChanged, targetWritten}
-use Rattle.domain_domaincfg.specs.Domaincfg.{domaincfgWritten}
-use Rattle.domain_genmsi.specs.Genmsi.{genmsiWritten}
+use Rattle.domain_writes.specs.Writes.{word_changed, number_changed, target_written}
+use Rattle.domain_domaincfg.specs.Domaincfg.{domaincfg_written}
+use Rattle.domain_genmsi.specs.Genmsi.{genmsi_written}
 use Rattle.domain_direct.specs.declared.Setting.TheVariants as setting
-use Rattle.domain_direct.specs.Direct.{settingWritten}
+use Rattle.domain_direct.specs.Direct.{setting_written}
 
--- a sourcecfg concerns both domains: what a write to it does is `sourceWritten` of Rattle.wired_sourcecfg
-abbrev pub writtenElsewhere : Domain → Domain
-writtenElsewhere d = d
+-- a sourcecfg concerns both domains: what a write to it does is `source_written` of Rattle.wired_sourcecfg
+abbrev pub written_elsewhere : Domain → Domain
+written_elsewhere d = d
 
 -- [01 W40]
-unfoldable pub registerWritten : Bool → Domain → List ℕ → Word → ℕ → Domain
-registerWritten c d ws Domaincfg v = domaincfgWritten d ws v
-registerWritten c d ws (Sourcecfg i) v = writtenElsewhere d
-registerWritten c d ws (Setip k) v = wordChanged d ws Pend k v
-registerWritten c d ws Setipnum v = numberChanged d ws Pend v
-registerWritten c d ws (InClrip k) v = wordChanged d ws Clear k v
-registerWritten c d ws Clripnum v = numberChanged d ws Clear v
-registerWritten c d ws (Setie k) v = wordChanged d ws Enable k v
-registerWritten c d ws Setienum v = numberChanged d ws Enable v
-registerWritten c d ws (Clrie k) v = wordChanged d ws Disable k v
-registerWritten c d ws Clrienum v = numberChanged d ws Disable v
-registerWritten c d ws SetipnumLe v = numberChanged d ws Pend v
-registerWritten c d ws SetipnumBe v = numberChanged d ws Pend (reversed v)
-registerWritten c d ws Genmsi v = genmsiWritten d v
-registerWritten c d ws (Target i) v = targetWritten c d i v
-registerWritten c d ws (Idelivery h) v = settingWritten d h setting.Idelivery v
-registerWritten c d ws (Iforce h) v = settingWritten d h setting.Iforce v
-registerWritten c d ws (Ithreshold h) v = settingWritten d h setting.Ithreshold v
-registerWritten c d ws (Topi h) v = d
-registerWritten c d ws (Claimi h) v = d
-registerWritten c d ws Unused v = d
+unfoldable pub register_written : Bool → Domain → List ℕ → Word → ℕ → Domain
+register_written c d ws Domaincfg v = domaincfg_written d ws v
+register_written c d ws (Sourcecfg i) v = written_elsewhere d
+register_written c d ws (Setip k) v = word_changed d ws Pend k v
+register_written c d ws Setipnum v = number_changed d ws Pend v
+register_written c d ws (InClrip k) v = word_changed d ws Clear k v
+register_written c d ws Clripnum v = number_changed d ws Clear v
+register_written c d ws (Setie k) v = word_changed d ws Enable k v
+register_written c d ws Setienum v = number_changed d ws Enable v
+register_written c d ws (Clrie k) v = word_changed d ws Disable k v
+register_written c d ws Clrienum v = number_changed d ws Disable v
+register_written c d ws SetipnumLe v = number_changed d ws Pend v
+register_written c d ws SetipnumBe v = number_changed d ws Pend (reversed v)
+register_written c d ws Genmsi v = genmsi_written d v
+register_written c d ws (Target i) v = target_written c d i v
+register_written c d ws (Idelivery h) v = setting_written d h setting.Idelivery v
+register_written c d ws (Iforce h) v = setting_written d h setting.Iforce v
+register_written c d ws (Ithreshold h) v = setting_written d h setting.Ithreshold v
+register_written c d ws (Topi h) v = d
+register_written c d ws (Claimi h) v = d
+register_written c d ws Unused v = d

@@ -1,11 +1,11 @@
 // A read with what it does, and a write with what it does before anything is sent.
 ghost use Rattle.std.specs.Prelude.{◌≡◌, ◌<◌, length};
-ghost use Rattle.sizes.specs.Sizes.{domainSize};
-ghost use Rattle.domain_values.specs.Values.{domaincfgMark};
+ghost use Rattle.sizes.specs.Sizes.{domain_size};
+ghost use Rattle.domain_values.specs.Values.{domaincfg_mark};
 ghost use Rattle.domain_region.specs.Region.{Within};
-ghost use Rattle.domain.specs.Domain.{domainOf, domaincfgOf};
-ghost use Rattle.domain_registers.specs.Read.{registerValue, claimedBy};
-ghost use Rattle.domain_registers.specs.Write.{registerWritten};
+ghost use Rattle.domain.specs.Domain.{domain_of, domaincfg_of};
+ghost use Rattle.domain_registers.specs.Read.{register_value, claimed_by};
+ghost use Rattle.domain_registers.specs.Write.{register_written};
 
 use domain_direct::Setting;
 use domain_region::{Role, Word, role_of};
@@ -15,10 +15,10 @@ use source::Change;
 
 // A read, with what it does.
 pub fn read(part: &mut [u32], wires: [u32; SOURCE_SET_SIZE], word: Word) -> u32
-    requires { (length part.old ≡ domainSize) × (domaincfgOf (domainOf part.old) < domaincfgMark)
+    requires { (length part.old ≡ domain_size) × (domaincfg_of (domain_of part.old) < domaincfg_mark)
         × Within word }
-    ensures { (result ≡ registerValue (domainOf part.old) wires word)
-        × (domainOf part.new ≡ claimedBy (domainOf part.old) word) }
+    ensures { (result ≡ register_value (domain_of part.old) wires word)
+        × (domain_of part.new ≡ claimed_by (domain_of part.old) word) }
 {
     match role_of(word) {
         Role::Claims(h) => domain_direct::claim(part, h as usize),
@@ -27,9 +27,9 @@ pub fn read(part: &mut [u32], wires: [u32; SOURCE_SET_SIZE], word: Word) -> u32
 }
 
 pub fn write(part: &mut [u32], child: bool, wires: [u32; SOURCE_SET_SIZE], word: Word, value: u32)
-    requires { (length part.old ≡ domainSize) × Within word }
-    ensures { domainOf part.new
-        ≡ registerWritten child (domainOf part.old) wires word value }
+    requires { (length part.old ≡ domain_size) × Within word }
+    ensures { domain_of part.new
+        ≡ register_written child (domain_of part.old) wires word value }
 {
     match word {
         Word::Domaincfg => domain_domaincfg::write_domaincfg(part, wires, value),

@@ -19,13 +19,13 @@ use lib.Seq.{sets, sets-eq, length-sets, take_at, drop_at, drop-drop}
 use Rattle.words.specs.Sets.{put}
 use Rattle.words.proofs.TestsLaws.{tested}
 use Rattle.words.proofs.WalkLaws.{Walk, walk-next}
-use Rattle.source_target.specs.Target.{messageOf}
+use Rattle.source_target.specs.Target.{message_of}
 use Rattle.source.specs.declared.Source.{Source}
-use Rattle.domain.specs.Domain.{Domain, withPendings}
-use Rattle.domain.specs.Slot.{sourceAt, standing}
-use Rattle.domain_laws.proofs.SlotEffects.{standing-withSource-other, candidate-unstanding}
-use Rattle.domain_laws.proofs.SlotEffects.{withSource-pending}
-use Rattle.domain_sending.specs.Sending.{candidate, served_at, messagesAt, sentFrom, logged}
+use Rattle.domain.specs.Domain.{Domain, with_pendings}
+use Rattle.domain.specs.Slot.{source_at, standing}
+use Rattle.domain_laws.proofs.SlotEffects.{standing-with_source-other, candidate-unstanding}
+use Rattle.domain_laws.proofs.SlotEffects.{with_source-pending}
+use Rattle.domain_sending.specs.Sending.{candidate, served_at, messages_at, sent_from, logged}
 use Rattle.domain_sending.proofs.SendingLaws.{served-hit, served-miss, messages-hit, messages-miss}
 use Rattle.domain_sending.proofs.SendingLaws.{messages-le, from_zero, from-domain, from-messages}
 use Rattle.domain_sending.proofs.SendingLaws.{from-skip}
@@ -47,10 +47,10 @@ module _ (l ms : List ℕ) (n : ℕ) (h : n + length ms ≤ length l) where
 
 -- ---- one turn, as the code makes it
 
-module _ (c : Bool) (d : Domain) (l : List ℕ) (i n : ℕ) (s : Source) (e : s ≡ sourceAt d i) where
+module _ (c : Bool) (d : Domain) (l : List ℕ) (i n : ℕ) (s : Source) (e : s ≡ source_at d i) where
   abbrev Turned : Domain → List ℕ → ℕ → Type 0
   Turned d' l' n' =
-      (d' ≡ served_at d i) × (l' ≡ sets l n (messagesAt c d i)) × (n' ≡ n + length (messagesAt c d i))
+      (d' ≡ served_at d i) × (l' ≡ sets l n (messages_at c d i)) × (n' ≡ n + length (messages_at c d i))
 
   pub turn-miss : candidate s ≡ false → Turned d l n
   turn-miss f =
@@ -61,20 +61,20 @@ module _ (c : Bool) (d : Domain) (l : List ℕ) (i n : ℕ) (s : Source) (e : s 
       )
 
   pub turn-hit : candidate s ≡ true → (d' : Domain) (m : ℕ)
-      → d' ≡ withPendings d (put d.pending i false)
-      → m ≡ messageOf c s.target → Turned d' (set l n m) (n + 1)
+      → d' ≡ with_pendings d (put d.pending i false)
+      → m ≡ message_of c s.target → Turned d' (set l n m) (n + 1)
   turn-hit t d' m ed em =
       let hit = ap candidate (sym e) ∙ t in (
-        ed ∙ withSource-pending d i false ∙ sym (served-hit d i hit),
-        rw (messages-hit c d i hit) (ap (set l n) (em ∙ ap (λ (x : Source). messageOf c x.target) e)),
+        ed ∙ with_source-pending d i false ∙ sym (served-hit d i hit),
+        rw (messages-hit c d i hit) (ap (set l n) (em ∙ ap (λ (x : Source). message_of c x.target) e)),
         omega (arith, ap length (messages-hit c d i hit)),
       )
 
 -- the turn of a source leaves which others stand
 standing-served : (d : Domain) (i j : ℕ) → j ≢ i → standing d j ≡ standing (served_at d i) j
 standing-served d i j n =
-    tested (candidate (sourceAt d i))
-    (λ t. sym (ap (λ (e : Domain). standing e j) (served-hit d i t) ∙ standing-withSource-other d i _ j n))
+    tested (candidate (source_at d i))
+    (λ t. sym (ap (λ (e : Domain). standing e j) (served-hit d i t) ∙ standing-with_source-other d i _ j n))
     (λ f. sym (ap (λ (e : Domain). standing e j) (served-miss d i f)))
 
 pub walk-served : (d : Domain) {all rest i : ℕ} → Walk (standing d) all rest i → rest ≢ 0 → (d' : Domain)
@@ -87,25 +87,25 @@ walk-served d w some d' e =
 -- ---- one turn, as the code counts
 
 module _ (c : Bool) (d : Domain) (i : ℕ) (h : i < 64) where
-  turn-domain : (sentFrom c d i (64 - i)).domain ≡ (sentFrom c (served_at d i) (i + 1) (64 - (i + 1))).domain
+  turn-domain : (sent_from c d i (64 - i)).domain ≡ (sent_from c (served_at d i) (i + 1) (64 - (i + 1))).domain
   turn-domain =
-      ap (λ (k : ℕ). (sentFrom c d i k).domain) (omega arith) ∙ from-domain c d i (64 - (i + 1))
-      ∙ ap (λ (k : ℕ). (sentFrom c (served_at d i) k (64 - (i + 1))).domain) (omega arith)
+      ap (λ (k : ℕ). (sent_from c d i k).domain) (omega arith) ∙ from-domain c d i (64 - (i + 1))
+      ∙ ap (λ (k : ℕ). (sent_from c (served_at d i) k (64 - (i + 1))).domain) (omega arith)
 
-  turn-messages : (sentFrom c d i (64 - i)).messages
-      ≡ messagesAt c d i ++ (sentFrom c (served_at d i) (i + 1) (64 - (i + 1))).messages
+  turn-messages : (sent_from c d i (64 - i)).messages
+      ≡ messages_at c d i ++ (sent_from c (served_at d i) (i + 1) (64 - (i + 1))).messages
   turn-messages =
-      ap (λ (k : ℕ). (sentFrom c d i k).messages) (omega arith) ∙ from-messages c d i (64 - (i + 1))
-      ∙ ap (λ (k : ℕ). messagesAt c d i ++ (sentFrom c (served_at d i) k (64 - (i + 1))).messages) (omega arith)
+      ap (λ (k : ℕ). (sent_from c d i k).messages) (omega arith) ∙ from-messages c d i (64 - (i + 1))
+      ∙ ap (λ (k : ℕ). messages_at c d i ++ (sent_from c (served_at d i) k (64 - (i + 1))).messages) (omega arith)
 
 -- sources that are not to be sent, as the code counts
 skipped : (c : Bool) (d : Domain) (i k : ℕ) → i ≤ k → k ≤ 64
     → ((j : ℕ) → i ≤ j → j < k → standing d j ≡ false)
-    → sentFrom c d i (64 - i) ≡ sentFrom c d k (64 - k)
+    → sent_from c d i (64 - i) ≡ sent_from c d k (64 - k)
 skipped c d i k lo hi none =
-    ap (sentFrom c d i) (omega arith) ∙ from-skip c d i (k - i) (64 - k)
+    ap (sent_from c d i) (omega arith) ∙ from-skip c d i (k - i) (64 - k)
     (λ j l h. candidate-unstanding d j (none j l (omega arith)))
-    ∙ ap (λ (j : ℕ). sentFrom c d j (64 - k)) (omega arith)
+    ∙ ap (λ (j : ℕ). sent_from c d j (64 - k)) (omega arith)
 
 -- ---- the pass
 
@@ -114,8 +114,8 @@ pub record SoFar (c : Bool) (d₀ : Domain) (l₀ : List ℕ) (d : Domain) (l : 
   pub high : i ≤ 64
   pub fewer : n < i
   pub long : length l ≡ 63
-  pub domains : (sentFrom c d₀ 1 63).domain ≡ (sentFrom c d i (64 - i)).domain
-  pub messages : (sentFrom c d₀ 1 63).messages ≡ take n l ++ (sentFrom c d i (64 - i)).messages
+  pub domains : (sent_from c d₀ 1 63).domain ≡ (sent_from c d i (64 - i)).domain
+  pub messages : (sent_from c d₀ 1 63).messages ≡ take n l ++ (sent_from c d i (64 - i)).messages
   pub behind : drop n l ≡ drop n l₀
 
 pub pass-start : (c : Bool) (d : Domain) (l : List ℕ) → length l ≡ 63 → SoFar c d l d l 1 0
@@ -149,12 +149,12 @@ skip c d₀ l₀ d l i n s k lo hi none =
 module _ (c : Bool) (d₀ : Domain) (l₀ : List ℕ) (d : Domain) (l : List ℕ) (i n : ℕ)
     (s : SoFar c d₀ l₀ d l i n) where
   abbrev ms : List ℕ
-  ms = messagesAt c d i
+  ms = messages_at c d i
 
   next : i < 64 → SoFar c d₀ l₀ (served_at d i) (sets l n ms) (i + 1) (n + length ms)
   next h =
       let fits : n + length ms ≤ length l = omega (arith, messages-le c d i) in
-      let later = (sentFrom c (served_at d i) (i + 1) (64 - (i + 1))).messages in
+      let later = (sent_from c (served_at d i) (i + 1) (64 - (i + 1))).messages in
       record {
         low = omega arith;
         high = omega arith;
@@ -174,16 +174,16 @@ module _ (c : Bool) (d₀ : Domain) (l₀ : List ℕ) (d : Domain) (l : List ℕ
 module _ (c : Bool) (d₀ : Domain) (l₀ : List ℕ) (d : Domain) (l : List ℕ) (n : ℕ)
     (s : SoFar c d₀ l₀ d l 64 n) where
   abbrev all : List ℕ
-  all = (sentFrom c d₀ 1 63).messages
+  all = (sent_from c d₀ 1 63).messages
 
   front : take n l ≡ all
   front =
       sym (s.messages ∙ ap (λ r. take n l ++ r.messages) (from_zero c d 64) ∙ append-nil (take n l))
 
-  last : d ≡ (sentFrom c d₀ 1 63).domain
+  last : d ≡ (sent_from c d₀ 1 63).domain
   last = sym (s.domains ∙ ap (λ r. r.domain) (from_zero c d 64))
 
-  end : (d ≡ (sentFrom c d₀ 1 63).domain) × (l ≡ logged l₀ all) × (n ≡ length all)
+  end : (d ≡ (sent_from c d₀ 1 63).domain) × (l ≡ logged l₀ all) × (n ≡ length all)
   end =
       let fits : n ≤ length l = omega arith in
       (last, logged-is l₀ l all n fits front s.behind, logged-count l₀ l all n fits front)
@@ -192,12 +192,12 @@ module _ (c : Bool) (d₀ : Domain) (l₀ : List ℕ) (d : Domain) (l : List ℕ
     (s : SoFar c d₀ l₀ d l i n) where
   pub pass-next : (k : ℕ) → i ≤ k → k < 64
       → ((j : ℕ) → i ≤ j → j < k → standing d j ≡ false)
-      → (d' : Domain) (l' : List ℕ) (n' : ℕ) → d' ≡ served_at d k → l' ≡ sets l n (messagesAt c d k)
-      → n' ≡ n + length (messagesAt c d k) → SoFar c d₀ l₀ d' l' (k + 1) n'
+      → (d' : Domain) (l' : List ℕ) (n' : ℕ) → d' ≡ served_at d k → l' ≡ sets l n (messages_at c d k)
+      → n' ≡ n + length (messages_at c d k) → SoFar c d₀ l₀ d' l' (k + 1) n'
   pass-next k lo hi none d' l' n' ed el en =
       rw (ed, el, en) (next c d₀ l₀ d l k n (skip c d₀ l₀ d l i n s k lo (omega arith) none) hi)
 
   pub pass-end : ((j : ℕ) → i ≤ j → j < 64 → standing d j ≡ false)
-      → (d ≡ (sentFrom c d₀ 1 63).domain) × (l ≡ logged l₀ (sentFrom c d₀ 1 63).messages)
-      × (n ≡ length (sentFrom c d₀ 1 63).messages)
+      → (d ≡ (sent_from c d₀ 1 63).domain) × (l ≡ logged l₀ (sent_from c d₀ 1 63).messages)
+      × (n ≡ length (sent_from c d₀ 1 63).messages)
   pass-end none = end c d₀ l₀ d l n (skip c d₀ l₀ d l i n s 64 s.high (omega arith) none)

@@ -8,86 +8,86 @@ use native.Mathlib.Omega.{arith}
 use lib.ListN.{length, take, drop, set, take-append-drop}
 use lib.Seq.{length-take-le}
 use Rattle.words.proofs.TestsLaws.{tested}
-use Rattle.source_target.specs.Target.{messageOf}
-use Rattle.source.specs.Pending.{withPending}
+use Rattle.source_target.specs.Target.{message_of}
+use Rattle.source.specs.Pending.{with_pending}
 use Rattle.domain.specs.Domain.{Domain, sends}
-use Rattle.domain.specs.Slot.{sourceAt, withSource}
-use Rattle.domain_sending.specs.Sending.{Sent, candidate, sentNothing, served_at, messagesAt, sentFrom}
+use Rattle.domain.specs.Slot.{source_at, with_source}
+use Rattle.domain_sending.specs.Sending.{Sent, candidate, sent_nothing, served_at, messages_at, sent_from}
 use Rattle.domain_sending.specs.Sending.{sent}
 use Rattle.domain_sending.specs.Sending.{logged}
 
 -- ---- the turn of one source
 
 module _ (d : Domain) (i : ℕ) where
-  pub served-hit : candidate (sourceAt d i) ≡ true
-      → served_at d i ≡ withSource d i (withPending (sourceAt d i) false)
+  pub served-hit : candidate (source_at d i) ≡ true
+      → served_at d i ≡ with_source d i (with_pending (source_at d i) false)
   unfolding served_at
   served-hit e = simp e
 
-  pub served-miss : candidate (sourceAt d i) ≡ false → served_at d i ≡ d
+  pub served-miss : candidate (source_at d i) ≡ false → served_at d i ≡ d
   unfolding served_at
   served-miss e = simp e
 
 module _ (c : Bool) (d : Domain) (i : ℕ) where
-  pub messages-hit : candidate (sourceAt d i) ≡ true
-      → messagesAt c d i ≡ messageOf c (sourceAt d i).target ∷ []
-  unfolding messagesAt
+  pub messages-hit : candidate (source_at d i) ≡ true
+      → messages_at c d i ≡ message_of c (source_at d i).target ∷ []
+  unfolding messages_at
   messages-hit e = simp e
 
-  pub messages-miss : candidate (sourceAt d i) ≡ false → messagesAt c d i ≡ []
-  unfolding messagesAt
+  pub messages-miss : candidate (source_at d i) ≡ false → messages_at c d i ≡ []
+  unfolding messages_at
   messages-miss e = simp e
 
-  pub messages-le : length (messagesAt c d i) ≤ 1
+  pub messages-le : length (messages_at c d i) ≤ 1
   messages-le =
-      tested (candidate (sourceAt d i)) (λ t. omega (arith, ap length (messages-hit t)))
+      tested (candidate (source_at d i)) (λ t. omega (arith, ap length (messages-hit t)))
       (λ f. omega (arith, ap length (messages-miss f)))
 
 -- ---- the pass
 
 module _ (c : Bool) (d : Domain) (i : ℕ) where
-  pub from_zero : sentFrom c d i 0 ≡ sentNothing d
-  unfolding sentFrom
+  pub from_zero : sent_from c d i 0 ≡ sent_nothing d
+  unfolding sent_from
   from_zero = refl
 
-  pub from-domain : (n : ℕ) → (sentFrom c d i (suc n)).domain ≡ (sentFrom c (served_at d i) (suc i) n).domain
-  unfolding sentFrom
+  pub from-domain : (n : ℕ) → (sent_from c d i (suc n)).domain ≡ (sent_from c (served_at d i) (suc i) n).domain
+  unfolding sent_from
   from-domain n = refl
 
   pub from-messages : (n : ℕ)
-      → (sentFrom c d i (suc n)).messages ≡ messagesAt c d i ++ (sentFrom c (served_at d i) (suc i) n).messages
-  unfolding sentFrom
+      → (sent_from c d i (suc n)).messages ≡ messages_at c d i ++ (sent_from c (served_at d i) (suc i) n).messages
+  unfolding sent_from
   from-messages n = refl
 
-  from-miss : (n : ℕ) → candidate (sourceAt d i) ≡ false → sentFrom c d i (suc n) ≡ sentFrom c d (suc i) n
-  unfolding sentFrom
+  from-miss : (n : ℕ) → candidate (source_at d i) ≡ false → sent_from c d i (suc n) ≡ sent_from c d (suc i) n
+  unfolding sent_from
   from-miss n miss = simp (served-miss d i miss, messages-miss c d i miss)
 
 -- sources that are not to be sent are passed over
 pub from-skip : (c : Bool) (d : Domain) (i m n : ℕ)
-    → ((j : ℕ) → i ≤ j → j < i + m → candidate (sourceAt d j) ≡ false)
-    → sentFrom c d i (m + n) ≡ sentFrom c d (i + m) n
-from-skip c d i zero n none = ap₂ (sentFrom c d) (omega arith) (omega arith)
+    → ((j : ℕ) → i ≤ j → j < i + m → candidate (source_at d j) ≡ false)
+    → sent_from c d i (m + n) ≡ sent_from c d (i + m) n
+from-skip c d i zero n none = ap₂ (sent_from c d) (omega arith) (omega arith)
 from-skip c d i (suc m) n none =
     let miss = none i (omega arith) (omega arith) in
-    ap (sentFrom c d i) (omega arith) ∙ from-miss c d i (m + n) miss
+    ap (sent_from c d i) (omega arith) ∙ from-miss c d i (m + n) miss
     ∙ from-skip c d (suc i) m n (λ j l h. none j (omega arith) (omega arith))
-    ∙ ap (λ (k : ℕ). sentFrom c d k n) (omega arith)
+    ∙ ap (λ (k : ℕ). sent_from c d k n) (omega arith)
 
 -- a pass that meets no candidate changes nothing and sends nothing
 pub from-none : (c : Bool) (d : Domain) (i n : ℕ)
-    → ((j : ℕ) → i ≤ j → j < i + n → candidate (sourceAt d j) ≡ false) → sentFrom c d i n ≡ sentNothing d
+    → ((j : ℕ) → i ≤ j → j < i + n → candidate (source_at d j) ≡ false) → sent_from c d i n ≡ sent_nothing d
 from-none c d i n none =
-    ap (sentFrom c d i) (omega arith) ∙ from-skip c d i n 0 none ∙ from_zero c d (i + n)
+    ap (sent_from c d i) (omega arith) ∙ from-skip c d i n 0 none ∙ from_zero c d (i + n)
 
 -- ---- the pass of a domain that sends, and of one that does not
 
 module _ (c : Bool) (d : Domain) where
-  pub sent-on : sends d ≡ true → sent c d ≡ sentFrom c d 1 63
+  pub sent-on : sends d ≡ true → sent c d ≡ sent_from c d 1 63
   unfolding sent
   sent-on e = simp e
 
-  pub sent-off : sends d ≡ false → sent c d ≡ sentNothing d
+  pub sent-off : sends d ≡ false → sent c d ≡ sent_nothing d
   unfolding sent
   sent-off e = simp e
 
@@ -117,7 +117,7 @@ module _ (l₀ l ms : List ℕ) (n : ℕ) (h : n ≤ length l) (front : take n l
 abbrev Answered : Sent → List ℕ → Domain → List ℕ → ℕ → Type 0
 Answered s l d' l' r = (d' ≡ s.domain) × (l' ≡ logged l s.messages) × (r ≡ length s.messages)
 
-pub answered-nothing : (s : Sent) (d : Domain) (l : List ℕ) → s ≡ sentNothing d → Answered s l d l 0
+pub answered-nothing : (s : Sent) (d : Domain) (l : List ℕ) → s ≡ sent_nothing d → Answered s l d l 0
 answered-nothing s d l e = rw e (refl, sym (logged_none l), refl)
 
 pub answered-same : (s t : Sent) (l : List ℕ) (d' : Domain) (l' : List ℕ) (r : ℕ) → s ≡ t

@@ -9,22 +9,22 @@ use native.Mathlib.Omega.{arith}
 use lib.ListN.{length, get_or, take, drop, length-append, get_or-append}
 use lib.Seq.{get_or-append-add, take_at}
 use Rattle.words.proofs.TestsLaws.{tested, not_same}
-use Rattle.file_message.specs.Message.{logWord, fileIn}
-use Rattle.source_target.specs.Target.{hartOf, guestOf, number_of, messageOf}
-use Rattle.domain_genmsi.specs.Genmsi.{genmsiMessage}
-use Rattle.source_target.proofs.TargetLaws.{hartOf-lt, guestOf-lt, numberOf-lt, message-child}
+use Rattle.file_message.specs.Message.{log_word, file_in}
+use Rattle.source_target.specs.Target.{hart_of, guest_of, number_of, message_of}
+use Rattle.domain_genmsi.specs.Genmsi.{genmsi_message}
+use Rattle.source_target.proofs.TargetLaws.{hart_of-lt, guest_of-lt, number_of-lt, message-child}
 use Rattle.source_target.proofs.TargetLaws.{message-machine}
-use Rattle.file_message.proofs.MessageLaws.{fileIn-logWord}
+use Rattle.file_message.proofs.MessageLaws.{file_in-log_word}
 use Rattle.domain_genmsi.proofs.GenmsiLaws.{genmsi-child, genmsi-machine}
 use Rattle.domain.specs.Domain.{Domain, sends}
-use Rattle.domain.specs.Slot.{sourceAt}
-use Rattle.domain_sending.specs.Sending.{candidate, served_at, messagesAt, sentFrom, sent, logged}
+use Rattle.domain.specs.Slot.{source_at}
+use Rattle.domain_sending.specs.Sending.{candidate, served_at, messages_at, sent_from, sent, logged}
 use Rattle.domain_sending.proofs.SendingLaws.{messages-hit, messages-miss, sent-on, sent-off}
 use Rattle.domain_sending_laws.specs.Candidates.{Names}
 
 -- ---- a message, to the file that its target names
 
-module _ (c : Bool) (m f : ℕ) (e : fileIn m ≡ f) where
+module _ (c : Bool) (m f : ℕ) (e : file_in m ≡ f) where
   names-child : c ≡ true → 1 ≤ f → f < 5 → Names c m
   names-child y l h =
       record { exists = omega arith; machine = λ n. absurd (not_same c y n); child = λ _. omega arith }
@@ -35,34 +35,34 @@ module _ (c : Bool) (m f : ℕ) (e : fileIn m ≡ f) where
 
 module _ (c : Bool) (t : ℕ) where
   -- a log word with the target's hart and identity
-  abbrev wordTo : ℕ → ℕ
-  wordTo f = logWord (hartOf t) f (number_of t)
+  abbrev word_to : ℕ → ℕ
+  word_to f = log_word (hart_of t) f (number_of t)
 
-  fileIn-wordTo : (f : ℕ) → f < 8 → fileIn (wordTo f) ≡ f
-  fileIn-wordTo f h = fileIn-logWord (hartOf t) f (number_of t) (hartOf-lt t) h (numberOf-lt t)
+  file_in-word_to : (f : ℕ) → f < 8 → file_in (word_to f) ≡ f
+  file_in-word_to f h = file_in-log_word (hart_of t) f (number_of t) (hart_of-lt t) h (number_of-lt t)
 
-  pub fileIn-child : c ≡ true → fileIn (messageOf c t) ≡ guestOf t + 1
-  fileIn-child e =
-      ap fileIn (message-child c t e) ∙ fileIn-wordTo (guestOf t + 1) (omega (arith, guestOf-lt t))
+  pub file_in-child : c ≡ true → file_in (message_of c t) ≡ guest_of t + 1
+  file_in-child e =
+      ap file_in (message-child c t e) ∙ file_in-word_to (guest_of t + 1) (omega (arith, guest_of-lt t))
 
-  pub fileIn-machine : c ≡ false → fileIn (messageOf c t) ≡ 0
-  fileIn-machine e = ap fileIn (message-machine c t e) ∙ fileIn-wordTo 0 (omega arith)
+  pub file_in-machine : c ≡ false → file_in (message_of c t) ≡ 0
+  file_in-machine e = ap file_in (message-machine c t e) ∙ file_in-word_to 0 (omega arith)
 
-  pub message-names : Names c (messageOf c t)
+  pub message-names : Names c (message_of c t)
   message-names =
       tested c
-      (λ y. names-child c (messageOf c t) (guestOf t + 1) (fileIn-child y) y (omega arith)
-      (omega (arith, guestOf-lt t)))
-      (λ n. names-machine c (messageOf c t) 0 (fileIn-machine n) n refl)
+      (λ y. names-child c (message_of c t) (guest_of t + 1) (file_in-child y) y (omega arith)
+      (omega (arith, guest_of-lt t)))
+      (λ n. names-machine c (message_of c t) 0 (file_in-machine n) n refl)
 
   -- the message of a genmsi write, to the machine file or the supervisor file
-  pub genmsi-names : Names c (genmsiMessage c t)
+  pub genmsi-names : Names c (genmsi_message c t)
   genmsi-names =
       tested c
-      (λ y. names-child c (genmsiMessage c t) 1
-      (ap fileIn (genmsi-child c t y) ∙ fileIn-wordTo 1 (omega arith)) y (omega arith) (omega arith))
-      (λ n. names-machine c (genmsiMessage c t) 0
-      (ap fileIn (genmsi-machine c t n) ∙ fileIn-wordTo 0 (omega arith)) n refl)
+      (λ y. names-child c (genmsi_message c t) 1
+      (ap file_in (genmsi-child c t y) ∙ file_in-word_to 1 (omega arith)) y (omega arith) (omega arith))
+      (λ n. names-machine c (genmsi_message c t) 0
+      (ap file_in (genmsi-machine c t n) ∙ file_in-word_to 0 (omega arith)) n refl)
 
 -- ---- what holds of every word of a list
 
@@ -89,18 +89,18 @@ every_append P us vs hu hv k h = at (dec_lt k (length us))
 
 -- ---- the messages of a pass
 
-turn-named : (c : Bool) (d : Domain) (i : ℕ) → Every (Names c) (messagesAt c d i)
+turn-named : (c : Bool) (d : Domain) (i : ℕ) → Every (Names c) (messages_at c d i)
 turn-named c d i =
-    let t = (sourceAt d i).target in
-    tested (candidate (sourceAt d i))
-    (λ y. rw (messages-hit c d i y) (every_one (Names c) (messageOf c t) (message-names c t)))
+    let t = (source_at d i).target in
+    tested (candidate (source_at d i))
+    (λ y. rw (messages-hit c d i y) (every_one (Names c) (message_of c t) (message-names c t)))
     (λ n. rw (messages-miss c d i n) (every-none (Names c)))
 
-pub from_named : (c : Bool) (d : Domain) (i n : ℕ) → Every (Names c) (sentFrom c d i n).messages
-unfolding sentFrom
+pub from_named : (c : Bool) (d : Domain) (i n : ℕ) → Every (Names c) (sent_from c d i n).messages
+unfolding sent_from
 from_named c d i zero = every-none (Names c)
 from_named c d i (suc n) =
-    every_append (Names c) (messagesAt c d i) (sentFrom c (served_at d i) (suc i) n).messages
+    every_append (Names c) (messages_at c d i) (sent_from c (served_at d i) (suc i) n).messages
     (turn-named c d i) (from_named c (served_at d i) (suc i) n)
 
 module _ (c : Bool) (d : Domain) where

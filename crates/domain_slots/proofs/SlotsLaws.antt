@@ -8,19 +8,19 @@ use native.Mathlib.Omega.{arith}
 use lib.Bits.{bit_or}
 use lib.Dec.{eqb}
 use borrow.Author.Tests.{ne_eqb}
-use Rattle.words.specs.Bits.{hasBit, withBit}
+use Rattle.words.specs.Bits.{has_bit, with_bit}
 use Rattle.words.specs.Every.{every}
 use Rattle.words.proofs.EveryLaws.{every-none, every_more}
 use Rattle.words_masks.specs.Masks.{gathered}
-use Rattle.words_masks.proofs.MasksLaws.{gathered-first, gathered-more, hasBit-gathered}
-use Rattle.source_mode.specs.Mode.{keptMode}
-use Rattle.source_target.specs.Target.{keptTarget}
+use Rattle.words_masks.proofs.MasksLaws.{gathered-first, gathered-more, has_bit-gathered}
+use Rattle.source_mode.specs.Mode.{kept_mode}
+use Rattle.source_target.specs.Target.{kept_target}
 use Rattle.source.specs.declared.Source.{Source}
-use Rattle.source_rules.specs.SourceParts.{heldBack, occupied, straightWord, invertedWord, slotSound}
+use Rattle.source_rules.specs.SourceParts.{held_back, occupied, straight_word, inverted_word, slot_sound}
 use Rattle.source_laws.proofs.PartsEffects.{occupied-held, straight-off, inverted-off, faults-occupied}
 use Rattle.source_laws.proofs.PartsEffects.{faults-empty}
-use Rattle.domain.specs.Domain.{Domain, byMessages}
-use Rattle.domain.specs.Slot.{sourceAt}
+use Rattle.domain.specs.Domain.{Domain, by_messages}
+use Rattle.domain.specs.Slot.{source_at}
 use Rattle.domain_slots.specs.declared.Gathered.{Gathered}
 use Rattle.domain_slots.specs.Slots.{slot_at, has, SoFar, Slotted}
 
@@ -35,9 +35,9 @@ chosen-off b x y e = simp e
 -- a source whose word is occupied, by what the code left of each field
 module _ (c m : Bool) (w t i : ℕ) (g : Gathered) (o : occupied c w ≡ true) where
   pub slotted-occupied : (x y : ℕ) {a s v : ℕ}
-      → eqb x 0 ≡ eqb t (keptTarget c m t) → eqb y 0 ≡ eqb w (keptMode w) → a ≡ withBit g.active i
-      → s ≡ cond (straightWord w) (withBit g.straight i) g.straight
-      → v ≡ cond (invertedWord w) (withBit g.inverted i) g.inverted
+      → eqb x 0 ≡ eqb t (kept_target c m t) → eqb y 0 ≡ eqb w (kept_mode w) → a ≡ with_bit g.active i
+      → s ≡ cond (straight_word w) (with_bit g.straight i) g.straight
+      → v ≡ cond (inverted_word w) (with_bit g.inverted i) g.inverted
       → Slotted c m w t i g
       (record {
         faults = bit_or (bit_or g.faults x) y;
@@ -48,16 +48,16 @@ module _ (c m : Bool) (w t i : ℕ) (g : Gathered) (o : occupied c w ≡ true) w
       })
   slotted-occupied x y p q a s v = record {
     faults = faults-occupied c m w t g.faults x y o p q;
-    active = a ∙ sym (chosen_on (occupied c w) (withBit g.active i) g.active o);
+    active = a ∙ sym (chosen_on (occupied c w) (with_bit g.active i) g.active o);
     delegated =
-        sym (chosen-off (heldBack c w) (withBit g.delegated i) g.delegated (occupied-held c w o));
+        sym (chosen-off (held_back c w) (with_bit g.delegated i) g.delegated (occupied-held c w o));
     straight = s;
     inverted = v;
   }
 
 -- a source that is none of the domain's: it has no bit but, where it is held back, that of delegation
 module _ (c m : Bool) (w t i : ℕ) (g : Gathered) (o : occupied c w ≡ false) (a : w ≢ 6) (b : w ≢ 7) where
-  pub slotted-empty : {x : ℕ} → x ≡ cond (heldBack c w) (withBit g.delegated i) g.delegated
+  pub slotted-empty : {x : ℕ} → x ≡ cond (held_back c w) (with_bit g.delegated i) g.delegated
       → Slotted c m w t i g
       (record {
         faults = bit_or g.faults t;
@@ -68,10 +68,10 @@ module _ (c m : Bool) (w t i : ℕ) (g : Gathered) (o : occupied c w ≡ false) 
       })
   slotted-empty x = record {
     faults = faults-empty c m w t g.faults o;
-    active = sym (chosen-off (occupied c w) (withBit g.active i) g.active o);
+    active = sym (chosen-off (occupied c w) (with_bit g.active i) g.active o);
     delegated = x;
-    straight = sym (straight-off w (withBit g.straight i) g.straight a);
-    inverted = sym (inverted-off w (withBit g.inverted i) g.inverted b);
+    straight = sym (straight-off w (with_bit g.straight i) g.straight a);
+    inverted = sym (inverted-off w (with_bit g.inverted i) g.inverted b);
   }
 
 -- ---- the sources so far
@@ -79,10 +79,10 @@ module _ (c m : Bool) (w t i : ℕ) (g : Gathered) (o : occupied c w ≡ false) 
 -- a bit more of what is gathered
 module _ (q : ℕ → Bool) (d : Domain) (i : ℕ) (h : 0 < i) where
   pub has_more : {x y : ℕ} → x ≡ gathered (has q d) i
-      → y ≡ cond (q (sourceAt d i).mode) (withBit x i) x → y ≡ gathered (has q d) (i + 1)
+      → y ≡ cond (q (source_at d i).mode) (with_bit x i) x → y ≡ gathered (has q d) (i + 1)
   unfolding has
-  has_more e n = n ∙ (λ k. cond (q (sourceAt d i).mode) (withBit (e k) i) (e k))
-      ∙ ap (λ (b : Bool). cond (not b && q (sourceAt d i).mode) (withBit (gathered (has q d) i) i)
+  has_more e n = n ∙ (λ k. cond (q (source_at d i).mode) (with_bit (e k) i) (e k))
+      ∙ ap (λ (b : Bool). cond (not b && q (source_at d i).mode) (with_bit (gathered (has q d) i) i)
       (gathered (has q d) i)) (sym (ne_eqb i 0 (λ z. omega arith)))
       ∙ sym (gathered-more (has q d) i)
 
@@ -95,9 +95,9 @@ pub so-far-none : (c : Bool) (d : Domain)
 so-far-none c d = record {
   faults = sym (every-none (slot_at c d) 1);
   active = none-gathered (occupied c) d;
-  delegated = none-gathered (heldBack c) d;
-  straight = none-gathered straightWord d;
-  inverted = none-gathered invertedWord d;
+  delegated = none-gathered (held_back c) d;
+  straight = none-gathered straight_word d;
+  inverted = none-gathered inverted_word d;
 }
 
 -- the place of the next source, in one sum
@@ -110,7 +110,7 @@ pub so-far-end : (c : Bool) (d : Domain) (i : ℕ) {g : Gathered} → i ≡ 64 �
 so-far-end c d i {g} e s = transport (λ j. SoFar c d (e j) g) s
 
 module _ (c : Bool) (d : Domain) (i : ℕ) (g r : Gathered) (h : 0 < i) where
-  pub so_far_more : SoFar c d i g → Slotted c (byMessages d) (sourceAt d i).mode (sourceAt d i).target i g r
+  pub so_far_more : SoFar c d i g → Slotted c (by_messages d) (source_at d i).mode (source_at d i).target i g r
       → SoFar c d (i + 1) r
   unfolding slot_at
   so_far_more s n = record {
@@ -121,31 +121,31 @@ module _ (c : Bool) (d : Domain) (i : ℕ) (g r : Gathered) (h : 0 < i) where
         ∙ sym (every_more (slot_at c d) 1 (i - 1))
         ∙ (let e : (i - 1) + 1 ≡ (i + 1) - 1 = omega arith in ap (every (slot_at c d) 1) e);
     active = has_more (occupied c) d i h s.active n.active;
-    delegated = has_more (heldBack c) d i h s.delegated n.delegated;
-    straight = has_more straightWord d i h s.straight n.straight;
-    inverted = has_more invertedWord d i h s.inverted n.inverted;
+    delegated = has_more (held_back c) d i h s.delegated n.delegated;
+    straight = has_more straight_word d i h s.straight n.straight;
+    inverted = has_more inverted_word d i h s.inverted n.inverted;
   }
 
-  pub slotted-read : {m : Bool} {x : Source} → m ≡ byMessages d → x ≡ sourceAt d i
+  pub slotted-read : {m : Bool} {x : Source} → m ≡ by_messages d → x ≡ source_at d i
       → Slotted c m x.mode x.target i g r
-      → Slotted c (byMessages d) (sourceAt d i).mode (sourceAt d i).target i g r
+      → Slotted c (by_messages d) (source_at d i).mode (source_at d i).target i g r
   slotted-read p q s = transport (λ k. Slotted c (p k) (q k).mode (q k).target i g r) s
 
 -- ---- what the pass says in the end
 
 -- what is gathered, at a source and at 0
 module _ (q : ℕ → Bool) (d : Domain) (x : ℕ) (g : x ≡ gathered (has q d) 64) where
-  pub bit-of : (j : ℕ) → 1 ≤ j → j < 64 → hasBit x j ≡ q (sourceAt d j).mode
+  pub bit-of : (j : ℕ) → 1 ≤ j → j < 64 → has_bit x j ≡ q (source_at d j).mode
   unfolding has
-  bit-of j l h = ap (λ (w : ℕ). hasBit w j) g ∙ hasBit-gathered (has q d) 64 j h
-      ∙ ap (λ (b : Bool). not b && q (sourceAt d j).mode) (ne_eqb j 0 (λ e. omega arith))
+  bit-of j l h = ap (λ (w : ℕ). has_bit w j) g ∙ has_bit-gathered (has q d) 64 j h
+      ∙ ap (λ (b : Bool). not b && q (source_at d j).mode) (ne_eqb j 0 (λ e. omega arith))
 
-  pub bit-zero : hasBit x 0 ≡ false
+  pub bit-zero : has_bit x 0 ≡ false
   unfolding has
-  bit-zero = ap (λ (w : ℕ). hasBit w 0) g ∙ hasBit-gathered (has q d) 64 0 (omega arith)
+  bit-zero = ap (λ (w : ℕ). has_bit w 0) g ∙ has_bit-gathered (has q d) 64 0 (omega arith)
 
 -- the words of a source are in range, by the definition of one source
 pub slot-at : (c : Bool) (d : Domain) (i : ℕ)
-    → slot_at c d i ≡ slotSound c (byMessages d) (sourceAt d i).mode (sourceAt d i).target
+    → slot_at c d i ≡ slot_sound c (by_messages d) (source_at d i).mode (source_at d i).target
 unfolding slot_at
 slot-at c d i = refl

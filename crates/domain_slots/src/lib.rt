@@ -1,8 +1,8 @@
 // The sourcecfg and target words of a domain's sources, in one pass: what they break, and which sources are
 // active. No test leaves early.
 ghost use Rattle.std.specs.Prelude.{◌≡◌, true, false, ◌<◌, ◌+◌, length};
-ghost use Rattle.sizes.specs.Sizes.{slotCount, domainSize};
-ghost use Rattle.domain.specs.Domain.{domainOf, byMessages};
+ghost use Rattle.sizes.specs.Sizes.{slot_count, domain_size};
+ghost use Rattle.domain.specs.Domain.{domain_of, by_messages};
 ghost use Rattle.source_rules.specs.SourceParts.{occupied};
 ghost use Rattle.domain_slots.specs.Slots.{SoFar, Slotted};
 
@@ -24,7 +24,7 @@ pub struct Gathered {
 }
 
 fn occupy(mut g: Gathered, child: bool, messages: bool, mode: u32, target: u32, i: u32) -> Gathered
-    requires { (occupied child mode ≡ true) × (i < slotCount) }
+    requires { (occupied child mode ≡ true) × (i < slot_count) }
     ensures { Slotted child messages mode target i g result }
 {
     g.faults = g.faults | target_fault(child, messages, target) | mode_fault(mode);
@@ -42,7 +42,7 @@ fn occupy(mut g: Gathered, child: bool, messages: bool, mode: u32, target: u32, 
 
 // One source more. Of an inactive one only the target is looked at: it has to be 0.
 fn slot(mut g: Gathered, child: bool, messages: bool, mode: u32, target: u32, i: u32) -> Gathered
-    requires { i < slotCount }
+    requires { i < slot_count }
     ensures { Slotted child messages mode target i g result }
 {
     if mode == 0 {
@@ -58,9 +58,9 @@ fn slot(mut g: Gathered, child: bool, messages: bool, mode: u32, target: u32, i:
 }
 
 fn slot_at(g: Gathered, part: &[u32], child: bool, messages: bool, i: usize) -> Gathered
-    requires { (length part.now ≡ domainSize) × (0 < i) × (i < slotCount)
-        × (messages ≡ byMessages (domainOf part.now)) × SoFar child (domainOf part.now) i g }
-    ensures { SoFar child (domainOf part.now) (i + 1) result }
+    requires { (length part.now ≡ domain_size) × (0 < i) × (i < slot_count)
+        × (messages ≡ by_messages (domain_of part.now)) × SoFar child (domain_of part.now) i g }
+    ensures { SoFar child (domain_of part.now) (i + 1) result }
 {
     let s = domain::load(part, i);
     slot(g, child, messages, s.mode, s.target, i as u32)
@@ -68,8 +68,8 @@ fn slot_at(g: Gathered, part: &[u32], child: bool, messages: bool, i: usize) -> 
 
 // Seven sources a turn: the turn itself then costs little.
 pub fn gather(part: &[u32], child: bool) -> Gathered
-    requires { length part.now ≡ domainSize }
-    ensures { SoFar child (domainOf part.now) slotCount result }
+    requires { length part.now ≡ domain_size }
+    ensures { SoFar child (domain_of part.now) slot_count result }
 {
     let messages = domain::by_messages(part);
     let mut g = Gathered {

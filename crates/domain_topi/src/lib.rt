@@ -1,12 +1,12 @@
 // A hart's top interrupt: of the sources that count for it the one with the least priority number, the lowest
 // among equals.
 ghost use Rattle.std.specs.Prelude.{◌≡◌, true, cond, ◌&&◌, ◌+◌, ◌*◌, ◌<◌, eqb, length};
-ghost use Rattle.sizes.specs.Sizes.{hartCount, slotCount, domainSize};
+ghost use Rattle.sizes.specs.Sizes.{hart_count, slot_count, domain_size};
 ghost use Rattle.source_target.specs.Target.{number_of};
-ghost use Rattle.domain.specs.Domain.{domainOf};
-ghost use Rattle.domain.specs.Slot.{sourceAt};
-ghost use Rattle.domain.specs.Structure.{structureAt};
-ghost use Rattle.domain_topi.specs.Top.{standing, eligible, precedes, topSource, topiOf};
+ghost use Rattle.domain.specs.Domain.{domain_of};
+ghost use Rattle.domain.specs.Slot.{source_at};
+ghost use Rattle.domain.specs.Structure.{structure_at};
+ghost use Rattle.domain_topi.specs.Top.{standing, eligible, precedes, top_source, topi_of};
 
 use domain::{by_messages, load, load_structure, standing};
 use domain_delivery::Delivery;
@@ -14,10 +14,10 @@ use source_target::{hart_of, number_of};
 
 // Source `i`, which is pending and enabled, counts for hart `h`, whose structure is `x`.
 fn eligible(part: &[u32], h: usize, x: Delivery, i: usize) -> bool
-    requires { (length part.now ≡ domainSize) × (i < slotCount)
-        × (x ≡ structureAt (domainOf part.now) h)
-        × (standing (domainOf part.now) i ≡ true) }
-    ensures { result ≡ eligible (domainOf part.now) h i }
+    requires { (length part.now ≡ domain_size) × (i < slot_count)
+        × (x ≡ structure_at (domain_of part.now) h)
+        × (standing (domain_of part.now) i ≡ true) }
+    ensures { result ≡ eligible (domain_of part.now) h i }
 {
     let s = load(part, i);
     if hart_of(s.target) as usize != h {
@@ -28,8 +28,8 @@ fn eligible(part: &[u32], h: usize, x: Delivery, i: usize) -> bool
 
 // Source `i` goes before `best`, where 0 is none.
 fn precedes(part: &[u32], i: usize, best: usize) -> bool
-    requires { (length part.now ≡ domainSize) × (i < slotCount) × (best < slotCount) }
-    ensures { result ≡ precedes (domainOf part.now) i best }
+    requires { (length part.now ≡ domain_size) × (i < slot_count) × (best < slot_count) }
+    ensures { result ≡ precedes (domain_of part.now) i best }
 {
     if best == 0 {
         return true;
@@ -41,10 +41,10 @@ fn precedes(part: &[u32], i: usize, best: usize) -> bool
 
 // The better of `best` and source `i`, which is pending and enabled.
 fn better(part: &[u32], h: usize, x: Delivery, i: usize, best: usize) -> usize
-    requires { (length part.now ≡ domainSize) × (i < slotCount) × (best < slotCount)
-        × (x ≡ structureAt (domainOf part.now) h) × (standing (domainOf part.now) i ≡ true) }
-    ensures { result ≡ cond (eligible (domainOf part.now) h i
-        && precedes (domainOf part.now) i best) i best }
+    requires { (length part.now ≡ domain_size) × (i < slot_count) × (best < slot_count)
+        × (x ≡ structure_at (domain_of part.now) h) × (standing (domain_of part.now) i ≡ true) }
+    ensures { result ≡ cond (eligible (domain_of part.now) h i
+        && precedes (domain_of part.now) i best) i best }
 {
     if eligible(part, h, x, i) {
         if precedes(part, i, best) {
@@ -56,8 +56,8 @@ fn better(part: &[u32], h: usize, x: Delivery, i: usize, best: usize) -> usize
 
 // From one pending and enabled source to the next: `rest` has those from `i` on.
 pub fn top_source(part: &[u32], h: usize) -> usize
-    requires { (length part.now ≡ domainSize) × (h < hartCount) }
-    ensures { result ≡ topSource (domainOf part.now) h }
+    requires { (length part.now ≡ domain_size) × (h < hart_count) }
+    ensures { result ≡ top_source (domain_of part.now) h }
 {
     let x = load_structure(part, h);
     let all = standing(part);
@@ -76,9 +76,9 @@ pub fn top_source(part: &[u32], h: usize) -> usize
 
 // A source and its priority as topi has them; 0 for no source.
 pub fn topi_word(part: &[u32], i: usize) -> u32
-    requires { (length part.now ≡ domainSize) × (i < slotCount) }
+    requires { (length part.now ≡ domain_size) × (i < slot_count) }
     ensures { result ≡ cond (eqb i 0) 0
-        (i * 65536 + number_of (sourceAt (domainOf part.now) i).target) }
+        (i * 65536 + number_of (source_at (domain_of part.now) i).target) }
 {
     if i != 0 {
         let s = load(part, i);
@@ -88,8 +88,8 @@ pub fn topi_word(part: &[u32], i: usize) -> u32
 }
 
 pub fn topi(part: &[u32], h: usize) -> u32
-    requires { (length part.now ≡ domainSize) × (h < hartCount) }
-    ensures { result ≡ topiOf (domainOf part.now) h }
+    requires { (length part.now ≡ domain_size) × (h < hart_count) }
+    ensures { result ≡ topi_of (domain_of part.now) h }
 {
     if by_messages(part) {
         return 0;

@@ -1,7 +1,7 @@
 -- What a read of a register gives. 01, "The wired controller", "Direct delivery and signals". Assumes
 -- nothing.
---   domaincfgMark         what domaincfg reads above the stored word
---   registerValue d ws w  what register w of d reads; ws are the wires
+--   domaincfg_mark         what domaincfg reads above the stored word
+--   register_value d ws w  what register w of d reads; ws are the wires
 -- domaincfg reads 0x80 in bits 31:24. clrie and the number registers read 0, and so does what is not named.
 use Rattle.std.specs.Prelude.{ℕ, ◌+◌, List, get_or}
 use Rattle.domain_region.specs.declared.Word.{Word}
@@ -12,36 +12,36 @@ use Rattle.domain_region.specs.declared.Word.TheVariants.{SetipnumBe}
 use Rattle.domain_region.specs.declared.Word.TheVariants.{Genmsi, Target, Idelivery, Iforce, Ithreshold}
 use Rattle.domain_region.specs.declared.Word.TheVariants.{Topi}
 use Rattle.domain_region.specs.declared.Word.TheVariants.{Claimi, Unused}
-use Rattle.domain.specs.Domain.{Domain, domaincfgOf}
-use Rattle.domain.specs.Slot.{sourceAt}
-use Rattle.domain_genmsi.specs.Genmsi.{genmsiRead}
-use Rattle.domain_inputs.specs.Inputs.{inputWord}
+use Rattle.domain.specs.Domain.{Domain, domaincfg_of}
+use Rattle.domain.specs.Slot.{source_at}
+use Rattle.domain_genmsi.specs.Genmsi.{genmsi_read}
+use Rattle.domain_inputs.specs.Inputs.{input_word}
 use Rattle.domain_direct.specs.declared.Setting.TheVariants as setting
-use Rattle.domain_direct.specs.Direct.{topiOf, setting_of}
+use Rattle.domain_direct.specs.Direct.{topi_of, setting_of}
 
 -- [01 W9 R10 T9]
-abbrev pub domaincfgMark : ℕ
-domaincfgMark = 0x80000000
+abbrev pub domaincfg_mark : ℕ
+domaincfg_mark = 0x80000000
 
 -- [01 B13 W36 W38 S11]
-unfoldable pub registerValue : Domain → List ℕ → Word → ℕ
-registerValue d ws Domaincfg = domaincfgMark + domaincfgOf d
-registerValue d ws (Sourcecfg i) = (sourceAt d i).mode
-registerValue d ws (Setip k) = get_or d.pending k 0
-registerValue d ws Setipnum = 0
-registerValue d ws (InClrip k) = inputWord d ws k
-registerValue d ws Clripnum = 0
-registerValue d ws (Setie k) = get_or d.enable k 0
-registerValue d ws Setienum = 0
-registerValue d ws (Clrie k) = 0
-registerValue d ws Clrienum = 0
-registerValue d ws SetipnumLe = 0
-registerValue d ws SetipnumBe = 0
-registerValue d ws Genmsi = genmsiRead d
-registerValue d ws (Target i) = (sourceAt d i).target
-registerValue d ws (Idelivery h) = setting_of d h setting.Idelivery
-registerValue d ws (Iforce h) = setting_of d h setting.Iforce
-registerValue d ws (Ithreshold h) = setting_of d h setting.Ithreshold
-registerValue d ws (Topi h) = topiOf d h
-registerValue d ws (Claimi h) = topiOf d h
-registerValue d ws Unused = 0
+unfoldable pub register_value : Domain → List ℕ → Word → ℕ
+register_value d ws Domaincfg = domaincfg_mark + domaincfg_of d
+register_value d ws (Sourcecfg i) = (source_at d i).mode
+register_value d ws (Setip k) = get_or d.pending k 0
+register_value d ws Setipnum = 0
+register_value d ws (InClrip k) = input_word d ws k
+register_value d ws Clripnum = 0
+register_value d ws (Setie k) = get_or d.enable k 0
+register_value d ws Setienum = 0
+register_value d ws (Clrie k) = 0
+register_value d ws Clrienum = 0
+register_value d ws SetipnumLe = 0
+register_value d ws SetipnumBe = 0
+register_value d ws Genmsi = genmsi_read d
+register_value d ws (Target i) = (source_at d i).target
+register_value d ws (Idelivery h) = setting_of d h setting.Idelivery
+register_value d ws (Iforce h) = setting_of d h setting.Iforce
+register_value d ws (Ithreshold h) = setting_of d h setting.Ithreshold
+register_value d ws (Topi h) = topi_of d h
+register_value d ws (Claimi h) = topi_of d h
+register_value d ws Unused = 0

@@ -1,11 +1,11 @@
 // What a read of a register of one domain gives. What a read does besides is not here.
 ghost use Rattle.std.specs.Prelude.{◌≡◌, ◌+◌, ◌<◌, length};
-ghost use Rattle.sizes.specs.Sizes.{slotCount, domainSize};
+ghost use Rattle.sizes.specs.Sizes.{slot_count, domain_size};
 ghost use Rattle.domain_region.specs.Region.{Within};
-ghost use Rattle.domain.specs.Domain.{domainOf, domaincfgOf};
-ghost use Rattle.domain.specs.Slot.{sourceAt};
-ghost use Rattle.domain_values.specs.Values.{registerValue};
-ghost use Rattle.domain_values.specs.Values.{domaincfgMark};
+ghost use Rattle.domain.specs.Domain.{domain_of, domaincfg_of};
+ghost use Rattle.domain.specs.Slot.{source_at};
+ghost use Rattle.domain_values.specs.Values.{register_value};
+ghost use Rattle.domain_values.specs.Values.{domaincfg_mark};
 
 use domain_direct::Setting;
 use domain_region::Word;
@@ -14,32 +14,32 @@ use sizes::SOURCE_SET_SIZE;
 const DOMAINCFG_MARK: u32 = 0x80000000;
 
 fn source_word(part: &[u32], i: usize) -> u32
-    requires { (length part.now ≡ domainSize) × (i < slotCount) }
-    ensures { result ≡ (sourceAt (domainOf part.now) i).mode }
+    requires { (length part.now ≡ domain_size) × (i < slot_count) }
+    ensures { result ≡ (source_at (domain_of part.now) i).mode }
 {
     let s = domain::load(part, i);
     s.mode
 }
 
 fn target_word(part: &[u32], i: usize) -> u32
-    requires { (length part.now ≡ domainSize) × (i < slotCount) }
-    ensures { result ≡ (sourceAt (domainOf part.now) i).target }
+    requires { (length part.now ≡ domain_size) × (i < slot_count) }
+    ensures { result ≡ (source_at (domain_of part.now) i).target }
 {
     let s = domain::load(part, i);
     s.target
 }
 
 fn domaincfg_word(part: &[u32]) -> u32
-    requires { (length part.now ≡ domainSize) × (domaincfgOf (domainOf part.now) < domaincfgMark) }
-    ensures { result ≡ domaincfgMark + domaincfgOf (domainOf part.now) }
+    requires { (length part.now ≡ domain_size) × (domaincfg_of (domain_of part.now) < domaincfg_mark) }
+    ensures { result ≡ domaincfg_mark + domaincfg_of (domain_of part.now) }
 {
     DOMAINCFG_MARK + domain::domaincfg(part)
 }
 
 pub fn value_of(part: &[u32], wires: [u32; SOURCE_SET_SIZE], word: Word) -> u32
-    requires { (length part.now ≡ domainSize) × (domaincfgOf (domainOf part.now) < domaincfgMark)
+    requires { (length part.now ≡ domain_size) × (domaincfg_of (domain_of part.now) < domaincfg_mark)
         × Within word }
-    ensures { result ≡ registerValue (domainOf part.now) wires word }
+    ensures { result ≡ register_value (domain_of part.now) wires word }
 {
     match word {
         Word::Domaincfg => domaincfg_word(part),

@@ -1,11 +1,11 @@
 // Writes to sources: to those whose bits are set in a word, to one by its number, and to one target.
 ghost use Rattle.std.specs.Prelude.{◌≡◌, ◌+◌, ◌-◌, ◌*◌, ◌/◌, ◌≤◌, ◌<◌, length};
-ghost use Rattle.sizes.specs.Sizes.{slotCount, domainSize};
+ghost use Rattle.sizes.specs.Sizes.{slot_count, domain_size};
 ghost use Rattle.source.specs.Pending.{switched};
-ghost use Rattle.domain.specs.Domain.{domainOf};
-ghost use Rattle.domain.specs.Slot.{sourceAt, withSource};
-ghost use Rattle.domain_writes.specs.Writes.{changedAt, changedBit, changedFrom, wordChanged};
-ghost use Rattle.domain_writes.specs.Writes.{numberChanged, targetWritten};
+ghost use Rattle.domain.specs.Domain.{domain_of};
+ghost use Rattle.domain.specs.Slot.{source_at, with_source};
+ghost use Rattle.domain_writes.specs.Writes.{changed_at, changed_bit, changed_from, word_changed};
+ghost use Rattle.domain_writes.specs.Writes.{number_changed, target_written};
 
 use sizes::{SLOT_COUNT, SOURCE_COUNT, SOURCE_SET_SIZE};
 use source::Change;
@@ -14,9 +14,9 @@ use source_wire::wire_at;
 
 // The enable bit of source `i`, if the source is active.
 fn switch_source(part: &mut [u32], i: usize, on: bool)
-    requires { (length part.old ≡ domainSize) × (i < slotCount) }
-    ensures { domainOf part.new ≡ withSource (domainOf part.old) i
-        (switched (sourceAt (domainOf part.old) i) on) }
+    requires { (length part.old ≡ domain_size) × (i < slot_count) }
+    ensures { domain_of part.new ≡ with_source (domain_of part.old) i
+        (switched (source_at (domain_of part.old) i) on) }
 {
     let s = domain::load(part, i);
     if active(s.mode) {
@@ -26,8 +26,8 @@ fn switch_source(part: &mut [u32], i: usize, on: bool)
 
 // Source `i` after one change. Only the word with the bit that the change can touch is stored.
 fn change_source(part: &mut [u32], wires: [u32; SOURCE_SET_SIZE], change: Change, i: usize)
-    requires { (length part.old ≡ domainSize) × (i < slotCount) }
-    ensures { domainOf part.new ≡ changedAt (domainOf part.old) wires change i }
+    requires { (length part.old ≡ domain_size) × (i < slot_count) }
+    ensures { domain_of part.new ≡ changed_at (domain_of part.old) wires change i }
 {
     let messages = domain::by_messages(part);
     let s = domain::load(part, i);
@@ -47,9 +47,9 @@ fn change_source(part: &mut [u32], wires: [u32; SOURCE_SET_SIZE], change: Change
 
 // The same, if the bit of source `i` is set in `value`, the word that is written.
 fn change_bit(part: &mut [u32], wires: [u32; SOURCE_SET_SIZE], change: Change, value: u32, i: usize)
-    requires { (length part.old ≡ domainSize) × (i < slotCount) }
-    ensures { domainOf part.new
-        ≡ changedBit (domainOf part.old) wires change value i }
+    requires { (length part.old ≡ domain_size) × (i < slot_count) }
+    ensures { domain_of part.new
+        ≡ changed_bit (domain_of part.old) wires change value i }
 {
     if words::has_bit(value, (i % 32) as u32) {
         change_source(part, wires, change, i);
@@ -65,10 +65,10 @@ fn change_bits(
     from: usize,
     end: usize,
 )
-    requires { (length part.old ≡ domainSize) × (from ≤ end) × (end ≤ slotCount)
+    requires { (length part.old ≡ domain_size) × (from ≤ end) × (end ≤ slot_count)
         × (end ≤ from / 32 * 32 + 32) }
-    ensures { domainOf part.new
-        ≡ changedFrom (domainOf part.old) wires change value from (end - from) }
+    ensures { domain_of part.new
+        ≡ changed_from (domain_of part.old) wires change value from (end - from) }
 {
     let mut i = from;
     while i < end {
@@ -87,9 +87,9 @@ pub fn change_word(
     k: usize,
     value: u32,
 )
-    requires { length part.old ≡ domainSize }
-    ensures { domainOf part.new
-        ≡ wordChanged (domainOf part.old) wires change k value }
+    requires { length part.old ≡ domain_size }
+    ensures { domain_of part.new
+        ≡ word_changed (domain_of part.old) wires change k value }
 {
     if k == 0 {
         change_bits(part, wires, change, value, 1, 32);
@@ -101,9 +101,9 @@ pub fn change_word(
 const LAST: u32 = SOURCE_COUNT as u32;
 
 pub fn change_number(part: &mut [u32], wires: [u32; SOURCE_SET_SIZE], change: Change, value: u32)
-    requires { length part.old ≡ domainSize }
-    ensures { domainOf part.new
-        ≡ numberChanged (domainOf part.old) wires change value }
+    requires { length part.old ≡ domain_size }
+    ensures { domain_of part.new
+        ≡ number_changed (domain_of part.old) wires change value }
 {
     if value < 1 {
         return;
@@ -115,9 +115,9 @@ pub fn change_number(part: &mut [u32], wires: [u32; SOURCE_SET_SIZE], change: Ch
 }
 
 pub fn write_target(part: &mut [u32], child: bool, i: usize, value: u32)
-    requires { (length part.old ≡ domainSize) × (i < slotCount) }
-    ensures { domainOf part.new
-        ≡ targetWritten child (domainOf part.old) i value }
+    requires { (length part.old ≡ domain_size) × (i < slot_count) }
+    ensures { domain_of part.new
+        ≡ target_written child (domain_of part.old) i value }
 {
     let messages = domain::by_messages(part);
     let s = domain::load(part, i);

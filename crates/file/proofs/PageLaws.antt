@@ -7,8 +7,8 @@ use native.Mathlib.Omega.{arith}
 use Rattle.words.specs.Parts.{reversed}
 use Rattle.words.specs.Sets.{insert}
 use Rattle.file.specs.declared.File.{File}
-use Rattle.file.specs.Parts.{withPendingSet}
-use Rattle.file.specs.Page.{arrived, pageWritten}
+use Rattle.file.specs.Parts.{with_pending_set}
+use Rattle.file.specs.Page.{arrived, page_written}
 
 module _ (n : ℕ) (f : File) (i : ℕ) where
   pub arrived-below : i < 1 → arrived n f i ≡ f
@@ -19,19 +19,19 @@ module _ (n : ℕ) (f : File) (i : ℕ) where
   unfolding arrived
   arrived-above h = simp (le-leb 1 i (omega arith), lt-leb i n h)
 
-  pub arrived-within : 1 ≤ i → i ≤ n → arrived n f i ≡ withPendingSet f (insert f.pending i)
+  pub arrived-within : 1 ≤ i → i ≤ n → arrived n f i ≡ with_pending_set f (insert f.pending i)
   unfolding arrived
   arrived-within l h = simp (le-leb 1 i l, le-leb i n h)
 
 module _ (n : ℕ) (f : File) (a v : ℕ) where
-  pub written-little : a ≡ 0 → pageWritten n f a v ≡ arrived n f v
-  unfolding pageWritten
+  pub written-little : a ≡ 0 → page_written n f a v ≡ arrived n f v
+  unfolding page_written
   written-little e = simp (eq-eqb a 0 e)
 
-  pub written-big : a ≡ 4 → pageWritten n f a v ≡ arrived n f (reversed v)
-  unfolding pageWritten
+  pub written-big : a ≡ 4 → page_written n f a v ≡ arrived n f (reversed v)
+  unfolding page_written
   written-big e = simp (ne_eqb a 0 (λ q. omega arith), eq-eqb a 4 e)
 
-  pub written-elsewhere : a ≢ 0 → a ≢ 4 → pageWritten n f a v ≡ f
-  unfolding pageWritten
+  pub written-elsewhere : a ≢ 0 → a ≢ 4 → page_written n f a v ≡ f
+  unfolding page_written
   written-elsewhere p q = simp (ne_eqb a 0 p, ne_eqb a 4 q)

@@ -4,34 +4,34 @@ use mathlib.Core.Path.{◌≡◌, sym, ap₂, ◌∙◌}
 use mathlib.Core.Bool.{Bool, true, false}
 use Rattle.file_select.specs.declared.Register.{Register}
 use Rattle.file_select.specs.declared.Register.TheVariants.{Delivery}
-use Rattle.file_select.specs.Select.{selectLegal, registerOf}
-use Rattle.file_select.specs.Deliveries.{deliveryLegal}
+use Rattle.file_select.specs.Select.{select_legal, register_of}
+use Rattle.file_select.specs.Deliveries.{delivery_legal}
 use Rattle.file.specs.declared.File.{File}
 use Rattle.file.specs.declared.register.Access.{Access}
 use Rattle.file.specs.declared.register.Reply.TheVariants.{Illegal}
-use Rattle.file.specs.Parts.{withDelivery}
-use Rattle.file.specs.Register.{written, accessedAt, accessed}
+use Rattle.file.specs.Parts.{with_delivery}
+use Rattle.file.specs.Register.{written, accessed_at, accessed}
 
 module _ (n : ℕ) (g : Bool) (f : File) (v : ℕ) where
-  pub written-legal : deliveryLegal g v ≡ true → written n g f Delivery v ≡ withDelivery f v
+  pub written-legal : delivery_legal g v ≡ true → written n g f Delivery v ≡ with_delivery f v
   unfolding written
   written-legal e = simp e
 
-  pub written-illegal : deliveryLegal g v ≡ false → written n g f Delivery v ≡ f
+  pub written-illegal : delivery_legal g v ≡ false → written n g f Delivery v ≡ f
   unfolding written
   written-illegal e = simp e
 
 module _ (n : ℕ) (g : Bool) (f : File) (k : Access) (s v : ℕ) where
-  pub accessed-illegal : selectLegal s ≡ false → accessed n g f k s v ≡ record { answer = Illegal; file = f }
+  pub accessed-illegal : select_legal s ≡ false → accessed n g f k s v ≡ record { answer = Illegal; file = f }
   unfolding accessed
   accessed-illegal e = simp e
 
-  pub accessed-legal : selectLegal s ≡ true → accessed n g f k s v ≡ accessedAt n g f k (registerOf n s) v
+  pub accessed-legal : select_legal s ≡ true → accessed n g f k s v ≡ accessed_at n g f k (register_of n s) v
   unfolding accessed
   accessed-legal e = simp e
 
   -- a legal access of a kind that is known, to the register r that the number names
-  pub accessed-kind : (r : Register) (k' : Access) → selectLegal s ≡ true → r ≡ registerOf n s → k ≡ k'
-      → accessed n g f k s v ≡ accessedAt n g f k' r v
+  pub accessed-kind : (r : Register) (k' : Access) → select_legal s ≡ true → r ≡ register_of n s → k ≡ k'
+      → accessed n g f k s v ≡ accessed_at n g f k' r v
   accessed-kind r k' legal named e =
-      accessed-legal legal ∙ ap₂ (λ (a : Access) (b : Register). accessedAt n g f a b v) e (sym named)
+      accessed-legal legal ∙ ap₂ (λ (a : Access) (b : Register). accessed_at n g f a b v) e (sym named)

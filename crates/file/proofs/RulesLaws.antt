@@ -4,24 +4,24 @@ use mathlib.Core.Path.{◌≡◌}
 use mathlib.Core.Bool.{Bool, true, false, not, and-false}
 use borrow.Author.Tests.{le-leb, lt-leb}
 use Rattle.words.specs.Sets.{member}
-use Rattle.file_select.specs.Deliveries.{deliveryLegal}
+use Rattle.file_select.specs.Deliveries.{delivery_legal}
 use Rattle.file.specs.declared.File.{File}
-use Rattle.file.specs.Rules.{deliveryRule, thresholdRule, zeroRule, fileSound}
+use Rattle.file.specs.Rules.{delivery_rule, threshold_rule, zero_rule, file_sound}
 
 module _ (n : ℕ) (g : Bool) (f : File) where
-  pub unsound-delivery : deliveryLegal g f.delivery ≡ false → fileSound n g f ≡ false
-  unfolding fileSound deliveryRule
+  pub unsound-delivery : delivery_legal g f.delivery ≡ false → file_sound n g f ≡ false
+  unfolding file_sound delivery_rule
   unsound-delivery e = simp e
 
-  pub unsound-threshold : n < f.threshold → fileSound n g f ≡ false
-  unfolding fileSound thresholdRule
+  pub unsound-threshold : n < f.threshold → file_sound n g f ≡ false
+  unfolding file_sound threshold_rule
   unsound-threshold h = simp (lt-leb f.threshold n h, and-false)
 
-  pub unsound-pending : member f.pending 0 ≡ true → fileSound n g f ≡ false
-  unfolding fileSound zeroRule
+  pub unsound-pending : member f.pending 0 ≡ true → file_sound n g f ≡ false
+  unfolding file_sound zero_rule
   unsound-pending e = simp (e, and-false)
 
-  pub sound-rest : deliveryLegal g f.delivery ≡ true → f.threshold ≤ n → member f.pending 0 ≡ false
-      → fileSound n g f ≡ not (member f.enable 0)
-  unfolding fileSound deliveryRule thresholdRule zeroRule
+  pub sound-rest : delivery_legal g f.delivery ≡ true → f.threshold ≤ n → member f.pending 0 ≡ false
+      → file_sound n g f ≡ not (member f.enable 0)
+  unfolding file_sound delivery_rule threshold_rule zero_rule
   sound-rest d t z = simp (d, le-leb f.threshold n t, z)

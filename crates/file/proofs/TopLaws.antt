@@ -11,12 +11,12 @@ use Rattle.words.specs.Sets.{member, remove}
 use Rattle.words.proofs.TestsLaws.{tested, and_first, and_second}
 use Rattle.words.proofs.ThresholdLaws.{passes-above}
 use Rattle.sizes.specs.Sizes.{identities}
-use Rattle.file_search.specs.Search.{lowest, lowestShared}
+use Rattle.file_search.specs.Search.{lowest, lowest_shared}
 use Rattle.file_search.proofs.LowestLaws.{lowest-lt, lowest-under, lowest-shut}
 use Rattle.file_search.proofs.SearchLaws.{shared_start}
 use Rattle.file.specs.declared.File.{File}
-use Rattle.file.specs.Parts.{withPendingSet}
-use Rattle.file.specs.Top.{passes, qualifies, topIdentity, top_of, claimed, signals}
+use Rattle.file.specs.Parts.{with_pending_set}
+use Rattle.file.specs.Top.{passes, qualifies, top_identity, top_of, claimed, signals}
 
 -- ---- what qualifies
 
@@ -62,7 +62,7 @@ module _ (f : File) where
   stands i = member f.pending i && member f.enable i
 
   abbrev shared : ℕ
-  shared = lowestShared f.pending f.enable
+  shared = lowest_shared f.pending f.enable
 
   abbrev lets : ℕ → Bool
   lets i = passes f.threshold i
@@ -70,49 +70,49 @@ module _ (f : File) where
   start : shared ≡ lowest stands 1 identities
   start = shared_start f.pending f.enable
 
-  pub topIdentity-shared : passes f.threshold shared ≡ true → topIdentity identities f ≡ shared
-  unfolding topIdentity qualifies
-  topIdentity-shared e =
+  pub top_identity-shared : passes f.threshold shared ≡ true → top_identity identities f ≡ shared
+  unfolding top_identity qualifies
+  top_identity-shared e =
       lowest-under stands lets 1 identities (ap lets (sym start) ∙ e) ∙ sym start
 
-  pub topIdentity-shut : passes f.threshold shared ≡ false → topIdentity identities f ≡ 0
-  unfolding topIdentity qualifies
-  topIdentity-shut e =
+  pub top_identity-shut : passes f.threshold shared ≡ false → top_identity identities f ≡ 0
+  unfolding top_identity qualifies
+  top_identity-shut e =
       lowest-shut stands lets (passes-above f.threshold) 1 identities (ap lets (sym start) ∙ e)
 
 -- ---- the top
 
 module _ (n : ℕ) (f : File) where
-  pub topIdentity-le : topIdentity n f ≤ n
-  unfolding topIdentity
-  topIdentity-le = omega (arith, lowest-lt (qualifies f) 1 n (omega arith))
+  pub top_identity-le : top_identity n f ≤ n
+  unfolding top_identity
+  top_identity-le = omega (arith, lowest-lt (qualifies f) 1 n (omega arith))
 
   -- the top is twice its identity, so one is 0 exactly if the other is
-  pub topOf-zero-1 : top_of n f ≡ 0 → topIdentity n f ≡ 0
+  pub top_of-zero-1 : top_of n f ≡ 0 → top_identity n f ≡ 0
   unfolding top_of
-  topOf-zero-1 e = omega arith
+  top_of-zero-1 e = omega arith
 
-  pub topOf-zero-2 : topIdentity n f ≡ 0 → top_of n f ≡ 0
+  pub top_of-zero-2 : top_identity n f ≡ 0 → top_of n f ≡ 0
   unfolding top_of
-  topOf-zero-2 e = omega arith
+  top_of-zero-2 e = omega arith
 
-  pub claimed-none : topIdentity n f ≡ 0 → claimed n f ≡ f
+  pub claimed-none : top_identity n f ≡ 0 → claimed n f ≡ f
   unfolding claimed
-  claimed-none e = simp (eq-eqb (topIdentity n f) 0 e)
+  claimed-none e = simp (eq-eqb (top_identity n f) 0 e)
 
-  pub claimed-some : topIdentity n f ≢ 0 → claimed n f
-      ≡ withPendingSet f (remove f.pending (topIdentity n f))
+  pub claimed-some : top_identity n f ≢ 0 → claimed n f
+      ≡ with_pending_set f (remove f.pending (top_identity n f))
   unfolding claimed
-  claimed-some h = simp (ne_eqb (topIdentity n f) 0 h)
+  claimed-some h = simp (ne_eqb (top_identity n f) 0 h)
 
   -- the signal as the code works it out
-  pub signals-on : f.delivery ≡ 1 → signals n f ≡ not (eqb (topIdentity n f) 0)
+  pub signals-on : f.delivery ≡ 1 → signals n f ≡ not (eqb (top_identity n f) 0)
   unfolding signals
   signals-on e =
       simp (eq-eqb f.delivery 1 e)
-      (tested (eqb (topIdentity n f) 0)
-      (λ t. ap not (eq-eqb (top_of n f) 0 (topOf-zero-2 (eqb-true (topIdentity n f) 0 t)) ∙ sym t))
-      (λ u. ap not (ne_eqb (top_of n f) 0 (λ z. eqb-false (topIdentity n f) 0 u (topOf-zero-1 z)) ∙ sym u)))
+      (tested (eqb (top_identity n f) 0)
+      (λ t. ap not (eq-eqb (top_of n f) 0 (top_of-zero-2 (eqb-true (top_identity n f) 0 t)) ∙ sym t))
+      (λ u. ap not (ne_eqb (top_of n f) 0 (λ z. eqb-false (top_identity n f) 0 u (top_of-zero-1 z)) ∙ sym u)))
 
   pub signals-off : f.delivery ≢ 1 → signals n f ≡ false
   unfolding signals

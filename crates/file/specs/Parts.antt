@@ -2,16 +2,16 @@
 use Rattle.std.specs.Prelude.{ℕ, List}
 use Rattle.file.specs.declared.File.{File}
 
-abbrev pub withDelivery : File → ℕ → File
-withDelivery f d = record { delivery = d; threshold = f.threshold; pending = f.pending; enable = f.enable }
+abbrev pub with_delivery : File → ℕ → File
+with_delivery f d = record { delivery = d; threshold = f.threshold; pending = f.pending; enable = f.enable }
 
-abbrev pub withThreshold : File → ℕ → File
-withThreshold f t = record { delivery = f.delivery; threshold = t; pending = f.pending; enable = f.enable }
+abbrev pub with_threshold : File → ℕ → File
+with_threshold f t = record { delivery = f.delivery; threshold = t; pending = f.pending; enable = f.enable }
 
-abbrev pub withPendingSet : File → List ℕ → File
-withPendingSet f ws =
+abbrev pub with_pending_set : File → List ℕ → File
+with_pending_set f ws =
     record { delivery = f.delivery; threshold = f.threshold; pending = ws; enable = f.enable }
 
-abbrev pub withEnable : File → List ℕ → File
-withEnable f ws =
+abbrev pub with_enable : File → List ℕ → File
+with_enable f ws =
     record { delivery = f.delivery; threshold = f.threshold; pending = f.pending; enable = ws }

@@ -5,10 +5,10 @@ use Rattle.std.specs.Prelude.{ℕ}
 use Rattle.file.specs.declared.register.Reply.{Reply}
 use Rattle.file.specs.declared.register.Reply.TheVariants.{Value, Illegal}
 
-abbrev pub replyNumber : Reply → ℕ
-replyNumber (Value v) = 0
-replyNumber Illegal = 6
+abbrev pub reply_number : Reply → ℕ
+reply_number (Value v) = 0
+reply_number Illegal = 6
 
-abbrev pub replyValue : Reply → ℕ
-replyValue (Value v) = v
-replyValue Illegal = 0
+abbrev pub reply_value : Reply → ℕ
+reply_value (Value v) = v
+reply_value Illegal = 0

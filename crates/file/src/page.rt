@@ -1,6 +1,6 @@
 // A file's page: what a message write does to the file, and what a read gives.
 ghost use Rattle.std.specs.Prelude.{◌≡◌};
-ghost use Rattle.file.specs.Page.{arrived, pageWritten, pageRead};
+ghost use Rattle.file.specs.Page.{arrived, page_written, page_read};
 ghost use Rattle.sizes.specs.Sizes.{identities};
 
 use super::File;
@@ -23,7 +23,7 @@ impl File {
     }
 
     pub fn page_write(self, offset: u64, value: u32) -> File
-        ensures { result ≡ pageWritten identities self offset value }
+        ensures { result ≡ page_written identities self offset value }
     {
         if offset == 0 {
             return self.arrive(value);
@@ -35,7 +35,7 @@ impl File {
     }
 
     pub fn page_read(self, offset: u64) -> u32
-        ensures { result ≡ pageRead self offset }
+        ensures { result ≡ page_read self offset }
     {
         0
     }

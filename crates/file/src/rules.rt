@@ -1,6 +1,6 @@
 // A file's own state rules.
 ghost use Rattle.std.specs.Prelude.{◌≡◌};
-ghost use Rattle.file.specs.Rules.{fileSound};
+ghost use Rattle.file.specs.Rules.{file_sound};
 ghost use Rattle.sizes.specs.Sizes.{identities};
 
 use super::File;
@@ -9,7 +9,7 @@ use sizes::IDENTITIES;
 
 impl File {
     pub fn sound(self, guest: bool) -> bool
-        ensures { result ≡ fileSound identities guest self }
+        ensures { result ≡ file_sound identities guest self }
     {
         if !delivery_legal(guest, self.delivery as u64) {
             return false;

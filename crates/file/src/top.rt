@@ -1,7 +1,7 @@
 // A file's top interrupt, its claim, and its signal to the hart.
 ghost use Rattle.std.specs.Prelude.{◌≡◌};
 ghost use Rattle.sizes.specs.Sizes.{identities};
-ghost use Rattle.file.specs.Top.{topIdentity, top_of, claimed, signals};
+ghost use Rattle.file.specs.Top.{top_identity, top_of, claimed, signals};
 
 use super::File;
 use file_search::lowest_shared;
@@ -16,7 +16,7 @@ impl File {
     // The lowest identity that qualifies, or 0. If the threshold shuts out the lowest that is pending and
     // enabled, it shuts out every higher one; if there is none, both ways give 0.
     pub fn top_identity(self) -> u32
-        ensures { result ≡ topIdentity identities self }
+        ensures { result ≡ top_identity identities self }
     {
         let pending = self.pending;
         let enable = self.enable;

@@ -3,19 +3,19 @@
 ghost use mathlib.Core.Path.{◌≡◌};
 ghost use Prim.Native.Nat.{◌+◌, ◌≤◌};
 ghost use lib.ListN.{length};
-ghost use Rattle.sizes.specs.Sizes.{identities, fileSize};
-ghost use Rattle.file.specs.Page.{arrived, arrivalAnswer};
-ghost use Rattle.file_words.specs.Stored.{fileAt, putFile};
+ghost use Rattle.sizes.specs.Sizes.{identities, file_size};
+ghost use Rattle.file.specs.Page.{arrived, arrival_answer};
+ghost use Rattle.file_words.specs.Stored.{file_at, put_file};
 
 use file::{IGNORED, held_answer};
 use sizes::{IDENTITIES, PENDING_PLACE};
 
 // What `File::arrive` does and answers, of the file whose words stand from `at` on.
 pub fn arrive(block: &mut [u32], at: usize, identity: u32) -> u32
-    requires { at + fileSize ≤ length block.old }
-    ensures { (result ≡ arrivalAnswer identities (fileAt block.old at) identity)
-        × (block.new ≡ putFile block.old at
-        (arrived identities (fileAt block.old at) identity)) }
+    requires { at + file_size ≤ length block.old }
+    ensures { (result ≡ arrival_answer identities (file_at block.old at) identity)
+        × (block.new ≡ put_file block.old at
+        (arrived identities (file_at block.old at) identity)) }
 {
     if identity < 1 {
         return IGNORED;

@@ -13,7 +13,7 @@ use Rattle.words.specs.Sets.{member, insert}
 use Rattle.words.proofs.SetsLaws.{member-insert-same, member-insert-other, length-insert}
 use Rattle.words.proofs.TestsLaws.{tested, and_second}
 use Rattle.file.specs.declared.File.{File}
-use Rattle.file.specs.Parts.{withDelivery, withPendingSet}
+use Rattle.file.specs.Parts.{with_delivery, with_pending_set}
 use Rattle.file.specs.Page.{arrived}
 
 module _ (n : ℕ) (f : File) (i : ℕ) where
@@ -21,7 +21,7 @@ module _ (n : ℕ) (f : File) (i : ℕ) where
   abbrev names : Bool
   names = leb 1 i && leb i n
 
-  arrived-named : names ≡ true → arrived n f i ≡ withPendingSet f (insert f.pending i)
+  arrived-named : names ≡ true → arrived n f i ≡ with_pending_set f (insert f.pending i)
   unfolding arrived
   arrived-named e = simp e
 
@@ -70,10 +70,10 @@ module _ (n : ℕ) (f : File) (i : ℕ) where
 
 -- arrival does not look at delivery
 pub arrived-delivery : (n : ℕ) (f : File) (i d : ℕ)
-    → arrived n (withDelivery f d) i ≡ withDelivery (arrived n f i) d
+    → arrived n (with_delivery f d) i ≡ with_delivery (arrived n f i) d
 arrived-delivery n f i d =
     tested (names n f i)
-    (λ t. arrived-named n (withDelivery f d) i t
-    ∙ sym (ap (λ (g : File). withDelivery g d) (arrived-named n f i t)))
-    (λ u. arrived-ignored n (withDelivery f d) i u
-    ∙ sym (ap (λ (g : File). withDelivery g d) (arrived-ignored n f i u)))
+    (λ t. arrived-named n (with_delivery f d) i t
+    ∙ sym (ap (λ (g : File). with_delivery g d) (arrived-named n f i t)))
+    (λ u. arrived-ignored n (with_delivery f d) i u
+    ∙ sym (ap (λ (g : File). with_delivery g d) (arrived-ignored n f i u)))

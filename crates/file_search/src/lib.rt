@@ -1,13 +1,13 @@
 // The lowest identity that two sets of a file share: a search bit after bit. 01, "One message file".
 ghost use Rattle.std.specs.Prelude.{◌≡◌, ◌-◌, ◌<◌};
-ghost use Rattle.file_search.specs.Search.{firstBit, lowestShared};
+ghost use Rattle.file_search.specs.Search.{first_bit, lowest_shared};
 
 use sizes::FILE_SET_SIZE;
 
 // The lowest bit of `word` from bit `from` on that is 1, or 32: `rest` has the bits from `k` on.
 fn first_bit(word: u32, from: u32) -> u32
     requires { from < 32 }
-    ensures { result ≡ firstBit word from (32 - from) }
+    ensures { result ≡ first_bit word from (32 - from) }
 {
     let mut rest = word >> from;
     let mut k = from;
@@ -23,7 +23,7 @@ fn first_bit(word: u32, from: u32) -> u32
 
 // The lowest identity that is in both sets, or 0. Bit 0 of the first word is no identity.
 pub fn lowest_shared(pending: [u32; FILE_SET_SIZE], enable: [u32; FILE_SET_SIZE]) -> u32
-    ensures { result ≡ lowestShared pending enable }
+    ensures { result ≡ lowest_shared pending enable }
 {
     let mut from: u32 = 1;
     let mut at: usize = 0;

@@ -1,6 +1,6 @@
 // The deliveries that a file may store.
 ghost use Rattle.std.specs.Prelude.{◌≡◌};
-ghost use Rattle.file_select.specs.Deliveries.{deliveryLegal};
+ghost use Rattle.file_select.specs.Deliveries.{delivery_legal};
 
 use super::FROM_WIRED;
 
@@ -8,7 +8,7 @@ const SIGNAL_OF_WIRED: u64 = FROM_WIRED as u64;
 
 // A guest file never takes its signal from the wired controller.
 pub fn delivery_legal(guest: bool, value: u64) -> bool
-    ensures { result ≡ deliveryLegal guest value }
+    ensures { result ≡ delivery_legal guest value }
 {
     if value < 2 {
         return true;

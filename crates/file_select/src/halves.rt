@@ -1,6 +1,6 @@
 // The two 32-bit words of a set that one 64-bit register shows.
 ghost use Rattle.std.specs.Prelude.{◌≡◌};
-ghost use Rattle.file_select.specs.Halves.{doubleword, putHalves, putDoubleword};
+ghost use Rattle.file_select.specs.Halves.{doubleword, put_halves, put_doubleword};
 
 use sizes::FILE_SET_SIZE;
 
@@ -17,7 +17,7 @@ pub fn doubleword(ws: [u32; FILE_SET_SIZE], j: u64) -> u64
 
 // The same two words replaced.
 pub fn put_halves(mut ws: [u32; FILE_SET_SIZE], j: u64, value: u64) -> [u32; FILE_SET_SIZE]
-    ensures { result ≡ putHalves ws j value }
+    ensures { result ≡ put_halves ws j value }
 {
     if 3 < j {
         return ws;
@@ -30,7 +30,7 @@ pub fn put_halves(mut ws: [u32; FILE_SET_SIZE], j: u64, value: u64) -> [u32; FIL
 
 // Identity 0 has no bit: what is written there is dropped.
 pub fn put_doubleword(ws: [u32; FILE_SET_SIZE], j: u64, value: u64) -> [u32; FILE_SET_SIZE]
-    ensures { result ≡ putDoubleword ws j value }
+    ensures { result ≡ put_doubleword ws j value }
 {
     if j == 0 {
         return put_halves(ws, 0, words::without64(value, 1));

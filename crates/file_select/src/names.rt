@@ -1,12 +1,12 @@
 // Select numbers: which are legal, and which register each names.
 ghost use Rattle.std.specs.Prelude.{◌≡◌};
-ghost use Rattle.file_select.specs.Select.{selectLegal, registerOf};
+ghost use Rattle.file_select.specs.Select.{select_legal, register_of};
 ghost use Rattle.sizes.specs.Sizes.{identities};
 
 use super::{EIDELIVERY, EIE0, EIP0, EITHRESHOLD, Register};
 
 pub fn select_legal(select: u64) -> bool
-    ensures { result ≡ selectLegal select }
+    ensures { result ≡ select_legal select }
 {
     if select < EIDELIVERY {
         return false;
@@ -21,7 +21,7 @@ pub fn select_legal(select: u64) -> bool
 }
 
 pub fn register_of(select: u64) -> Register
-    ensures { result ≡ registerOf identities select }
+    ensures { result ≡ register_of identities select }
 {
     if select == EIDELIVERY {
         return Register::Delivery;

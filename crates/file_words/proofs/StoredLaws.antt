@@ -9,7 +9,7 @@ use native.Mathlib.Omega.{arith}
 use lib.ListN.{length, get_or, take, drop, set}
 use lib.Seq.{drop-cons, take_all, sets}
 use Rattle.file.specs.declared.File.{File}
-use Rattle.file_words.specs.Stored.{fileWords, putFile}
+use Rattle.file_words.specs.Stored.{file_words, put_file}
 
 -- ---- n words from a place on, one by one
 
@@ -58,8 +58,8 @@ module _ (l : List ℕ) (at : ℕ) where
 
   pub file-written : (f : File) → length f.pending ≡ 8
       → sets (sets (set (set l at f.delivery) (at + 1) f.threshold) (at + 2) f.pending) (at + 10)
-      f.enable ≡ putFile l at f
-  unfolding putFile fileWords
+      f.enable ≡ put_file l at f
+  unfolding put_file file_words
   file-written f e =
       ap
       (λ (k : ℕ). sets

@@ -1,15 +1,15 @@
 // A file's 18 words in a lent block: delivery, threshold, eight of pending, eight of enable.
 ghost use Rattle.std.specs.Prelude.{◌≡◌, ◌+◌, ◌≤◌, length, take, drop};
 ghost use Rattle.std.proofs.lemmas.List.Edits.{sets};
-ghost use Rattle.sizes.specs.Sizes.{fileSetSize, fileSize};
-ghost use Rattle.file_words.specs.Stored.{fileAt, putFile};
+ghost use Rattle.sizes.specs.Sizes.{file_set_size, file_size};
+ghost use Rattle.file_words.specs.Stored.{file_at, put_file};
 
 use file::File;
 use sizes::{ENABLE_PLACE, FILE_SET_SIZE, PENDING_PLACE, THRESHOLD_PLACE};
 
 fn eight(block: &[u32], at: usize) -> [u32; FILE_SET_SIZE]
-    requires { at + fileSetSize ≤ length block.now }
-    ensures { result ≡ take fileSetSize (drop at block.now) }
+    requires { at + file_set_size ≤ length block.now }
+    ensures { result ≡ take file_set_size (drop at block.now) }
 {
     [
         block[at],
@@ -24,8 +24,8 @@ fn eight(block: &[u32], at: usize) -> [u32; FILE_SET_SIZE]
 }
 
 pub fn load(block: &[u32], at: usize) -> File
-    requires { at + fileSize ≤ length block.now }
-    ensures { result ≡ fileAt block.now at }
+    requires { at + file_size ≤ length block.now }
+    ensures { result ≡ file_at block.now at }
 {
     let pending = eight(block, at + PENDING_PLACE);
     let enable = eight(block, at + ENABLE_PLACE);
@@ -38,7 +38,7 @@ pub fn load(block: &[u32], at: usize) -> File
 }
 
 fn put_eight(block: &mut [u32], at: usize, ws: [u32; FILE_SET_SIZE])
-    requires { at + fileSetSize ≤ length block.old }
+    requires { at + file_set_size ≤ length block.old }
     ensures { block.new ≡ sets block.old at ws }
 {
     block[at] = ws[0];
@@ -52,8 +52,8 @@ fn put_eight(block: &mut [u32], at: usize, ws: [u32; FILE_SET_SIZE])
 }
 
 pub fn store(block: &mut [u32], at: usize, f: File)
-    requires { at + fileSize ≤ length block.old }
-    ensures { block.new ≡ putFile block.old at f }
+    requires { at + file_size ≤ length block.old }
+    ensures { block.new ≡ put_file block.old at f }
 {
     let pending = f.pending;
     let enable = f.enable;

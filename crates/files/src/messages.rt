@@ -1,15 +1,15 @@
 // The messages of a log reach their files. Nowhere else does a sent message meet a file.
 ghost use Rattle.std.specs.Prelude.{◌≡◌, ◌≤◌, ◌<◌, length, take};
-ghost use Rattle.sizes.specs.Sizes.{hartFiles, filesSize, logSize};
-ghost use Rattle.file_message.specs.Message.{fileIn};
-ghost use Rattle.files.specs.Files.{files_of, reached, allReached, Named};
+ghost use Rattle.sizes.specs.Sizes.{hart_files, files_size, log_size};
+ghost use Rattle.file_message.specs.Message.{file_in};
+ghost use Rattle.files.specs.Files.{files_of, reached, all_reached, Named};
 
 use super::{load, store};
 use file_message::{file_in, hart_in, identity_in};
 use sizes::HART_FILES;
 
 fn deliver_one(files: &mut [u32], word: u32)
-    requires { (length files.old ≡ filesSize) × (fileIn word < hartFiles) }
+    requires { (length files.old ≡ files_size) × (file_in word < hart_files) }
     ensures { files_of files.new ≡ reached (files_of files.old) word }
 {
     let identity = identity_in(word);
@@ -26,10 +26,10 @@ fn deliver_one(files: &mut [u32], word: u32)
 
 // The first `count` messages of `log` reach their files, in order.
 pub fn deliver(files: &mut [u32], log: &[u32], count: usize)
-    requires { (length files.old ≡ filesSize) × (length log.now ≡ logSize) × (count ≤ logSize)
+    requires { (length files.old ≡ files_size) × (length log.now ≡ log_size) × (count ≤ log_size)
         × Named log.now count }
     ensures { files_of files.new
-        ≡ allReached (files_of files.old) (take count log.now) }
+        ≡ all_reached (files_of files.old) (take count log.now) }
 {
     let mut k: usize = 0;
     while k < count {

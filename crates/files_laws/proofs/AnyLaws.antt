@@ -21,20 +21,20 @@ or-second false b e = e
 -- ---- any message of a list
 
 module _ (p : ℕ → Bool) where
-  pub anyOf-true : (ms : List ℕ) (j : ℕ) → j < length ms → p (get_or ms j 0) ≡ true → any_of p ms ≡ true
+  pub any_of-true : (ms : List ℕ) (j : ℕ) → j < length ms → p (get_or ms j 0) ≡ true → any_of p ms ≡ true
   unfolding any_of
-  anyOf-true [] j h e = absurd (omega arith)
-  anyOf-true (m ∷ ms) zero h e = simp e
-  anyOf-true (m ∷ ms) (suc j) h e = simp (anyOf-true ms j (omega arith) e, or-true)
+  any_of-true [] j h e = absurd (omega arith)
+  any_of-true (m ∷ ms) zero h e = simp e
+  any_of-true (m ∷ ms) (suc j) h e = simp (any_of-true ms j (omega arith) e, or-true)
 
-  pub anyOf-false : (ms : List ℕ) → any_of p ms ≡ false → (j : ℕ) → j < length ms → p (get_or ms j 0) ≡ false
+  pub any_of-false : (ms : List ℕ) → any_of p ms ≡ false → (j : ℕ) → j < length ms → p (get_or ms j 0) ≡ false
   unfolding any_of
-  anyOf-false [] e j h = absurd (omega arith)
-  anyOf-false (m ∷ ms) e zero h = or-first (p m) (any_of p ms) e
-  anyOf-false (m ∷ ms) e (suc j) h = anyOf-false ms (or-second (p m) (any_of p ms) e) j (omega arith)
+  any_of-false [] e j h = absurd (omega arith)
+  any_of-false (m ∷ ms) e zero h = or-first (p m) (any_of p ms) e
+  any_of-false (m ∷ ms) e (suc j) h = any_of-false ms (or-second (p m) (any_of p ms) e) j (omega arith)
 
-  pub anyOf-none : (ms : List ℕ) → ((j : ℕ) → j < length ms → p (get_or ms j 0) ≡ false) → any_of p ms ≡ false
+  pub any_of-none : (ms : List ℕ) → ((j : ℕ) → j < length ms → p (get_or ms j 0) ≡ false) → any_of p ms ≡ false
   unfolding any_of
-  anyOf-none [] each = refl
-  anyOf-none (m ∷ ms) each =
-      simp (each 0 (omega arith)) (anyOf-none ms (λ j h. each (suc j) (omega arith)))
+  any_of-none [] each = refl
+  any_of-none (m ∷ ms) each =
+      simp (each 0 (omega arith)) (any_of-none ms (λ j h. each (suc j) (omega arith)))

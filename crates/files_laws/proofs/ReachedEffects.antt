@@ -15,14 +15,14 @@ use Rattle.words.specs.Sets.{member}
 use Rattle.words.proofs.SetsLaws.{member-insert-other}
 use Rattle.words.proofs.TestsLaws.{tested}
 use Rattle.sizes.specs.Sizes.{identities}
-use Rattle.file_message.specs.Message.{identityIn}
-use Rattle.file_message.proofs.MessageLaws.{identityIn-lt}
+use Rattle.file_message.specs.Message.{identity_in}
+use Rattle.file_message.proofs.MessageLaws.{identity_in-lt}
 use Rattle.file.specs.declared.File.{File}
 use Rattle.file.specs.Page.{arrived}
 use Rattle.file_laws.proofs.PageEffects.{arrived-ignored, arrived-pending, arrived-rest, arrived-length}
 use Rattle.file.specs.Shape.{Long}
-use Rattle.files.specs.Files.{zeroFile, theFile, withFile, named_by, reached, allReached}
-use Rattle.files.proofs.FilesLaws.{length-withFile, theFile-withFile-same, theFile-withFile-other}
+use Rattle.files.specs.Files.{zero_file, the_file, with_file, named_by, reached, all_reached}
+use Rattle.files.proofs.FilesLaws.{length-with_file, the_file-with_file-same, the_file-with_file-other}
 use Rattle.files_laws.specs.Messages.{names, brings, any_of, PendingOnly}
 use Rattle.files_laws.proofs.AnyLaws.{or-first, or-second}
 
@@ -40,8 +40,8 @@ module _ (n : ℕ) (f : File) (i : ℕ) where
   pub arrived-long : Long f → Long (arrived n f i)
   arrived-long s =
       record {
-        pendingLong = arrived-length n f i ∙ s.pendingLong;
-        enableLong = ap length (arrived-rest n f i).2 ∙ s.enableLong;
+        pending_long = arrived-length n f i ∙ s.pending_long;
+        enable_long = ap length (arrived-rest n f i).2 ∙ s.enable_long;
       }
 
   -- identity 0 changes nothing
@@ -68,130 +68,130 @@ module _ (n : ℕ) (f : File) (i : ℕ) where
       }
 
 -- a file put where it stands changes nothing, and so does one put past the last
-pub withFile-theFile : (fs : List File) (k : ℕ) → withFile fs k (theFile fs k) ≡ fs
-unfolding withFile theFile
-withFile-theFile fs k = set-get_or fs k zeroFile
+pub with_file-the_file : (fs : List File) (k : ℕ) → with_file fs k (the_file fs k) ≡ fs
+unfolding with_file the_file
+with_file-the_file fs k = set-get_or fs k zero_file
 
-pub withFile-past : (fs : List File) (k : ℕ) (f : File) → length fs ≤ k → withFile fs k f ≡ fs
-unfolding withFile
-withFile-past fs k f h = set_out fs k f h
+pub with_file-past : (fs : List File) (k : ℕ) (f : File) → length fs ≤ k → with_file fs k f ≡ fs
+unfolding with_file
+with_file-past fs k f h = set_out fs k f h
 
 module _ (fs : List File) (m : ℕ) where
   -- the named file after the message
   abbrev come : File
-  come = arrived identities (theFile fs (named_by m)) (identityIn m)
+  come = arrived identities (the_file fs (named_by m)) (identity_in m)
 
   pub length-reached : length (reached fs m) ≡ length fs
   unfolding reached
-  length-reached = length-withFile fs (named_by m) come
+  length-reached = length-with_file fs (named_by m) come
 
-  pub reached-zero : identityIn m ≡ 0 → reached fs m ≡ fs
+  pub reached-zero : identity_in m ≡ 0 → reached fs m ≡ fs
   unfolding reached
   reached-zero e =
-      ap (withFile fs (named_by m)) (arrived-zero identities (theFile fs (named_by m)) (identityIn m) e)
-      ∙ withFile-theFile fs (named_by m)
+      ap (with_file fs (named_by m)) (arrived-zero identities (the_file fs (named_by m)) (identity_in m) e)
+      ∙ with_file-the_file fs (named_by m)
 
   -- one that names no file here changes nothing either
   pub reached-past : length fs ≤ named_by m → reached fs m ≡ fs
   unfolding reached
-  reached-past h = withFile-past fs (named_by m) come h
+  reached-past h = with_file-past fs (named_by m) come h
 
-  pub theFile-reached-other : (k : ℕ) → k ≢ named_by m → theFile (reached fs m) k ≡ theFile fs k
+  pub the_file-reached-other : (k : ℕ) → k ≢ named_by m → the_file (reached fs m) k ≡ the_file fs k
   unfolding reached
-  theFile-reached-other k n = theFile-withFile-other fs (named_by m) come k n
+  the_file-reached-other k n = the_file-with_file-other fs (named_by m) come k n
 
-  pub theFile-reached-same : (k : ℕ) → k ≡ named_by m → k < length fs
-      → theFile (reached fs m) k ≡ arrived identities (theFile fs k) (identityIn m)
+  pub the_file-reached-same : (k : ℕ) → k ≡ named_by m → k < length fs
+      → the_file (reached fs m) k ≡ arrived identities (the_file fs k) (identity_in m)
   unfolding reached
-  theFile-reached-same k e h = rw e (theFile-withFile-same fs (named_by m) come (omega arith))
+  the_file-reached-same k e h = rw e (the_file-with_file-same fs (named_by m) come (omega arith))
 
   -- what every identity keeps, every message keeps of every file
   pub reached-keeps : (P : File → Type 0) → ((f : File) (i : ℕ) → P f → P (arrived identities f i))
-      → (k : ℕ) → P (theFile fs k) → P (theFile (reached fs m) k)
+      → (k : ℕ) → P (the_file fs k) → P (the_file (reached fs m) k)
   reached-keeps P keeps k p = at (ℕ_discrete k (named_by m)) (dec_lt k (length fs))
     where
-      at : Dec (k ≡ named_by m) → Dec (k < length fs) → P (theFile (reached fs m) k)
-      at (no n) d = subst P (sym (theFile-reached-other k n)) p
-      at (yes e) (yes h) = subst P (sym (theFile-reached-same k e h)) (keeps (theFile fs k) (identityIn m) p)
+      at : Dec (k ≡ named_by m) → Dec (k < length fs) → P (the_file (reached fs m) k)
+      at (no n) d = subst P (sym (the_file-reached-other k n)) p
+      at (yes e) (yes h) = subst P (sym (the_file-reached-same k e h)) (keeps (the_file fs k) (identity_in m) p)
       at (yes e) (no h) =
-          subst P (sym (ap (λ (gs : List File). theFile gs k) (reached-past (omega arith)))) p
+          subst P (sym (ap (λ (gs : List File). the_file gs k) (reached-past (omega arith)))) p
 
   -- the identity that came is pending, and every other is as it was
-  pub pending-reached : (k i : ℕ) → k < length fs → Long (theFile fs k) → 1 ≤ i
-      → member (theFile (reached fs m) k).pending i ≡ (member (theFile fs k).pending i || brings k i m)
+  pub pending-reached : (k i : ℕ) → k < length fs → Long (the_file fs k) → 1 ≤ i
+      → member (the_file (reached fs m) k).pending i ≡ (member (the_file fs k).pending i || brings k i m)
   unfolding brings names
   pending-reached k i h long l = at (ℕ_discrete k (named_by m))
     where
       at : Dec (k ≡ named_by m)
-          → member (theFile (reached fs m) k).pending i
-          ≡ (member (theFile fs k).pending i || (eqb (named_by m) k && eqb (identityIn m) i))
+          → member (the_file (reached fs m) k).pending i
+          ≡ (member (the_file fs k).pending i || (eqb (named_by m) k && eqb (identity_in m) i))
       at (no n) =
-          ap (λ (f : File). member f.pending i) (theFile-reached-other k n)
+          ap (λ (f : File). member f.pending i) (the_file-reached-other k n)
           ∙ sym (simp (ne_eqb (named_by m) k (λ e. n (sym e)), or-false))
       at (yes e) =
-          ap (λ (f : File). member f.pending i) (theFile-reached-same k e h)
-          ∙ arrived-pending identities (theFile fs k) (identityIn m) i (omega (arith, long.pendingLong))
-          ∙ ap (λ (b : Bool). member (theFile fs k).pending i || b)
-          (came identities i (identityIn m) l (omega (arith, identityIn-lt m))
+          ap (λ (f : File). member f.pending i) (the_file-reached-same k e h)
+          ∙ arrived-pending identities (the_file fs k) (identity_in m) i (omega (arith, long.pending_long))
+          ∙ ap (λ (b : Bool). member (the_file fs k).pending i || b)
+          (came identities i (identity_in m) l (omega (arith, identity_in-lt m))
           ∙ sym (simp (eq-eqb (named_by m) k (sym e))))
 
   pub pending-reached-zero : (k : ℕ)
-      → member (theFile (reached fs m) k).pending 0 ≡ member (theFile fs k).pending 0
+      → member (the_file (reached fs m) k).pending 0 ≡ member (the_file fs k).pending 0
   pending-reached-zero k =
-      reached-keeps (λ f. member f.pending 0 ≡ member (theFile fs k).pending 0)
+      reached-keeps (λ f. member f.pending 0 ≡ member (the_file fs k).pending 0)
       (λ f i. zero-keeps identities f i) k refl
 
-  pub rest-reached : (k : ℕ) → PendingOnly (theFile fs k) (theFile (reached fs m) k)
+  pub rest-reached : (k : ℕ) → PendingOnly (the_file fs k) (the_file (reached fs m) k)
   rest-reached k =
-      reached-keeps (PendingOnly (theFile fs k)) (λ f i. rest-keeps identities f i) k
+      reached-keeps (PendingOnly (the_file fs k)) (λ f i. rest-keeps identities f i) k
       (record { delivery = refl; threshold = refl; enable = refl })
 
 -- ---- messages in order
 
 -- what every identity keeps, messages keep of every file
-pub allReached-keeps : (P : File → Type 0) → ((f : File) (i : ℕ) → P f → P (arrived identities f i))
-    → (ms : List ℕ) (fs : List File) (k : ℕ) → P (theFile fs k) → P (theFile (allReached fs ms) k)
-unfolding allReached
-allReached-keeps P keeps [] fs k p = p
-allReached-keeps P keeps (m ∷ ms) fs k p =
-    allReached-keeps P keeps ms (reached fs m) k (reached-keeps fs m P keeps k p)
+pub all_reached-keeps : (P : File → Type 0) → ((f : File) (i : ℕ) → P f → P (arrived identities f i))
+    → (ms : List ℕ) (fs : List File) (k : ℕ) → P (the_file fs k) → P (the_file (all_reached fs ms) k)
+unfolding all_reached
+all_reached-keeps P keeps [] fs k p = p
+all_reached-keeps P keeps (m ∷ ms) fs k p =
+    all_reached-keeps P keeps ms (reached fs m) k (reached-keeps fs m P keeps k p)
 
-pub length-allReached : (ms : List ℕ) (fs : List File) → length (allReached fs ms) ≡ length fs
-unfolding allReached
-length-allReached [] fs = refl
-length-allReached (m ∷ ms) fs = length-allReached ms (reached fs m) ∙ length-reached fs m
+pub length-all_reached : (ms : List ℕ) (fs : List File) → length (all_reached fs ms) ≡ length fs
+unfolding all_reached
+length-all_reached [] fs = refl
+length-all_reached (m ∷ ms) fs = length-all_reached ms (reached fs m) ∙ length-reached fs m
 
 -- a file that no message names is as it was
-pub theFile-allReached-other : (ms : List ℕ) (fs : List File) (k : ℕ) → any_of (names k) ms ≡ false
-    → theFile (allReached fs ms) k ≡ theFile fs k
-unfolding allReached any_of names
-theFile-allReached-other [] fs k e = refl
-theFile-allReached-other (m ∷ ms) fs k e =
-    theFile-allReached-other ms (reached fs m) k (or-second (names k m) (any_of (names k) ms) e)
-    ∙ theFile-reached-other fs m k (λ q. eqb-false (named_by m) k
+pub the_file-all_reached-other : (ms : List ℕ) (fs : List File) (k : ℕ) → any_of (names k) ms ≡ false
+    → the_file (all_reached fs ms) k ≡ the_file fs k
+unfolding all_reached any_of names
+the_file-all_reached-other [] fs k e = refl
+the_file-all_reached-other (m ∷ ms) fs k e =
+    the_file-all_reached-other ms (reached fs m) k (or-second (names k m) (any_of (names k) ms) e)
+    ∙ the_file-reached-other fs m k (λ q. eqb-false (named_by m) k
     (or-first (names k m) (any_of (names k) ms) e) (sym q))
 
 -- an identity of 1 or more is pending after the messages if it was, or if one of them brought it
-pub pending-allReached : (ms : List ℕ) (fs : List File) (k i : ℕ) → k < length fs → Long (theFile fs k)
+pub pending-all_reached : (ms : List ℕ) (fs : List File) (k i : ℕ) → k < length fs → Long (the_file fs k)
     → 1 ≤ i
-    → member (theFile (allReached fs ms) k).pending i
-    ≡ (member (theFile fs k).pending i || any_of (brings k i) ms)
-unfolding allReached any_of
-pending-allReached [] fs k i h long l = sym (or-false (member (theFile fs k).pending i))
-pending-allReached (m ∷ ms) fs k i h long l =
-    pending-allReached ms (reached fs m) k i (omega (arith, length-reached fs m))
+    → member (the_file (all_reached fs ms) k).pending i
+    ≡ (member (the_file fs k).pending i || any_of (brings k i) ms)
+unfolding all_reached any_of
+pending-all_reached [] fs k i h long l = sym (or-false (member (the_file fs k).pending i))
+pending-all_reached (m ∷ ms) fs k i h long l =
+    pending-all_reached ms (reached fs m) k i (omega (arith, length-reached fs m))
     (reached-keeps fs m Long (arrived-long identities) k long) l
     ∙ ap (λ (b : Bool). b || any_of (brings k i) ms) (pending-reached fs m k i h long l)
-    ∙ or_assoc (member (theFile fs k).pending i) (brings k i m) (any_of (brings k i) ms)
+    ∙ or_assoc (member (the_file fs k).pending i) (brings k i m) (any_of (brings k i) ms)
 
 module _ (ms : List ℕ) (fs : List File) (k : ℕ) where
-  pub pending-allReached-zero :
-      member (theFile (allReached fs ms) k).pending 0 ≡ member (theFile fs k).pending 0
-  pending-allReached-zero =
-      allReached-keeps (λ f. member f.pending 0 ≡ member (theFile fs k).pending 0)
+  pub pending-all_reached-zero :
+      member (the_file (all_reached fs ms) k).pending 0 ≡ member (the_file fs k).pending 0
+  pending-all_reached-zero =
+      all_reached-keeps (λ f. member f.pending 0 ≡ member (the_file fs k).pending 0)
       (λ f i. zero-keeps identities f i) ms fs k refl
 
-  pub rest-allReached : PendingOnly (theFile fs k) (theFile (allReached fs ms) k)
-  rest-allReached =
-      allReached-keeps (PendingOnly (theFile fs k)) (λ f i. rest-keeps identities f i) ms fs k
+  pub rest-all_reached : PendingOnly (the_file fs k) (the_file (all_reached fs ms) k)
+  rest-all_reached =
+      all_reached-keeps (PendingOnly (the_file fs k)) (λ f i. rest-keeps identities f i) ms fs k
       (record { delivery = refl; threshold = refl; enable = refl })

@@ -4,7 +4,7 @@
 --   any_of p ms           p holds of a message of ms
 --   PendingOnly f f'     f' is f in all but its pending set
 use Rattle.std.specs.Prelude.{ℕ, ◌≡◌, Bool, false, ◌&&◌, ◌||◌, List, [], ◌∷◌, eqb}
-use Rattle.file_message.specs.Message.{identityIn}
+use Rattle.file_message.specs.Message.{identity_in}
 use Rattle.file.specs.declared.File.{File}
 use Rattle.files.specs.Files.{named_by}
 
@@ -12,7 +12,7 @@ unfoldable pub names : ℕ → ℕ → Bool
 names k m = eqb (named_by m) k
 
 unfoldable pub brings : ℕ → ℕ → ℕ → Bool
-brings k i m = names k m && eqb (identityIn m) i
+brings k i m = names k m && eqb (identity_in m) i
 
 unfoldable pub any_of : (ℕ → Bool) → List ℕ → Bool
 any_of p [] = false

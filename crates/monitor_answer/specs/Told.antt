@@ -6,15 +6,15 @@
 --   Tells c l g r l' g'   the same of one that is lent no saved numbers: any saved numbers stay as they are
 use Rattle.std.specs.Prelude.{◌≡◌, List, ℕ}
 use Rattle.board_call.specs.declared.Answer.{Answer}
-use Rattle.board_call.specs.Answer.{refusalNumber, answerValue, answerCount}
+use Rattle.board_call.specs.Answer.{refusal_number, answer_value, answer_count}
 use Rattle.board_call.specs.declared.Call.{Call}
 use Rattle.board_call.specs.Outcome.{Outcome, outcome}
 use Rattle.monitor_answer.specs.declared.VskAnswer.{VskAnswer}
 
 pub record Numbers (r : VskAnswer) (a : Answer) : Type 0 where
-  pub refusal : r.refusal ≡ refusalNumber a
-  pub value : r.value ≡ answerValue a
-  pub count : r.count ≡ answerCount a
+  pub refusal : r.refusal ≡ refusal_number a
+  pub value : r.value ≡ answer_value a
+  pub count : r.count ≡ answer_count a
 
 -- [01 X1 X3]
 pub record Told (o : Outcome) (r : VskAnswer) (l g s : List ℕ) : Type 0 where

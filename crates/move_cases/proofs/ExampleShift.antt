@@ -7,38 +7,38 @@ use native.Mathlib.Omega.{arith}
 use lib.ListN.{get_or}
 use Rattle.words.specs.Bits.{put_bit}
 use Rattle.file.specs.Top.{signals}
-use Rattle.domain_delivery.specs.Delivery.{structureSignals}
-use Rattle.domain_direct.specs.Direct.{signalOf}
+use Rattle.domain_delivery.specs.Delivery.{structure_signals}
+use Rattle.domain_direct.specs.Direct.{signal_of}
 use Rattle.domain_sending.specs.Sending.{logged}
 use Rattle.board_block.specs.Block.{Board}
 use Rattle.board_call.specs.declared.Call.{Call}
 use Rattle.board_call.specs.declared.Call.TheVariants.{Top, Claim, Signals}
 use Rattle.board_call.specs.Move as call
-use Rattle.board_call.specs.Change.{signalAt, signalsTo}
+use Rattle.board_call.specs.Change.{signal_at, signals_to}
 use Rattle.board_call.specs.Calls.{row_of}
-use Rattle.board_call.specs.Outcome.{Stepped, step, Outcome, doneAs}
-use Rattle.board_call.specs.Refusal.{nameRefusal}
+use Rattle.board_call.specs.Outcome.{Stepped, step, Outcome, done_as}
+use Rattle.board_call.specs.Refusal.{name_refusal}
 use Rattle.board_call_laws.specs.Small.{Small}
 use Rattle.board_call_laws.proofs.OutcomeEffects.{outcome-done}
-use Rattle.board_runs.specs.Runs.{saidWhere, Lent, outcomeOn, after, ran, handing}
-use Rattle.board_runs.specs.Handed.{isAccess}
-use Rattle.board_runs.specs.Ready.{boardIn, Ready}
-use Rattle.board_runs.specs.Reading.{onlyReads}
+use Rattle.board_runs.specs.Runs.{said_where, Lent, outcome_on, after, ran, handing}
+use Rattle.board_runs.specs.Handed.{is_access}
+use Rattle.board_runs.specs.Ready.{board_in, Ready}
+use Rattle.board_runs.specs.Reading.{only_reads}
 use Rattle.board_runs.proofs.RunsEffects.{ready-refusal, ready-ran, after-board}
-use Rattle.move_laws.specs.Shift.{Event, elsewhere, withMove, withoutMove}
-use Rattle.move_laws.specs.Premises.{TwoGuests, accessesIn, AllAccesses, PagesKept, CallsKept, Premises}
-use Rattle.move_laws.specs.Moved.{oldIn, newIn}
-use Rattle.move_laws.proofs.ShiftEffects.{lentFrom, move-done}
+use Rattle.move_laws.specs.Shift.{Event, elsewhere, with_move, without_move}
+use Rattle.move_laws.specs.Premises.{TwoGuests, accesses_in, AllAccesses, PagesKept, CallsKept, Premises}
+use Rattle.move_laws.specs.Moved.{old_in, new_in}
+use Rattle.move_laws.proofs.ShiftEffects.{lent_from, move-done}
 use Rattle.move_laws.proofs.EndEffects.{EventsSmall, small-with, small-without}
-use Rattle.move_cases.specs.Board.{stations, stale, wiredTo, boardWith, lent}
-use Rattle.move_cases.specs.Example.{start, early, edgeOver, levelOver, lookedOn, late, shift, so_far}
-use Rattle.move_cases.specs.Example.{claiming, over, rises, stationEnd, oldEnd, boardEnd, Example}
-use Rattle.move_cases.proofs.BoardRun.{heldBy, boardRun}
-use Rattle.move_cases.proofs.Starts.{blockTests, freshTest, start_of, lent-ready, lent-messages}
+use Rattle.move_cases.specs.Board.{stations, stale, wired_to, board_with, lent}
+use Rattle.move_cases.specs.Example.{start, early, edge_over, level_over, looked_on, late, shift, so_far}
+use Rattle.move_cases.specs.Example.{claiming, over, rises, station_end, old_end, board_end, Example}
+use Rattle.move_cases.proofs.BoardRun.{held_by, board_run}
+use Rattle.move_cases.proofs.Starts.{block_tests, fresh_test, start_of, lent-ready, lent-messages}
 use Rattle.move_cases.proofs.Starts.{lent-fresh, lent-started, lent-ran, good_old}
 
 abbrev pub board : Board
-board = boardWith (wiredTo 0 2)
+board = board_with (wired_to 0 2)
 
 -- ---- the premises
 
@@ -46,7 +46,7 @@ pub other : {A : Type 0} → false ≡ true → A
 other e = absurd (false≢true e)
 
 pub two-guests : TwoGuests stations
-unfolding boardRun
+unfolding board_run
 two-guests = record { old = refl; new = refl; different = refl }
 
 late-pages : PagesKept stations 48 late
@@ -58,8 +58,8 @@ late-pages = (
 )
 
 example-premises : Premises stations start.block start.saved shift
-unfolding start shift early edgeOver levelOver lookedOn late AllAccesses accessesIn PagesKept CallsKept
-    onlyReads elsewhere freshTest blockTests boardRun
+unfolding start shift early edge_over level_over looked_on late AllAccesses accesses_in PagesKept CallsKept
+    only_reads elsewhere fresh_test block_tests board_run
 example-premises =
     record {
       started = lent-started board good_old 63;
@@ -79,37 +79,37 @@ example-premises =
 
 module _ (es : List Event) (small : EventsSmall es) where
   abbrev computed : call.Acted
-  computed = boardRun (withMove stations 0 es) (start_of board)
+  computed = board_run (with_move stations 0 es) (start_of board)
 
-  so-far : heldBy (so_far es) ≡ computed
+  so-far : held_by (so_far es) ≡ computed
   unfolding start
-  so-far = lent-ran board good_old (withMove stations 0 es) (small-with stations es 0 small)
+  so-far = lent-ran board good_old (with_move stations 0 es) (small-with stations es 0 small)
 
   -- what is read of the board
-  seen : {A : Type 0} (t : Board → A) → t (boardIn (so_far es)) ≡ t computed.board
+  seen : {A : Type 0} (t : Board → A) → t (board_in (so_far es)) ≡ t computed.board
   seen t = ap (λ (y : call.Acted). t y.board) so-far
 
   ready : Ready (so_far es)
   unfolding start
   ready =
-      ready-ran (withMove stations 0 es) (lent board 63)
+      ready-ran (with_move stations 0 es) (lent board 63)
       (lent-ready board good_old) (small-with stations es 0 small)
 
 module _ (es : List Event) (small : EventsSmall es) (c : Call) (still : Small c)
-    (accepted : nameRefusal c (boardIn (so_far es)) ≡ 0) where
+    (accepted : name_refusal c (board_in (so_far es)) ≡ 0) where
   abbrev next : Stepped
   next = step c (computed es small).board (computed es small).saved
 
-  next-is : step c (boardIn (so_far es)) (so_far es).saved ≡ next
+  next-is : step c (board_in (so_far es)) (so_far es).saved ≡ next
   next-is = ap (λ (y : call.Acted). step c y.board y.saved) (so-far es small)
 
-  next-outcome : outcomeOn c (so_far es) ≡ doneAs next (so_far es).log
+  next-outcome : outcome_on c (so_far es) ≡ done_as next (so_far es).log
   next-outcome =
       outcome-done c (so_far es).block (so_far es).log (so_far es).saved
       (ready-refusal c (so_far es) (ready es small) ∙ accepted)
-      ∙ ap (λ (x : Stepped). doneAs x (so_far es).log) next-is
+      ∙ ap (λ (x : Stepped). done_as x (so_far es).log) next-is
 
-  next-board : boardIn (after c (so_far es)) ≡ next.board
+  next-board : board_in (after c (so_far es)) ≡ next.board
   next-board =
       after-board c (so_far es) (ready es small) accepted still ∙ ap (λ (x : Stepped). x.board) next-is
 
@@ -119,36 +119,36 @@ early-small : EventsSmall early
 unfolding early EventsSmall
 early-small = tt
 
-edge-small : EventsSmall (early ++ edgeOver)
-unfolding early edgeOver EventsSmall
+edge-small : EventsSmall (early ++ edge_over)
+unfolding early edge_over EventsSmall
 edge-small = tt
 
 claiming-small : EventsSmall claiming
-unfolding early edgeOver levelOver EventsSmall row_of
+unfolding early edge_over level_over EventsSmall row_of
 claiming-small = (omega arith, tt)
 
 over-small : EventsSmall over
-unfolding early edgeOver levelOver lookedOn EventsSmall row_of
+unfolding early edge_over level_over looked_on EventsSmall row_of
 over-small = (omega arith, (tt, (tt, tt)))
 
 pub shift_small : EventsSmall shift
-unfolding shift early edgeOver levelOver lookedOn late EventsSmall row_of
+unfolding shift early edge_over level_over looked_on late EventsSmall row_of
 shift_small = (omega arith, (tt, (tt, tt)))
 
-ran-with : (computed shift shift_small).board ≡ boardEnd oldEnd stationEnd (wiredTo 1 3)
-unfolding shift early edgeOver levelOver lookedOn late oldEnd stationEnd boardEnd withMove blockTests boardRun
+ran-with : (computed shift shift_small).board ≡ board_end old_end station_end (wired_to 1 3)
+unfolding shift early edge_over level_over looked_on late old_end station_end board_end with_move block_tests board_run
 ran-with = refl
 
 abbrev alone : call.Acted
-alone = boardRun (withoutMove stations shift) (start_of board)
+alone = board_run (without_move stations shift) (start_of board)
 
-ran-without : alone.board ≡ boardEnd stationEnd stale (wiredTo 0 2)
-unfolding shift early edgeOver levelOver lookedOn late stationEnd boardEnd withoutMove blockTests boardRun
+ran-without : alone.board ≡ board_end station_end stale (wired_to 0 2)
+unfolding shift early edge_over level_over looked_on late station_end board_end without_move block_tests board_run
 ran-without = refl
 
-without : heldBy (ran (withoutMove stations shift) start) ≡ alone
+without : held_by (ran (without_move stations shift) start) ≡ alone
 unfolding start
-without = lent-ran board good_old (withoutMove stations shift) (small-without stations shift shift_small)
+without = lent-ran board good_old (without_move stations shift) (small-without stations shift shift_small)
 
 -- ---- the example
 
@@ -156,36 +156,36 @@ pub start-ready : Ready start
 unfolding start
 start-ready = lent-ready board good_old
 
-begins : lentFrom start.block start.saved ≡ start
+begins : lent_from start.block start.saved ≡ start
 unfolding start lent
 begins = refl
 
 -- each equation that ends in refl computes
 pub example : Example
-unfolding shift early edgeOver levelOver lookedOn late oldEnd stationEnd logged withMove row_of blockTests
-    boardRun signalsTo signalAt signalOf structureSignals signals put_bit
+unfolding shift early edge_over level_over looked_on late old_end station_end logged with_move row_of block_tests
+    board_run signals_to signal_at signal_of structure_signals signals put_bit
 example =
     record {
       premises = example-premises;
-      early-old = seen early early-small (oldIn stations) ∙ refl;
-      early-new = seen early early-small (newIn stations) ∙ refl;
+      early-old = seen early early-small (old_in stations) ∙ refl;
+      early-new = seen early early-small (new_in stations) ∙ refl;
       edge_count =
-          ap (λ (o : Outcome). o.count) (next-outcome (early ++ edgeOver) edge-small (rises 1) tt refl)
+          ap (λ (o : Outcome). o.count) (next-outcome (early ++ edge_over) edge-small (rises 1) tt refl)
           ∙ refl;
       edge-word =
           ap (λ (o : Outcome). get_or o.log 0 0)
-          (next-outcome (early ++ edgeOver) edge-small (rises 1) tt refl)
+          (next-outcome (early ++ edge_over) edge-small (rises 1) tt refl)
           ∙ refl;
-      over-old = seen over over-small (oldIn stations) ∙ refl;
-      over-new = seen over over-small (newIn stations) ∙ refl;
+      over-old = seen over over-small (old_in stations) ∙ refl;
+      over-new = seen over over-small (new_in stations) ∙ refl;
       other-claim =
           ap (λ (o : Outcome). o.value) (next-outcome claiming claiming-small (Claim 0 3) tt refl) ∙ refl;
       level-count = ap (λ (o : Outcome). o.count) (next-outcome over over-small (rises 40) tt refl) ∙ refl;
       level-word =
           ap (λ (o : Outcome). get_or o.log 0 0) (next-outcome over over-small (rises 40) tt refl) ∙ refl;
-      level-new = ap (newIn stations) (next-board over over-small (rises 40) tt refl) ∙ refl;
+      level-new = ap (new_in stations) (next-board over over-small (rises 40) tt refl) ∙ refl;
       done =
-          ap (λ (x : Lent). saidWhere isAccess (handing (withMove stations 0 shift) x) start.block)
+          ap (λ (x : Lent). said_where is_access (handing (with_move stations 0 shift) x) start.block)
           (sym begins)
           ∙ move-done stations start.block start.saved shift example-premises;
       ends = seen shift shift_small (λ b. b) ∙ ran-with;

@@ -9,7 +9,7 @@
 --   AnyState l s             Started, but that the state may break the rules
 --   Besides d m n es         n accesses having been made, every call besides is as CallsKept says, or is the
 --                            call d, between the first access and the last
---   onOld m c, stationThere m es   a call, and a shift, with the calls on new made on old: so the station
+--   on_old m c, station_there m es   a call, and a shift, with the calls on new made on old: so the station
 --                            makes them where it is not moved
 --   TooWeak P                there are stations, a start and a shift that meet P, and the shift with the
 --                            move, with one log handed on, does not end as Moved says
@@ -19,22 +19,22 @@
 -- every access is refused, and both shifts are the same. Not known: whether other writes to a domain, a
 -- claimi, or an access of a move between two other files could be let in.
 use Rattle.std.specs.Prelude.{ℕ, suc, ◌≤◌, ◌<◌, ◌≡◌, true, false, cond, ◌||◌, List, [], ◌∷◌, ◌⊎◌, length}
-use Rattle.sizes.specs.Sizes.{blockSize, logSize, savedSize}
+use Rattle.sizes.specs.Sizes.{block_size, log_size, saved_size}
 use Rattle.words.specs.Sets.{WordsFit}
 use Rattle.board_move_steps.specs.Steps.{accesses}
-use Rattle.board_block.specs.Block.{boardOf}
+use Rattle.board_block.specs.Block.{board_of}
 use Rattle.board_call.specs.declared.Call.{Call}
 use Rattle.board_call.specs.declared.Call.TheVariants.{Reset, Wire, DomainRead, DomainWrite, PageRead}
 use Rattle.board_call.specs.declared.Call.TheVariants.{PageWrite, Register, Top, Claim, Signals, Move}
-use Rattle.board_call.specs.Numbers.{isFile, isGuestFile}
+use Rattle.board_call.specs.Numbers.{is_file, is_guest_file}
 use Rattle.board_call_laws.specs.Fit.{SavedFit}
 use Rattle.board_call_laws.specs.Small.{Small}
-use Rattle.board_runs.specs.Runs.{Made, leftBy, Lent, ran}
+use Rattle.board_runs.specs.Runs.{Made, left_by, Lent, ran}
 use Rattle.board_runs.specs.Handed.{Makes}
-use Rattle.board_runs.specs.Ready.{boardIn}
-use Rattle.board_runs.specs.Reading.{onlyReads}
-use Rattle.move_laws.specs.Shift.{Stations, Event, isOld, isNew, elsewhere, withMove, withoutMove}
-use Rattle.move_laws.specs.Premises.{Started, TwoGuests, ByMessages, NoneNamesNew, accessesIn}
+use Rattle.board_runs.specs.Ready.{board_in}
+use Rattle.board_runs.specs.Reading.{only_reads}
+use Rattle.move_laws.specs.Shift.{Stations, Event, is_old, is_new, elsewhere, with_move, without_move}
+use Rattle.move_laws.specs.Premises.{Started, TwoGuests, ByMessages, NoneNamesNew, accesses_in}
 use Rattle.move_laws.specs.Premises.{AllAccesses, PagesKept, CallsKept, Premises}
 use Rattle.move_laws.specs.Moved.{Moved}
 
@@ -44,22 +44,22 @@ unfoldable pub PagesWithin : ℕ → ℕ → Stations → ℕ → List Event →
 PagesWithin a z m n [] = Unit {0}
 PagesWithin a z m n (Event.wire i level ∷ es) = PagesWithin a z m n es
 PagesWithin a z m n (Event.page h f o v ∷ es) =
-    (isNew m h f ≡ true → a ≤ n) × (isOld m h f ≡ true → n < z) × PagesWithin a z m n es
+    (is_new m h f ≡ true → a ≤ n) × (is_old m h f ≡ true → n < z) × PagesWithin a z m n es
 PagesWithin a z m n (Event.access ∷ es) = PagesWithin a z m (suc n) es
 PagesWithin a z m n (Event.call c ∷ es) = PagesWithin a z m n es
 
 unfoldable pub LogLong : Lent → Type 0
-LogLong x = length x.log ≡ logSize
+LogLong x = length x.log ≡ log_size
 
 pub record AnyOld (m : Stations) : Type 0 where
-  pub old : isFile m.oldHart m.oldFile ≡ true
-  pub new : isGuestFile m.newHart m.newFile ≡ true
-  pub different : isNew m m.oldHart m.oldFile ≡ false
+  pub old : is_file m.old_hart m.old_file ≡ true
+  pub new : is_guest_file m.new_hart m.new_file ≡ true
+  pub different : is_new m m.old_hart m.old_file ≡ false
 
 pub record AnyNew (m : Stations) : Type 0 where
-  pub old : isGuestFile m.oldHart m.oldFile ≡ true
-  pub new : isFile m.newHart m.newFile ≡ true
-  pub different : isNew m m.oldHart m.oldFile ≡ false
+  pub old : is_guest_file m.old_hart m.old_file ≡ true
+  pub new : is_file m.new_hart m.new_file ≡ true
+  pub different : is_new m m.old_hart m.old_file ≡ false
 
 unfoldable pub Besides : Call → Stations → ℕ → List Event → Type 0
 Besides d m n [] = Unit {0}
@@ -67,40 +67,40 @@ Besides d m n (Event.wire i level ∷ es) = Besides d m n es
 Besides d m n (Event.page h f a v ∷ es) = Besides d m n es
 Besides d m n (Event.access ∷ es) = Besides d m (suc n) es
 Besides d m n (Event.call c ∷ es) =
-    (((onlyReads c || elsewhere m c) ≡ true) ⊎ ((c ≡ d) × (1 ≤ n) × (n < accesses))) × Small c
+    (((only_reads c || elsewhere m c) ≡ true) ⊎ ((c ≡ d) × (1 ≤ n) × (n < accesses))) × Small c
     × Besides d m n es
 
 -- the station's file in the compared shift is old
-abbrev pub fileThere : Stations → ℕ → ℕ → ℕ
-fileThere m h f = cond (isNew m h f) m.oldFile f
+abbrev pub file_there : Stations → ℕ → ℕ → ℕ
+file_there m h f = cond (is_new m h f) m.old_file f
 
-abbrev pub hartThere : Stations → ℕ → ℕ → ℕ
-hartThere m h f = cond (isNew m h f) m.oldHart h
+abbrev pub hart_there : Stations → ℕ → ℕ → ℕ
+hart_there m h f = cond (is_new m h f) m.old_hart h
 
-unfoldable pub onOld : Stations → Call → Call
-onOld m Reset = Reset
-onOld m (Wire w level) = Wire w level
-onOld m (DomainRead d a) = DomainRead d a
-onOld m (DomainWrite d a v) = DomainWrite d a v
-onOld m (PageRead h f a) = PageRead (hartThere m h f) (fileThere m h f) a
-onOld m (PageWrite h f a v) = PageWrite (hartThere m h f) (fileThere m h f) a v
-onOld m (Register h f k s v) = Register (hartThere m h f) (fileThere m h f) k s v
-onOld m (Top h f) = Top (hartThere m h f) (fileThere m h f)
-onOld m (Claim h f) = Claim (hartThere m h f) (fileThere m h f)
-onOld m (Signals h) = Signals h
-onOld m (Move oh of nh nf n) = Move oh of nh nf n
+unfoldable pub on_old : Stations → Call → Call
+on_old m Reset = Reset
+on_old m (Wire w level) = Wire w level
+on_old m (DomainRead d a) = DomainRead d a
+on_old m (DomainWrite d a v) = DomainWrite d a v
+on_old m (PageRead h f a) = PageRead (hart_there m h f) (file_there m h f) a
+on_old m (PageWrite h f a v) = PageWrite (hart_there m h f) (file_there m h f) a v
+on_old m (Register h f k s v) = Register (hart_there m h f) (file_there m h f) k s v
+on_old m (Top h f) = Top (hart_there m h f) (file_there m h f)
+on_old m (Claim h f) = Claim (hart_there m h f) (file_there m h f)
+on_old m (Signals h) = Signals h
+on_old m (Move oh of nh nf n) = Move oh of nh nf n
 
-unfoldable pub stationThere : Stations → List Event → List Event
-stationThere m [] = []
-stationThere m (Event.wire i level ∷ es) = Event.wire i level ∷ stationThere m es
-stationThere m (Event.page h f a v ∷ es) = Event.page h f a v ∷ stationThere m es
-stationThere m (Event.access ∷ es) = Event.access ∷ stationThere m es
-stationThere m (Event.call c ∷ es) = Event.call (onOld m c) ∷ stationThere m es
+unfoldable pub station_there : Stations → List Event → List Event
+station_there m [] = []
+station_there m (Event.wire i level ∷ es) = Event.wire i level ∷ station_there m es
+station_there m (Event.page h f a v ∷ es) = Event.page h f a v ∷ station_there m es
+station_there m (Event.access ∷ es) = Event.access ∷ station_there m es
+station_there m (Event.call c ∷ es) = Event.call (on_old m c) ∷ station_there m es
 
 pub record AnyState (l s : List ℕ) : Type 0 where
-  pub block : length l ≡ blockSize
+  pub block : length l ≡ block_size
   pub words : WordsFit l
-  pub saved-long : length s ≡ savedSize
+  pub saved-long : length s ≡ saved_size
   pub saved-fit : SavedFit s
 
 -- ---- premises that do not suffice
@@ -110,13 +110,13 @@ pub record TooWeak (P : Stations → Lent → List Event → Type 0) : Type 0 wh
   pub x : Lent
   pub es : List Event
   pub meets : P m x es
-  pub breaks : Moved m (boardIn (ran (withMove m 0 es) x)) (boardIn (ran (withoutMove m es) x)) → ⊥
+  pub breaks : Moved m (board_in (ran (with_move m 0 es) x)) (board_in (ran (without_move m es) x)) → ⊥
 
 -- one access is not made
 unfoldable pub NeedsAll : Type 0
 NeedsAll =
     TooWeak (λ m x es. Started x.block x.saved × LogLong x × TwoGuests m × ByMessages x.block
-    × NoneNamesNew m x.block × (accessesIn es ≡ 88) × PagesKept m 0 es × CallsKept m es)
+    × NoneNamesNew m x.block × (accesses_in es ≡ 88) × PagesKept m 0 es × CallsKept m es)
 
 -- a device writes to new after access 7
 unfoldable pub NeedsPagesNew : Type 0
@@ -175,9 +175,9 @@ pub record NeedsHandedOn : Type 0 where
   pub ms : List Made
   pub ns : List Made
   pub premises : Premises m l s es
-  pub with : Makes (withMove m 0 es) ms
-  pub without : Makes (withoutMove m es) ns
-  pub breaks : Moved m (boardOf (leftBy ms l)) (boardOf (leftBy ns l)) → ⊥
+  pub with : Makes (with_move m 0 es) ms
+  pub without : Makes (without_move m es) ns
+  pub breaks : Moved m (board_of (left_by ms l)) (board_of (left_by ns l)) → ⊥
 
 -- ---- calls that cannot be let in
 
@@ -195,24 +195,24 @@ pub record Letting (d : Stations → Call) : Type 0 where
   pub all : AllAccesses es
   pub pages : PagesKept m 0 es
   pub besides : Besides (d m) m 0 es
-  pub breaks : Moved m (boardIn (ran (withMove m 0 es) x))
-      (boardIn (ran (withoutMove m (stationThere m es)) x)) → ⊥
+  pub breaks : Moved m (board_in (ran (with_move m 0 es) x))
+      (board_in (ran (without_move m (station_there m es)) x)) → ⊥
 
 -- the moved station claims from old
 unfoldable pub NeedsNoClaimOld : Type 0
-NeedsNoClaimOld = Letting (λ m. Claim m.oldHart m.oldFile)
+NeedsNoClaimOld = Letting (λ m. Claim m.old_hart m.old_file)
 
 -- it claims from new
 unfoldable pub NeedsNoClaimNew : Type 0
-NeedsNoClaimNew = Letting (λ m. Claim m.newHart m.newFile)
+NeedsNoClaimNew = Letting (λ m. Claim m.new_hart m.new_file)
 
 -- it writes a register of old, the enable bits of identities 0 to 63
 unfoldable pub NeedsNoWriteOld : Type 0
-NeedsNoWriteOld = Letting (λ m. Register m.oldHart m.oldFile 1 0xC0 0)
+NeedsNoWriteOld = Letting (λ m. Register m.old_hart m.old_file 1 0xC0 0)
 
 -- or one of new
 unfoldable pub NeedsNoWriteNew : Type 0
-NeedsNoWriteNew = Letting (λ m. Register m.newHart m.newFile 1 0xC0 0)
+NeedsNoWriteNew = Letting (λ m. Register m.new_hart m.new_file 1 0xC0 0)
 
 -- the target of source 1 of the child is written: identity 7 of file 2 of hart 0
 unfoldable pub NeedsNoTarget : Type 0
@@ -224,7 +224,7 @@ NeedsNoDomaincfg = Letting (λ m. DomainWrite 1 0 0)
 
 -- another station, file 2 of hart 2, is moved to new: the access that clears identities 0 to 63 there
 unfoldable pub NeedsNoOtherMove : Type 0
-NeedsNoOtherMove = Letting (λ m. Move 2 2 m.newHart m.newFile 5)
+NeedsNoOtherMove = Letting (λ m. Move 2 2 m.new_hart m.new_file 5)
 
 -- the board is reset
 unfoldable pub NeedsNoReset : Type 0

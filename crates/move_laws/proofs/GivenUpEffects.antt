@@ -15,25 +15,25 @@ use native.Mathlib.Omega.{arith}
 use lib.Dec.{eqb}
 use lib.ListN.{get_or}
 use Rattle.words.proofs.TestsLaws.{tested, and_both, not_same}
-use Rattle.sizes.specs.Sizes.{identities, fileCount}
+use Rattle.sizes.specs.Sizes.{identities, file_count}
 use Rattle.file_select.specs.Select.{eidelivery}
 use Rattle.file_select.proofs.SelectLaws.{legal-named}
 use Rattle.file.specs.declared.File.{File}
 use Rattle.file.specs.declared.register.Access.TheVariants.{Write}
-use Rattle.file.specs.Parts.{withDelivery}
-use Rattle.file.specs.Register.{accessedAt, accessed}
+use Rattle.file.specs.Parts.{with_delivery}
+use Rattle.file.specs.Register.{accessed_at, accessed}
 use Rattle.file.proofs.RegisterLaws.{written-legal}
-use Rattle.files.specs.Files.{isGuest, theFile}
+use Rattle.files.specs.Files.{is_guest, the_file}
 use Rattle.wired_state.specs.Wires.{Wired}
-use Rattle.wired.specs.Controller.{wireCall}
-use Rattle.board_move_steps.specs.Steps.{actOf, deliveryAt}
+use Rattle.wired.specs.Controller.{wire_call}
+use Rattle.board_move_steps.specs.Steps.{act_of, delivery_at}
 use Rattle.board_move_files_laws.specs.Related.{Three, Related}
 use Rattle.board_move_files_laws.proofs.TableLaws.{act-else}
 use Rattle.board_move_files_laws.proofs.SelectEffects.{delivery-access}
 use Rattle.board_move_files_laws.proofs.WrittenEffects.{large-sized}
 use Rattle.board_move_files_laws.proofs.AccessEffects.{new-still}
 use Rattle.board_move_files_laws.proofs.RelatedEffects.{related-undone}
-use Rattle.board_move_wired_laws.proofs.StepThree.{targetIn}
+use Rattle.board_move_wired_laws.proofs.StepThree.{target_in}
 use Rattle.board_move_wired_laws.specs.Retargeted.{TargetsOnly, TargetsMoved}
 use Rattle.board_block.specs.Block.{Board}
 use Rattle.board_call.specs.declared.Call.{Call}
@@ -42,23 +42,23 @@ use Rattle.board_call.specs.Change.{kind_of}
 use Rattle.board_call.specs.Move.{Acted, acted}
 use Rattle.board_call.specs.Outcome.{Stepped, step}
 use Rattle.board_call.specs.Calls.{row_of}
-use Rattle.board_call.specs.Refusal.{nameTests, nameRefusal, nameRefusalBy}
+use Rattle.board_call.specs.Refusal.{name_tests, name_refusal, name_refusal_by}
 use Rattle.board_call.proofs.RefusalLaws.{numbers-name}
 use Rattle.board_call_laws.specs.Fit.{Fit}
 use Rattle.board_call_laws.specs.Small.{Small}
 use Rattle.board_call_laws.proofs.StepEffects.{step-wire}
 use Rattle.board_move_laws.proofs.MoveCallEffects.{guest-there}
 use Rattle.board_move_laws.proofs.MoveEffects.{step_move}
-use Rattle.board_runs.specs.Runs.{said_of, Lent, outcomeOn, after, ran}
-use Rattle.board_runs.specs.Ready.{boardIn, Ready}
-use Rattle.board_runs.specs.Reading.{onlyReads}
+use Rattle.board_runs.specs.Runs.{said_of, Lent, outcome_on, after, ran}
+use Rattle.board_runs.specs.Ready.{board_in, Ready}
+use Rattle.board_runs.specs.Reading.{only_reads}
 use Rattle.board_runs.proofs.RunsEffects.{after-refused, ready-refusal, after-board, after-saved, ready-after}
 use Rattle.board_runs.proofs.ReadingEffects.{after_read}
-use Rattle.move_laws.specs.Shift.{Stations, Event, accessOf, isNew, elsewhere, withMove, withoutMove}
-use Rattle.move_laws.specs.Premises.{Started, TwoGuests, ByMessages, NoneNamesNew, accessesIn}
+use Rattle.move_laws.specs.Shift.{Stations, Event, access_of, is_new, elsewhere, with_move, without_move}
+use Rattle.move_laws.specs.Premises.{Started, TwoGuests, ByMessages, NoneNamesNew, accesses_in}
 use Rattle.move_laws.specs.Premises.{CallsKept}
-use Rattle.move_laws.specs.Moved.{oldNumber, newNumber, oldIn}
-use Rattle.move_laws.specs.After.{FileCall, callOn}
+use Rattle.move_laws.specs.Moved.{old_number, new_number, old_in}
+use Rattle.move_laws.specs.After.{FileCall, call_on}
 use Rattle.move_laws.proofs.ActedEffects.{guest-is, guest-whole, acted-three, acted-others}
 use Rattle.move_laws.proofs.ActedEffects.{acted-wired}
 use Rattle.move_laws.proofs.Invariant.{move-there, new-lt, different, Middle}
@@ -66,19 +66,19 @@ use Rattle.move_laws.proofs.BesideEffects.{Beside, beside-wire, beside-page, bes
 use Rattle.move_laws.proofs.BesideEffects.{access-accepted}
 use Rattle.move_laws.proofs.OnFileEffects.{said-done, file-done, rest-kept}
 use Rattle.move_laws.proofs.OthersEffects.{elsewhere-on, beside-call}
-use Rattle.move_laws.proofs.ShiftEffects.{lentFrom, beside-start}
+use Rattle.move_laws.proofs.ShiftEffects.{lent_from, beside-start}
 
 unfoldable pub KeptFromNew : Stations → List Event → Type 0
 KeptFromNew m [] = Unit {0}
 KeptFromNew m (Event.wire i level ∷ es) = KeptFromNew m es
-KeptFromNew m (Event.page h f a v ∷ es) = (isNew m h f ≡ false) × KeptFromNew m es
+KeptFromNew m (Event.page h f a v ∷ es) = (is_new m h f ≡ false) × KeptFromNew m es
 KeptFromNew m (Event.access ∷ es) = KeptFromNew m es
 KeptFromNew m (Event.call c ∷ es) = KeptFromNew m es
 
 pub record Undone (m : Stations) (b b' : Board) : Type 0 where
-  pub old : oldIn m b ≡ oldIn m b'
-  pub others : (k : ℕ) → k < fileCount → k ≢ oldNumber m → k ≢ newNumber m
-      → theFile b.files k ≡ theFile b'.files k
+  pub old : old_in m b ≡ old_in m b'
+  pub others : (k : ℕ) → k < file_count → k ≢ old_number m → k ≢ new_number m
+      → the_file b.files k ≡ the_file b'.files k
   pub wired : b.wired ≡ b'.wired
 
 module _ (m : Stations) (g : TwoGuests m) where
@@ -86,12 +86,12 @@ module _ (m : Stations) (g : TwoGuests m) where
 
   module _ (n : ℕ) (b b' : Board) (s : List ℕ) (fit : Fit b) (early : n < 8) where
     abbrev moved : Acted
-    moved = acted (actOf (suc n)) m.oldHart m.oldFile m.newHart m.newFile b s
+    moved = acted (act_of (suc n)) m.old_hart m.old_file m.new_hart m.new_file b s
 
     acted-still : moved.board.wired ≡ b.wired
     acted-still =
-        acted-wired m.oldHart m.oldFile m.newHart m.newFile g.old g.new (different m g) b
-        fit.shaped.many s (actOf (suc n))
+        acted-wired m.old_hart m.old_file m.new_hart m.new_file g.old g.new (different m g) b
+        fit.shaped.many s (act_of (suc n))
         (act-else (suc n) (omega arith) (omega arith) (inl (omega arith)))
 
     -- accesses 5 to 8 leave what held before them
@@ -101,46 +101,46 @@ module _ (m : Stations) (g : TwoGuests m) where
           files =
               record {
                 related =
-                    subst (λ (x : Three). Related identities n x (theFile b'.files (oldNumber m)))
-                    (sym (acted-three m.oldHart m.oldFile m.newHart m.newFile g.old g.new
-                    (different m g) b fit.shaped.many s (actOf (suc n))))
+                    subst (λ (x : Three). Related identities n x (the_file b'.files (old_number m)))
+                    (sym (acted-three m.old_hart m.old_file m.new_hart m.new_file g.old g.new
+                    (different m g) b fit.shaped.many s (act_of (suc n))))
                     (new-still identities n _ _ large-sized r.files.related low early
-                    (fit.files (newNumber m) (new-lt m g)));
-                others = λ k h o w. acted-others m.oldHart m.oldFile m.newHart m.newFile g.old
-                    g.new (different m g) b fit.shaped.many s (actOf (suc n)) k o w
+                    (fit.files (new_number m) (new-lt m g)));
+                others = λ k h o w. acted-others m.old_hart m.old_file m.new_hart m.new_file g.old
+                    g.new (different m g) b fit.shaped.many s (act_of (suc n)) k o w
                     ∙ r.files.others k h o w;
               };
           only = subst (λ (w : Wired). TargetsOnly w b'.wired) (sym acted-still) r.only;
           targets =
-              subst (λ (w : Wired). TargetsMoved m.oldHart m.oldFile m.newHart m.newFile n w
+              subst (λ (w : Wired). TargetsMoved m.old_hart m.old_file m.new_hart m.new_file n w
               b'.wired) (sym acted-still) r.targets;
           messages = r.messages;
-          genmsi = ap (λ (w : Wired). targetIn w 0) acted-still ∙ r.genmsi;
+          genmsi = ap (λ (w : Wired). target_in w 0) acted-still ∙ r.genmsi;
         }
 
   module _ (n : ℕ) (x y : Lent) (r : Beside m g n x y) (early : n < 8) where
     abbrev next : Call
-    next = accessOf m (suc n)
+    next = access_of m (suc n)
 
     small : Small next
     unfolding row_of
     small = tt
 
-    accepted : nameRefusal next (boardIn x) ≡ 0
+    accepted : name_refusal next (board_in x) ≡ 0
     accepted = access-accepted m g n x y r (omega arith)
 
-    stepped : step next (boardIn x) x.saved
-        ≡ (let z = moved n (boardIn x) (boardIn y) x.saved r.ready.fit early in
+    stepped : step next (board_in x) x.saved
+        ≡ (let z = moved n (board_in x) (board_in y) x.saved r.ready.fit early in
         record { board = z.board; value = 0; messages = []; saved = z.saved })
     stepped =
-        step_move (boardIn x) r.ready.fit m.oldHart m.oldFile m.newHart m.newFile (suc n)
+        step_move (board_in x) r.ready.fit m.old_hart m.old_file m.new_hart m.new_file (suc n)
         (move-there m g (suc n) (omega arith) (omega arith)) x.saved
 
-    access-wired : (boardIn (after next x)).wired ≡ (boardIn x).wired
+    access-wired : (board_in (after next x)).wired ≡ (board_in x).wired
     access-wired =
         ap (λ (b : Board). b.wired) (after-board next x r.ready accepted small)
         ∙ ap (λ (z : Stepped). z.board.wired) stepped
-        ∙ acted-still n (boardIn x) (boardIn y) x.saved r.ready.fit early
+        ∙ acted-still n (board_in x) (board_in y) x.saved r.ready.fit early
 
     access-still : 4 ≤ n → Beside m g n (after next x) y
     access-still low =
@@ -153,7 +153,7 @@ module _ (m : Stations) (g : TwoGuests m) where
                 after-saved next x r.ready accepted small,
                 stepped,
               )
-              (middle-still n (boardIn x) (boardIn y) x.saved r.ready.fit early low r.middle);
+              (middle-still n (board_in x) (board_in y) x.saved r.ready.fit early low r.middle);
         }
 
   -- ---- every event
@@ -164,35 +164,35 @@ module _ (m : Stations) (g : TwoGuests m) where
     pub some : 1 ≤ n → 1 ≤ made
     pub now : n < 8 → made ≡ n
     pub beside : Beside m g made x y
-    pub wired : (boardIn x).wired ≡ (boardIn y).wired
+    pub wired : (board_in x).wired ≡ (board_in y).wired
 
   module _ (n : ℕ) (x y : Lent) (r : Early n x y) where
     -- an event that is no access
-    goes : (x' y' : Lent) → Beside m g r.made x' y' → (boardIn x').wired ≡ (boardIn y').wired → Early n x' y'
+    goes : (x' y' : Lent) → Beside m g r.made x' y' → (board_in x').wired ≡ (board_in y').wired → Early n x' y'
     goes x' y' b w =
         record { made = r.made; few = r.few; some = r.some; now = r.now; beside = b; wired = w }
 
     early-wire : (i level : ℕ) → Early n (after (Wire i level) x) (after (Wire i level) y)
     early-wire i level =
         goes _ _ (beside-wire m g r.made x y r.beside i level)
-        (at (ℕ_discrete (nameRefusal c (boardIn x)) 0))
+        (at (ℕ_discrete (name_refusal c (board_in x)) 0))
       where
         c : Call
         c = Wire i level
 
-        same : nameRefusal (Wire i level) (boardIn x) ≡ nameRefusal (Wire i level) (boardIn y)
-        same = unfold nameRefusalBy nameTests row_of in refl
+        same : name_refusal (Wire i level) (board_in x) ≡ name_refusal (Wire i level) (board_in y)
+        same = unfold name_refusal_by name_tests row_of in refl
 
-        wired-done : (z : Lent) → Ready z → nameRefusal (Wire i level) (boardIn z) ≡ 0
-            → (boardIn (after (Wire i level) z)).wired ≡ (wireCall (boardIn z).wired i (eqb level 1)).wired
+        wired-done : (z : Lent) → Ready z → name_refusal (Wire i level) (board_in z) ≡ 0
+            → (board_in (after (Wire i level) z)).wired ≡ (wire_call (board_in z).wired i (eqb level 1)).wired
         wired-done z ready e =
             ap (λ (b : Board). b.wired) (after-board (Wire i level) z ready e (unfold row_of in tt))
-            ∙ ap (λ (s : Stepped). s.board.wired) (step-wire (boardIn z) i level z.saved)
+            ∙ ap (λ (s : Stepped). s.board.wired) (step-wire (board_in z) i level z.saved)
 
-        at : Dec (nameRefusal c (boardIn x) ≡ 0) → (boardIn (after c x)).wired ≡ (boardIn (after c y)).wired
+        at : Dec (name_refusal c (board_in x) ≡ 0) → (board_in (after c x)).wired ≡ (board_in (after c y)).wired
         at (yes e) =
             wired-done x r.beside.ready e
-            ∙ ap (λ (w : Wired). (wireCall w i (eqb level 1)).wired) r.wired
+            ∙ ap (λ (w : Wired). (wire_call w i (eqb level 1)).wired) r.wired
             ∙ sym (wired-done y r.beside.ready' (sym same ∙ e))
         at (no d) =
             rw (
@@ -202,39 +202,39 @@ module _ (m : Stations) (g : TwoGuests m) where
             r.wired
 
     -- a call on one file of each
-    on-wired : (h f h' f' : ℕ) (c : FileCall) → Small (callOn h f c) → Small (callOn h' f' c)
-        → (boardIn (after (callOn h f c) x)).wired ≡ (boardIn (after (callOn h' f' c) y)).wired
+    on-wired : (h f h' f' : ℕ) (c : FileCall) → Small (call_on h f c) → Small (call_on h' f' c)
+        → (board_in (after (call_on h f c) x)).wired ≡ (board_in (after (call_on h' f' c) y)).wired
     on-wired h f h' f' c small small' =
         (rest-kept h f x r.beside.ready c small).0 ∙ r.wired
         ∙ sym (rest-kept h' f' y r.beside.ready' c small').0
 
-    early-page : (h f a v : ℕ) → isNew m h f ≡ false
+    early-page : (h f a v : ℕ) → is_new m h f ≡ false
         → Early n (after (PageWrite h f a v) x)
-        (after (PageWrite (cond (isNew m h f) m.oldHart h) (cond (isNew m h f) m.oldFile f) a v) y)
+        (after (PageWrite (cond (is_new m h f) m.old_hart h) (cond (is_new m h f) m.old_file f) a v) y)
     early-page h f a v away =
         let few = r.few in
         goes _ _
         (beside-page m g r.made x y r.beside h f a v (λ t. absurd (not_same _ t away))
         (λ t. omega arith))
-        (on-wired h f _ _ (FileCall.pageWrite a v) (unfold row_of in tt) (unfold row_of in tt))
+        (on-wired h f _ _ (FileCall.page_write a v) (unfold row_of in tt) (unfold row_of in tt))
 
-    early-call : (c : Call) → (onlyReads c || elsewhere m c) ≡ true → Small c
+    early-call : (c : Call) → (only_reads c || elsewhere m c) ≡ true → Small c
         → Early n (after c x) (after c y)
     early-call c e small =
         goes _ _ (beside-call m g r.made x y r.beside c e small)
-        (tested (onlyReads c) (λ t. rw (after_read c x t, after_read c y t) r.wired)
+        (tested (only_reads c) (λ t. rw (after_read c x t, after_read c y t) r.wired)
         (λ q. let on = elsewhere-on m c q (rw q at e) in
-        subst (λ (u : Call). (boardIn (after u x)).wired ≡ (boardIn (after u y)).wired) (sym on.is)
+        subst (λ (u : Call). (board_in (after u x)).wired ≡ (board_in (after u y)).wired) (sym on.is)
         (on-wired on.h on.f on.h on.f on.d (subst Small on.is small)
         (subst Small on.is small))))
 
-    early-access : n < 8 → Early (suc n) (after (accessOf m (suc n)) x) y
+    early-access : n < 8 → Early (suc n) (after (access_of m (suc n)) x) y
     early-access h = at (dec_lt n 7)
       where
         was : Beside m g n x y
         was = subst (λ (k : ℕ). Beside m g k x y) (r.now h) r.beside
 
-        at : Dec (n < 7) → Early (suc n) (after (accessOf m (suc n)) x) y
+        at : Dec (n < 7) → Early (suc n) (after (access_of m (suc n)) x) y
         at (yes l) =
             record {
               made = suc n;
@@ -255,10 +255,10 @@ module _ (m : Stations) (g : TwoGuests m) where
             }
 
   module _ (t : ℕ) (few : t ≤ 8) where
-    early-run : (es : List Event) (n : ℕ) (x y : Lent) → Early n x y → n + accessesIn es ≡ t
+    early-run : (es : List Event) (n : ℕ) (x y : Lent) → Early n x y → n + accesses_in es ≡ t
         → KeptFromNew m es → CallsKept m es
-        → Early t (ran (withMove m n es) x) (ran (withoutMove m es) y)
-    unfolding ran withMove withoutMove accessesIn KeptFromNew CallsKept
+        → Early t (ran (with_move m n es) x) (ran (without_move m es) y)
+    unfolding ran with_move without_move accesses_in KeptFromNew CallsKept
     early-run [] n x y r e p q = subst (λ (k : ℕ). Early k x y) (omega arith) r
     early-run (Event.wire i level ∷ es) n x y r e p q = early-run es n _ _ (early-wire n x y r i level) e p q
     early-run (Event.page h f a v ∷ es) n x y r e p q =
@@ -272,48 +272,48 @@ module _ (m : Stations) (g : TwoGuests m) where
 
   module _ (n : ℕ) (x y : Lent) (r : Early n x y) (begun : 1 ≤ n) where
     abbrev write : FileCall
-    write = FileCall.register 1 eidelivery (get_or x.saved deliveryAt 0)
+    write = FileCall.register 1 eidelivery (get_or x.saved delivery_at 0)
 
     abbrev undoing : Call
-    undoing = callOn m.oldHart m.oldFile write
+    undoing = call_on m.old_hart m.old_file write
 
     undoing-small : Small undoing
     unfolding row_of
-    undoing-small = r.beside.ready.saved deliveryAt
+    undoing-small = r.beside.ready.saved delivery_at
 
-    undoing-accepted : nameRefusal undoing (boardIn x) ≡ 0
+    undoing-accepted : name_refusal undoing (board_in x) ≡ 0
     unfolding row_of
     undoing-accepted =
-        numbers-name (row_of undoing).tests (boardIn x)
-        (and_both _ _ (guest-there m.oldHart m.oldFile g.old) refl) refl
+        numbers-name (row_of undoing).tests (board_in x)
+        (and_both _ _ (guest-there m.old_hart m.old_file g.old) refl) refl
         (legal-named eidelivery (omega arith) (omega arith))
 
-    pub undoing-said : (said_of (outcomeOn undoing x)).number ≡ 0
+    pub undoing-said : (said_of (outcome_on undoing x)).number ≡ 0
     undoing-said =
         ap (λ z. z.number)
-        (said-done m.oldHart m.oldFile x r.beside.ready write undoing-accepted)
+        (said-done m.old_hart m.old_file x r.beside.ready write undoing-accepted)
 
     -- the write of a legal delivery to a guest's file
-    writes : (f : File) (v : ℕ) → v ≡ (oldIn m (boardIn y)).delivery
-        → (accessed identities (isGuest (oldNumber m)) f (kind_of 1) eidelivery v).file ≡ withDelivery f v
-    unfolding kind_of accessedAt
+    writes : (f : File) (v : ℕ) → v ≡ (old_in m (board_in y)).delivery
+        → (accessed identities (is_guest (old_number m)) f (kind_of 1) eidelivery v).file ≡ with_delivery f v
+    unfolding kind_of accessed_at
     writes f v e =
-        rw (guest-is m.oldHart m.oldFile g.old, delivery-access identities true f Write v)
+        rw (guest-is m.old_hart m.old_file g.old, delivery-access identities true f Write v)
         (written-legal identities true f v
-        (rw e (guest-whole m.oldHart m.oldFile g.old (boardIn y) r.beside.ready'.fit).rules.legal))
+        (rw e (guest-whole m.old_hart m.old_file g.old (board_in y) r.beside.ready'.fit).rules.legal))
 
-    pub undoing-leaves : Undone m (boardIn (after undoing x)) (boardIn y)
+    pub undoing-leaves : Undone m (board_in (after undoing x)) (board_in y)
     undoing-leaves =
         let b = r.beside in
         let related = b.middle.files.related in
-        let rest = rest-kept m.oldHart m.oldFile x b.ready write undoing-small in
+        let rest = rest-kept m.old_hart m.old_file x b.ready write undoing-small in
         record {
           old =
-              file-done m.oldHart m.oldFile x b.ready write undoing-accepted undoing-small
-              ∙ writes (oldIn m (boardIn x)) _ (related.noted.delivery (r.some begun))
+              file-done m.old_hart m.old_file x b.ready write undoing-accepted undoing-small
+              ∙ writes (old_in m (board_in x)) _ (related.noted.delivery (r.some begun))
               ∙ related-undone identities r.made _ _ large-sized
-              (guest-whole m.oldHart m.oldFile g.old (boardIn x) b.ready.fit)
-              (guest-whole m.oldHart m.oldFile g.old (boardIn y) b.ready'.fit)
+              (guest-whole m.old_hart m.old_file g.old (board_in x) b.ready.fit)
+              (guest-whole m.old_hart m.old_file g.old (board_in y) b.ready'.fit)
               (r.some begun) r.few related;
           others = λ k h o w. rest.1 k o ∙ b.middle.files.others k h o w;
           wired = rest.0 ∙ r.wired;
@@ -322,8 +322,8 @@ module _ (m : Stations) (g : TwoGuests m) where
 -- ---- from the start
 
 pub move-early : (m : Stations) (l s : List ℕ) (es : List Event) (n : ℕ) → Started l s → (g : TwoGuests m)
-    → ByMessages l → NoneNamesNew m l → accessesIn es ≡ n → n ≤ 8 → KeptFromNew m es → CallsKept m es
-    → Early m g n (ran (withMove m 0 es) (lentFrom l s)) (ran (withoutMove m es) (lentFrom l s))
+    → ByMessages l → NoneNamesNew m l → accesses_in es ≡ n → n ≤ 8 → KeptFromNew m es → CallsKept m es
+    → Early m g n (ran (with_move m 0 es) (lent_from l s)) (ran (without_move m es) (lent_from l s))
 move-early m l s es n started g messages fresh made few away calls =
     early-run m g n few es 0 _ _
     (record {

@@ -1,24 +1,24 @@
 -- Numbers as a line of text. 02, M-100; docs/RECORD.md. Assumes nothing.
---   fieldsShown ns   the numbers ns in decimal, each behind a tab
---   lineShown ns     the numbers ns in decimal with a tab between two, and the end of the line
---   fieldRoom        how many bytes a number takes at most, with the tab before it or the end behind it
---   answerRoom       how many bytes an answer takes at most: four numbers, a full log and the end
+--   fields_shown ns   the numbers ns in decimal, each behind a tab
+--   line_shown ns     the numbers ns in decimal with a tab between two, and the end of the line
+--   field_room        how many bytes a number takes at most, with the tab before it or the end behind it
+--   answer_room       how many bytes an answer takes at most: four numbers, a full log and the end
 use Rattle.std.specs.Prelude.{ℕ, ◌+◌, ◌*◌, List, [], ◌∷◌, ◌++◌}
-use Rattle.sizes.specs.Sizes.{logSize}
-use Rattle.record_numbers.specs.Decimal.{text_of, numberRoom}
-use Rattle.record_lines.specs.Lines.{lineFeed}
+use Rattle.sizes.specs.Sizes.{log_size}
+use Rattle.record_numbers.specs.Decimal.{text_of, number_room}
+use Rattle.record_lines.specs.Lines.{line_feed}
 use Rattle.record_fields.specs.Fields.{tab}
 
-unfoldable pub fieldsShown : List ℕ → List ℕ
-fieldsShown [] = []
-fieldsShown (n ∷ ns) = tab ∷ (text_of n ++ fieldsShown ns)
+unfoldable pub fields_shown : List ℕ → List ℕ
+fields_shown [] = []
+fields_shown (n ∷ ns) = tab ∷ (text_of n ++ fields_shown ns)
 
-unfoldable pub lineShown : List ℕ → List ℕ
-lineShown [] = lineFeed ∷ []
-lineShown (n ∷ ns) = text_of n ++ (fieldsShown ns ++ (lineFeed ∷ []))
+unfoldable pub line_shown : List ℕ → List ℕ
+line_shown [] = line_feed ∷ []
+line_shown (n ∷ ns) = text_of n ++ (fields_shown ns ++ (line_feed ∷ []))
 
-abbrev pub fieldRoom : ℕ
-fieldRoom = numberRoom + 1
+abbrev pub field_room : ℕ
+field_room = number_room + 1
 
-abbrev pub answerRoom : ℕ
-answerRoom = (4 + logSize) * fieldRoom + 1
+abbrev pub answer_room : ℕ
+answer_room = (4 + log_size) * field_room + 1

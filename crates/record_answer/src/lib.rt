@@ -1,7 +1,7 @@
 // An answer as a line of decimal numbers with a tab between two, put into bytes.
 ghost use Rattle.std.specs.Prelude.{◌+◌, ◌*◌, ◌≤◌, min, ◌≡◌, [], ◌∷◌, ◌++◌, length, take};
-ghost use Rattle.sizes.specs.Sizes.{logSize};
-ghost use Rattle.record_answer.specs.Shown.{fieldsShown, lineShown, fieldRoom, answerRoom};
+ghost use Rattle.sizes.specs.Sizes.{log_size};
+ghost use Rattle.record_answer.specs.Shown.{fields_shown, line_shown, field_room, answer_room};
 
 use record_numbers::{NUMBER_ROOM, put_decimal};
 use sizes::LOG_SIZE;
@@ -14,9 +14,9 @@ pub const ANSWER_ROOM: usize = (4 + LOG_SIZE) * FIELD_ROOM + 1;
 
 // Puts n behind a tab, behind the first `at` bytes of out, and answers how many there are then.
 fn put_field(out: &mut [u8], at: usize, n: u64) -> usize
-    requires { at + fieldRoom ≤ length out.old }
-    ensures out_after { take result out.new ≡ take at out.old ++ fieldsShown (n ∷ []) }
-    ensures upper_bound { result ≤ at + fieldRoom }
+    requires { at + field_room ≤ length out.old }
+    ensures out_after { take result out.new ≡ take at out.old ++ fields_shown (n ∷ []) }
+    ensures upper_bound { result ≤ at + field_room }
     ensures lower_bound { at ≤ result }
 {
     out[at] = b'\t';
@@ -25,10 +25,10 @@ fn put_field(out: &mut [u8], at: usize, n: u64) -> usize
 
 // The first words of a log, each behind a tab.
 fn put_words(out: &mut [u8], at: usize, words: &[u32], count: usize) -> usize
-    requires { (at + count * fieldRoom ≤ length out.old) × (count ≤ length words.now) }
+    requires { (at + count * field_room ≤ length out.old) × (count ≤ length words.now) }
     ensures out_after { take result out.new ≡
-        take at out.old ++ fieldsShown (take count words.now) }
-    ensures upper_bound { result ≤ at + count * fieldRoom }
+        take at out.old ++ fields_shown (take count words.now) }
+    ensures upper_bound { result ≤ at + count * field_room }
 {
     let mut end = at;
     let mut i = 0;
@@ -41,9 +41,9 @@ fn put_words(out: &mut [u8], at: usize, words: &[u32], count: usize) -> usize
 
 // The number of a line alone, as a line.
 pub fn put_number(out: &mut [u8], at: usize, number: u64) -> usize
-    requires { at + fieldRoom ≤ length out.old }
-    ensures out_after { take result out.new ≡ take at out.old ++ lineShown (number ∷ []) }
-    ensures upper_bound { result ≤ at + fieldRoom }
+    requires { at + field_room ≤ length out.old }
+    ensures out_after { take result out.new ≡ take at out.old ++ line_shown (number ∷ []) }
+    ensures upper_bound { result ≤ at + field_room }
 {
     let end = put_decimal(out, at, number);
     out[end] = b'\n';
@@ -66,10 +66,10 @@ pub fn put_answer(
     count: u32,
     log: &[u32],
 ) -> usize
-    requires { (at + answerRoom ≤ length out.old) × (length log.now ≤ logSize) }
+    requires { (at + answer_room ≤ length out.old) × (length log.now ≤ log_size) }
     ensures out_after { take result out.new ≡ take at out.old
-        ++ lineShown (number ∷ refusal ∷ value ∷ count ∷ take count log.now) }
-    ensures upper_bound { result ≤ at + answerRoom }
+        ++ line_shown (number ∷ refusal ∷ value ∷ count ∷ take count log.now) }
+    ensures upper_bound { result ≤ at + answer_room }
 {
     let numbered = put_decimal(out, at, number);
     let refused = put_field(out, numbered, refusal as u64);

@@ -3,17 +3,17 @@
 --   NameRow            a call's name in bytes, how many numbers it has, whether the last is a word of 32
 --                      bits, and the call with such numbers
 --   first .. fifth     one of some numbers, by its place: 0 if there are fewer
---   resetRow ..        the row of each call
+--   reset_row ..        the row of each call
 --   table              all of them
---   sameBytes a b      a and b are the same bytes
---   lastIn ns          the last of the numbers ns: 0 if there is none
---   wordAtEnd t ns     if t, the last of the numbers ns is a word of 32 bits
+--   same_bytes a b      a and b are the same bytes
+--   last_in ns          the last of the numbers ns: 0 if there is none
+--   word_at_end t ns     if t, the last of the numbers ns is a word of 32 bits
 --   fits r name ns     r is the row of a line with this name and these numbers
 --   call_in rs name ns  the call of the first row that fits, if there is one
 --   line_of l           what the line l says
 use Rattle.std.specs.Prelude.{ℕ, ◌^◌, Bool, true, false, cond, ◌&&◌, List, [], ◌∷◌, eqb, leb, ltb, length, get_or}
-use Rattle.record_lines.specs.Lines.{lineSize}
-use Rattle.record_fields.specs.Fields.{name_of, textsOf, areNumbers, numbersOf}
+use Rattle.record_lines.specs.Lines.{line_size}
+use Rattle.record_fields.specs.Fields.{name_of, texts_of, are_numbers, numbers_of}
 use Rattle.board_call.specs.declared.Call.{Call}
 use Rattle.board_call.specs.declared.Call.TheVariants as calls
 use Rattle.record_call.specs.declared.Line.{Line}
@@ -41,8 +41,8 @@ abbrev pub fifth : List ℕ → ℕ
 fifth ns = get_or ns 4 0
 
 -- reset
-abbrev pub resetRow : NameRow
-resetRow =
+abbrev pub reset_row : NameRow
+reset_row =
     record {
       name = 114 ∷ 101 ∷ 115 ∷ 101 ∷ 116 ∷ [];
       count = 0;
@@ -51,8 +51,8 @@ resetRow =
     }
 
 -- wire
-abbrev pub wireRow : NameRow
-wireRow =
+abbrev pub wire_row : NameRow
+wire_row =
     record {
       name = 119 ∷ 105 ∷ 114 ∷ 101 ∷ [];
       count = 2;
@@ -61,8 +61,8 @@ wireRow =
     }
 
 -- domain_read
-abbrev pub domainReadRow : NameRow
-domainReadRow =
+abbrev pub domain_read_row : NameRow
+domain_read_row =
     record {
       name = 100 ∷ 111 ∷ 109 ∷ 97 ∷ 105 ∷ 110 ∷ 95 ∷ 114 ∷ 101 ∷ 97 ∷ 100 ∷ [];
       count = 2;
@@ -71,8 +71,8 @@ domainReadRow =
     }
 
 -- domain_write
-abbrev pub domainWriteRow : NameRow
-domainWriteRow =
+abbrev pub domain_write_row : NameRow
+domain_write_row =
     record {
       name = 100 ∷ 111 ∷ 109 ∷ 97 ∷ 105 ∷ 110 ∷ 95 ∷ 119 ∷ 114 ∷ 105 ∷ 116 ∷ 101 ∷ [];
       count = 3;
@@ -81,8 +81,8 @@ domainWriteRow =
     }
 
 -- page_read
-abbrev pub pageReadRow : NameRow
-pageReadRow =
+abbrev pub page_read_row : NameRow
+page_read_row =
     record {
       name = 112 ∷ 97 ∷ 103 ∷ 101 ∷ 95 ∷ 114 ∷ 101 ∷ 97 ∷ 100 ∷ [];
       count = 3;
@@ -91,8 +91,8 @@ pageReadRow =
     }
 
 -- page_write
-abbrev pub pageWriteRow : NameRow
-pageWriteRow =
+abbrev pub page_write_row : NameRow
+page_write_row =
     record {
       name = 112 ∷ 97 ∷ 103 ∷ 101 ∷ 95 ∷ 119 ∷ 114 ∷ 105 ∷ 116 ∷ 101 ∷ [];
       count = 4;
@@ -101,8 +101,8 @@ pageWriteRow =
     }
 
 -- register
-abbrev pub registerRow : NameRow
-registerRow =
+abbrev pub register_row : NameRow
+register_row =
     record {
       name = 114 ∷ 101 ∷ 103 ∷ 105 ∷ 115 ∷ 116 ∷ 101 ∷ 114 ∷ [];
       count = 5;
@@ -111,8 +111,8 @@ registerRow =
     }
 
 -- top
-abbrev pub topRow : NameRow
-topRow =
+abbrev pub top_row : NameRow
+top_row =
     record {
       name = 116 ∷ 111 ∷ 112 ∷ [];
       count = 2;
@@ -121,8 +121,8 @@ topRow =
     }
 
 -- claim
-abbrev pub claimRow : NameRow
-claimRow =
+abbrev pub claim_row : NameRow
+claim_row =
     record {
       name = 99 ∷ 108 ∷ 97 ∷ 105 ∷ 109 ∷ [];
       count = 2;
@@ -131,8 +131,8 @@ claimRow =
     }
 
 -- signals
-abbrev pub signalsRow : NameRow
-signalsRow =
+abbrev pub signals_row : NameRow
+signals_row =
     record {
       name = 115 ∷ 105 ∷ 103 ∷ 110 ∷ 97 ∷ 108 ∷ 115 ∷ [];
       count = 1;
@@ -141,8 +141,8 @@ signalsRow =
     }
 
 -- move
-abbrev pub moveRow : NameRow
-moveRow =
+abbrev pub move_row : NameRow
+move_row =
     record {
       name = 109 ∷ 111 ∷ 118 ∷ 101 ∷ [];
       count = 5;
@@ -154,26 +154,26 @@ moveRow =
 -- [02 M100.3]
 unfoldable pub table : List NameRow
 table =
-    resetRow ∷ signalsRow ∷ wireRow ∷ domainReadRow ∷ topRow ∷ claimRow
-    ∷ pageReadRow ∷ domainWriteRow ∷ pageWriteRow ∷ registerRow ∷ moveRow ∷ []
+    reset_row ∷ signals_row ∷ wire_row ∷ domain_read_row ∷ top_row ∷ claim_row
+    ∷ page_read_row ∷ domain_write_row ∷ page_write_row ∷ register_row ∷ move_row ∷ []
 
-unfoldable pub sameBytes : List ℕ → List ℕ → Bool
-sameBytes [] [] = true
-sameBytes [] (y ∷ ys) = false
-sameBytes (x ∷ xs) [] = false
-sameBytes (x ∷ xs) (y ∷ ys) = eqb x y && sameBytes xs ys
+unfoldable pub same_bytes : List ℕ → List ℕ → Bool
+same_bytes [] [] = true
+same_bytes [] (y ∷ ys) = false
+same_bytes (x ∷ xs) [] = false
+same_bytes (x ∷ xs) (y ∷ ys) = eqb x y && same_bytes xs ys
 
-abbrev pub lastIn : List ℕ → ℕ
-lastIn [] = 0
-lastIn (n ∷ []) = n
-lastIn (n ∷ m ∷ ns) = lastIn (m ∷ ns)
+abbrev pub last_in : List ℕ → ℕ
+last_in [] = 0
+last_in (n ∷ []) = n
+last_in (n ∷ m ∷ ns) = last_in (m ∷ ns)
 
-abbrev pub wordAtEnd : Bool → List ℕ → Bool
-wordAtEnd true ns = ltb (lastIn ns) (2 ^ 32)
-wordAtEnd false ns = true
+abbrev pub word_at_end : Bool → List ℕ → Bool
+word_at_end true ns = ltb (last_in ns) (2 ^ 32)
+word_at_end false ns = true
 
 abbrev pub fits : NameRow → List ℕ → List ℕ → Bool
-fits r name ns = eqb (length ns) r.count && (sameBytes name r.name && wordAtEnd r.word ns)
+fits r name ns = eqb (length ns) r.count && (same_bytes name r.name && word_at_end r.word ns)
 
 unfoldable pub call_in : List NameRow → List ℕ → List ℕ → Line
 call_in [] name ns = lines.Unreadable
@@ -182,6 +182,6 @@ call_in (r ∷ rs) name ns = cond (fits r name ns) (lines.Call (r.make ns)) (cal
 -- [02 M100.6]
 unfoldable pub line_of : List ℕ → Line
 line_of l =
-    cond (leb (length l) lineSize && areNumbers (textsOf l))
-    (call_in table (name_of l) (numbersOf (textsOf l)))
+    cond (leb (length l) line_size && are_numbers (texts_of l))
+    (call_in table (name_of l) (numbers_of (texts_of l)))
     lines.Unreadable

@@ -1,8 +1,8 @@
 // One table of calls, by the count of their numbers and by name: how many there are leaves few names.
 ghost use Rattle.std.specs.Prelude.{◌≤◌, cond, [], ◌∷◌, ◌≡◌, leb, length, take};
-ghost use Rattle.record_call.specs.Table.{call_in, sameBytes, table};
+ghost use Rattle.record_call.specs.Table.{call_in, same_bytes, table};
 ghost use Rattle.record_call.specs.declared.Line.TheVariants as lines;
-ghost use Rattle.record_fields.specs.Fields.{mostNumbers};
+ghost use Rattle.record_fields.specs.Fields.{most_numbers};
 
 use crate::Line;
 use board_call::Call;
@@ -12,15 +12,15 @@ use record_fields::Fields;
 const LAST_WORD: u64 = 0xFFFFFFFF;
 
 fn is(name: &[u8], word: &[u8]) -> bool
-    ensures { result ≡ sameBytes name.now word.now }
+    ensures { result ≡ same_bytes name.now word.now }
 {
     same(name, word)
 }
 
 pub(crate) fn of_fields(name: &[u8], fields: Fields) -> Line
-    requires { fields.count ≤ mostNumbers →
+    requires { fields.count ≤ most_numbers →
         length (take fields.count fields.numbers) ≡ fields.count }
-    ensures { result ≡ cond (leb fields.count mostNumbers)
+    ensures { result ≡ cond (leb fields.count most_numbers)
         (call_in table name.now (take fields.count fields.numbers)) lines.Unreadable }
 {
     let n = fields.numbers;

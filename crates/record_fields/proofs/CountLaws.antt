@@ -9,36 +9,36 @@ use borrow.Author.Tests.{le-leb, lt-leb}
 use lib.ListN.{length, length-map}
 use Rattle.words.proofs.TestsLaws.{tested}
 use Rattle.record_numbers.specs.Decimal.{value_of}
-use Rattle.record_fields.specs.Fields.{areNumbers, numbersOf, mostNumbers, count_of}
+use Rattle.record_fields.specs.Fields.{are_numbers, numbers_of, most_numbers, count_of}
 
 module _ (ts : List (List ℕ)) where
-  pub length-numbers : length (numbersOf ts) ≡ length ts
-  unfolding numbersOf
+  pub length-numbers : length (numbers_of ts) ≡ length ts
+  unfolding numbers_of
   length-numbers = length-map ts value_of
 
-  pub count-few : areNumbers ts ≡ true → length ts ≤ mostNumbers → count_of ts ≡ length ts
+  pub count-few : are_numbers ts ≡ true → length ts ≤ most_numbers → count_of ts ≡ length ts
   unfolding count_of
-  count-few e le = rw (e, le-leb (length ts) mostNumbers le)
+  count-few e le = rw (e, le-leb (length ts) most_numbers le)
 
-  pub count-bad : areNumbers ts ≡ false → count_of ts ≡ suc mostNumbers
+  pub count-bad : are_numbers ts ≡ false → count_of ts ≡ suc most_numbers
   unfolding count_of
   count-bad e = rw e
 
   -- whether they are numbers or not
-  pub count-over : mostNumbers < length ts → count_of ts ≡ suc mostNumbers
+  pub count-over : most_numbers < length ts → count_of ts ≡ suc most_numbers
   unfolding count_of
-  count-over lt = simp (lt-leb (length ts) mostNumbers lt, and-false)
+  count-over lt = simp (lt-leb (length ts) most_numbers lt, and-false)
 
-  pub count-many : areNumbers ts ≡ true → mostNumbers < length ts → count_of ts ≡ suc mostNumbers
+  pub count-many : are_numbers ts ≡ true → most_numbers < length ts → count_of ts ≡ suc most_numbers
   count-many e lt = count-over lt
 
   -- a count that some call may have counts them
-  pub count-length : count_of ts ≤ mostNumbers → length (numbersOf ts) ≡ count_of ts
-  count-length le = tested (areNumbers ts) (λ e. few e (dec_lt mostNumbers (length ts))) bad
+  pub count-length : count_of ts ≤ most_numbers → length (numbers_of ts) ≡ count_of ts
+  count-length le = tested (are_numbers ts) (λ e. few e (dec_lt most_numbers (length ts))) bad
     where
-      few : areNumbers ts ≡ true → Dec (mostNumbers < length ts) → length (numbersOf ts) ≡ count_of ts
+      few : are_numbers ts ≡ true → Dec (most_numbers < length ts) → length (numbers_of ts) ≡ count_of ts
       few e (yes lt) = absurd (omega (arith, le, count-many e lt))
       few e (no ge) = length-numbers ∙ sym (count-few e (omega (arith, ge)))
 
-      bad : areNumbers ts ≡ false → length (numbersOf ts) ≡ count_of ts
+      bad : are_numbers ts ≡ false → length (numbers_of ts) ≡ count_of ts
       bad e = absurd (omega (arith, le, count-bad e))

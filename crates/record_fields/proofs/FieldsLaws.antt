@@ -14,14 +14,14 @@ use lib.Seq.{take-length, drop-drop}
 use Rattle.words.proofs.TestsLaws.{same_truth}
 use Rattle.bytes.specs.Bytes.{index_of, slice}
 use Rattle.record_lines.proofs.FirstLaws.{parts_first}
-use Rattle.record_fields.specs.Fields.{tab, fields_of, first_of, othersOf, name_of, textsOf}
+use Rattle.record_fields.specs.Fields.{tab, fields_of, first_of, others_of, name_of, texts_of}
 
 -- the fields that stand behind the byte at place k of l
-abbrev pub textsAfter : List ℕ → ℕ → List (List ℕ)
-textsAfter l k = cond (ltb k (length l)) (fields_of (drop (suc k) l)) []
+abbrev pub texts_after : List ℕ → ℕ → List (List ℕ)
+texts_after l k = cond (ltb k (length l)) (fields_of (drop (suc k) l)) []
 
 -- what stands behind a byte of the rest of l stands behind that byte of l
-after-drop : (l : List ℕ) (j n : ℕ) → textsAfter (drop j l) n ≡ textsAfter l (j + n)
+after-drop : (l : List ℕ) (j n : ℕ) → texts_after (drop j l) n ≡ texts_after l (j + n)
 after-drop l j n =
     ap (λ (ys : List ℕ). cond (ltb n (length (drop j l))) (fields_of ys) []) shifted
     ∙ ap (λ (t : Bool). cond t (fields_of (drop (suc (j + n)) l)) []) same
@@ -42,14 +42,14 @@ pub name-first : (l : List ℕ) → take (index_of tab l) l ≡ name_of l
 unfolding name_of fields_of
 name-first l = sym (ap first_of (parts_first tab l []))
 
-pub texts-first : (l : List ℕ) → textsOf l ≡ textsAfter l (index_of tab l)
-unfolding textsOf fields_of
-texts-first l = ap othersOf (parts_first tab l [])
+pub texts-first : (l : List ℕ) → texts_of l ≡ texts_after l (index_of tab l)
+unfolding texts_of fields_of
+texts-first l = ap others_of (parts_first tab l [])
 
 -- the next field, and those behind it
 pub texts-next : (l : List ℕ) (k : ℕ) → k < length l →
     let xs = drop (suc k) l in
-    textsAfter l k ≡ take (index_of tab xs) xs ∷ textsAfter l (suc k + index_of tab xs)
+    texts_after l k ≡ take (index_of tab xs) xs ∷ texts_after l (suc k + index_of tab xs)
 unfolding fields_of
 texts-next l k h =
     let xs : List ℕ = drop (suc k) l in

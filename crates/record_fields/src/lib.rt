@@ -1,7 +1,7 @@
 // The fields of a line: a name, then decimal numbers, each after one tab.
 ghost use Rattle.std.specs.Prelude.{◌≡◌, suc, ◌≤◌, length, take};
-ghost use Rattle.record_fields.specs.Fields.{tab, name_of, textsOf, count_of, numbersOf};
-ghost use Rattle.record_fields.specs.Fields.{mostNumbers};
+ghost use Rattle.record_fields.specs.Fields.{tab, name_of, texts_of, count_of, numbers_of};
+ghost use Rattle.record_fields.specs.Fields.{most_numbers};
 ghost use Rattle.bytes.specs.Bytes.{index_of};
 
 use record_numbers::{Number, decimal};
@@ -29,9 +29,9 @@ pub fn name_end(line: &[u8]) -> usize
 // The numbers of a line whose name ends before byte `end`.
 pub fn numbers(line: &[u8], end: usize) -> Fields
     requires { (end ≡ index_of tab line.now) × (end ≤ length line.now) }
-    ensures count_value { result.count ≡ count_of (textsOf line.now) }
-    ensures numbers_value { result.count ≤ mostNumbers →
-        take result.count result.numbers ≡ numbersOf (textsOf line.now) }
+    ensures count_value { result.count ≡ count_of (texts_of line.now) }
+    ensures numbers_value { result.count ≤ most_numbers →
+        take result.count result.numbers ≡ numbers_of (texts_of line.now) }
 {
     let mut numbers = [0u64; MOST_NUMBERS];
     let mut count = 0;
@@ -56,7 +56,7 @@ pub fn numbers(line: &[u8], end: usize) -> Fields
 
 // A count that no call has.
 fn unreadable() -> Fields
-    ensures { result.count ≡ suc mostNumbers }
+    ensures { result.count ≡ suc most_numbers }
 {
     Fields {
         numbers: [0; MOST_NUMBERS],

@@ -12,33 +12,33 @@ use lib.Seq.{take-length, take-add, drop_at, get_or-drop}
 use borrow.Author.Tests.{eqb-true}
 use Rattle.bytes.specs.Bytes.{index_of, index_after}
 use Rattle.bytes.specs.Bytes.{slice as stretch}
-use Rattle.record_lines.specs.Parted.{endedBy, restBy}
-use Rattle.record_lines.specs.Lines.{lineFeed, lineSize, lineRoom, kept, CutAt}
+use Rattle.record_lines.specs.Parted.{ended_by, rest_by}
+use Rattle.record_lines.specs.Lines.{line_feed, line_size, line_room, kept, CutAt}
 
 -- a line is kept as what is kept of it is, with the same bytes behind it
 pub kept_more : (p q : List ℕ) → kept (kept p ++ q) ≡ kept (p ++ q)
 unfolding kept
-kept_more p q = at (dec_lt (length p) lineRoom)
+kept_more p q = at (dec_lt (length p) line_room)
   where
-    at : Dec (length p < lineRoom) → take lineRoom (take lineRoom p ++ q) ≡ take lineRoom (p ++ q)
-    at (yes lt) = ap (λ (r : List ℕ). take lineRoom (r ++ q)) (take_all lineRoom p (omega (arith, lt)))
+    at : Dec (length p < line_room) → take line_room (take line_room p ++ q) ≡ take line_room (p ++ q)
+    at (yes lt) = ap (λ (r : List ℕ). take line_room (r ++ q)) (take_all line_room p (omega (arith, lt)))
     at (no n) =
-        take-append-le lineRoom (take lineRoom p) q (simp length-take (omega (arith, n)))
-        ∙ take-take lineRoom lineRoom p (omega arith)
-        ∙ sym (take-append-le lineRoom p q (omega (arith, n)))
+        take-append-le line_room (take line_room p) q (simp length-take (omega (arith, n)))
+        ∙ take-take line_room line_room p (omega arith)
+        ∙ sym (take-append-le line_room p q (omega (arith, n)))
 
 -- a line that can be read is kept whole, and of one that is too long enough is kept to tell
-pub kept-short : (p : List ℕ) → length p ≤ lineSize → kept p ≡ p
+pub kept-short : (p : List ℕ) → length p ≤ line_size → kept p ≡ p
 unfolding kept
-kept-short p h = take_all lineRoom p (omega (arith, h))
+kept-short p h = take_all line_room p (omega (arith, h))
 
-pub kept-long : (p : List ℕ) → lineSize < length p → lineSize < length (kept p)
+pub kept-long : (p : List ℕ) → line_size < length p → line_size < length (kept p)
 unfolding kept
 kept-long p h = simp length-take (omega (arith, h))
 
-pub kept-held : (l : List ℕ) (n : ℕ) → n ≤ lineRoom → kept (take n l) ≡ take n l
+pub kept-held : (l : List ℕ) (n : ℕ) → n ≤ line_room → kept (take n l) ≡ take n l
 unfolding kept
-kept-held l n h = take_all lineRoom (take n l) (simp length-take (omega (arith, h)))
+kept-held l n h = take_all line_room (take n l) (simp length-take (omega (arith, h)))
 
 pub kept-none : kept [] ≡ []
 unfolding kept
@@ -46,7 +46,7 @@ kept-none = refl
 
 pub kept-kept : (p : List ℕ) → kept (kept p) ≡ kept p
 unfolding kept
-kept-kept p = take-take lineRoom lineRoom p (omega arith)
+kept-kept p = take-take line_room line_room p (omega arith)
 
 -- ---- up to the first byte b
 
@@ -61,24 +61,24 @@ module _ (b : ℕ) where
       at false h = omega (arith, h)
 
   -- there is none before it
-  pub first_ended : (xs p : List ℕ) → endedBy b p (take (index_of b xs) xs) ≡ []
-  unfolding endedBy index_of index_after
+  pub first_ended : (xs p : List ℕ) → ended_by b p (take (index_of b xs) xs) ≡ []
+  unfolding ended_by index_of index_after
   first_ended [] p = refl
   first_ended (x ∷ xs) p = at (eqb x b) refl (first_ended xs (p ++ (x ∷ [])))
     where
-      at : (t : Bool) → eqb x b ≡ t → endedBy b (p ++ (x ∷ [])) (take (index_of b xs) xs) ≡ [] →
-          endedBy b p (take (index_after t (index_of b xs)) (x ∷ xs)) ≡ []
+      at : (t : Bool) → eqb x b ≡ t → ended_by b (p ++ (x ∷ [])) (take (index_of b xs) xs) ≡ [] →
+          ended_by b p (take (index_after t (index_of b xs)) (x ∷ xs)) ≡ []
       at true e more = refl
       at false e more = rw e more
 
-  pub first_rest : (xs p : List ℕ) → restBy b p (take (index_of b xs) xs) ≡ p ++ take (index_of b xs) xs
-  unfolding restBy index_of index_after
+  pub first_rest : (xs p : List ℕ) → rest_by b p (take (index_of b xs) xs) ≡ p ++ take (index_of b xs) xs
+  unfolding rest_by index_of index_after
   first_rest [] p = sym (append-nil p)
   first_rest (x ∷ xs) p = at (eqb x b) refl (first_rest xs (p ++ (x ∷ [])))
     where
       at : (t : Bool) → eqb x b ≡ t →
-          restBy b (p ++ (x ∷ [])) (take (index_of b xs) xs) ≡ (p ++ (x ∷ [])) ++ take (index_of b xs) xs →
-          restBy b p (take (index_after t (index_of b xs)) (x ∷ xs))
+          rest_by b (p ++ (x ∷ [])) (take (index_of b xs) xs) ≡ (p ++ (x ∷ [])) ++ take (index_of b xs) xs →
+          rest_by b p (take (index_after t (index_of b xs)) (x ∷ xs))
           ≡ p ++ take (index_after t (index_of b xs)) (x ∷ xs)
       at true e more = sym (append-nil p)
       at false e more = rw e (more ∙ append_assoc p (x ∷ []) (take (index_of b xs) xs))
@@ -110,16 +110,16 @@ take_min a k r = at (dec_lt a k)
         take_all a (take k r) (simp length-take (omega (arith, ge))) ∙ ap (λ (n : ℕ). take n r) (sym least)
 
 module _ (xs : List ℕ) (f e : ℕ) (le : f ≤ length xs)
-    (found : e ≡ f + index_of lineFeed (stretch f (length xs) xs)) where
+    (found : e ≡ f + index_of line_feed (stretch f (length xs) xs)) where
   abbrev rest : List ℕ
   rest = drop f xs
 
   abbrev much : ℕ
-  much = index_of lineFeed rest
+  much = index_of line_feed rest
 
   first_found : e ≡ f + much
   unfolding stretch
-  first_found = found ∙ ap (λ (ys : List ℕ). f + index_of lineFeed (drop f ys)) (take-length xs)
+  first_found = found ∙ ap (λ (ys : List ℕ). f + index_of line_feed (drop f ys)) (take-length xs)
 
   -- the bytes up to the end of the line
   first-slice : slice f e xs ≡ take much rest
@@ -127,41 +127,41 @@ module _ (xs : List ℕ) (f e : ℕ) (le : f ≤ length xs)
       ap (λ (n : ℕ). slice f n xs) first_found ∙ ap (drop f) (take-add f much xs)
       ∙ drop_at (take f xs) (take much rest) f (length-take-le f xs le)
 
-  pub cut-stops : e < length xs → get_or xs e 0 ≡ lineFeed
+  pub cut-stops : e < length xs → get_or xs e 0 ≡ line_feed
   cut-stops h =
       ap (λ (n : ℕ). get_or xs n 0) first_found ∙ sym (get_or-drop f xs much 0)
-      ∙ first-there lineFeed rest (omega (arith, h, first_found, length-drop f xs))
+      ∙ first-there line_feed rest (omega (arith, h, first_found, length-drop f xs))
 
-  module _ (l : List ℕ) (had n : ℕ) (whole : length l ≡ lineRoom) (room : had ≤ lineRoom)
-      (copied : n ≡ min (e - f) (lineRoom - had)) where
+  module _ (l : List ℕ) (had n : ℕ) (whole : length l ≡ line_room) (room : had ≤ line_room)
+      (copied : n ≡ min (e - f) (line_room - had)) where
     abbrev p : List ℕ
     p = take had l
 
     length-p : length p ≡ had
     length-p = length-take-le had l (omega (arith, whole, room))
 
-    few : n ≡ min much (lineRoom - had)
+    few : n ≡ min much (line_room - had)
     few = omega (arith, copied, first_found)
 
     held-line : take (had + n) (paste l had rest n) ≡ kept (p ++ take much rest)
     unfolding kept
     held-line =
-        let all : lineRoom ≡ length p + (lineRoom - had) = omega (arith, length-p, room) in
-        take-paste l had rest n (omega (arith, whole, room)) (omega (arith, few, first-le lineFeed rest))
+        let all : line_room ≡ length p + (line_room - had) = omega (arith, length-p, room) in
+        take-paste l had rest n (omega (arith, whole, room)) (omega (arith, few, first-le line_feed rest))
         ∙ ap (λ (k : ℕ). p ++ take k rest) few
-        ∙ ap (λ (ys : List ℕ). p ++ ys) (sym (take_min (lineRoom - had) much rest))
-        ∙ sym (take-append-add p (take much rest) (lineRoom - had))
+        ∙ ap (λ (ys : List ℕ). p ++ ys) (sym (take_min (line_room - had) much rest))
+        ∙ sym (take-append-add p (take much rest) (line_room - had))
         ∙ ap (λ (k : ℕ). take k (p ++ take much rest)) (sym all)
 
     pub cut_at : CutAt xs f p e (take (had + n) (paste l had rest n))
     cut_at =
         record {
           start = omega (arith, first_found);
-          end = omega (arith, first_found, first-le lineFeed rest, length-drop f xs, le);
-          unended = ap (endedBy lineFeed p) first-slice ∙ first_ended lineFeed rest p;
+          end = omega (arith, first_found, first-le line_feed rest, length-drop f xs, le);
+          unended = ap (ended_by line_feed p) first-slice ∙ first_ended line_feed rest p;
           line = held-line
-              ∙ ap kept (sym (ap (restBy lineFeed p) first-slice ∙ first_rest lineFeed rest p));
+              ∙ ap kept (sym (ap (rest_by line_feed p) first-slice ∙ first_rest line_feed rest p));
         }
 
-    pub cut-room : had + n ≤ lineRoom
+    pub cut-room : had + n ≤ line_room
     cut-room = omega (arith, copied, room)

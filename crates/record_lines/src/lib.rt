@@ -1,7 +1,7 @@
 // Lines out of bytes that come in pieces.
 ghost use Rattle.std.specs.Prelude.{◌+◌, ◌≤◌, ◌<◌, min, ◌≡◌, length, take, drop, get_or};
 ghost use Rattle.std.proofs.Math.Seq.{paste};
-ghost use Rattle.record_lines.specs.Lines.{CutAt, lineFeed, lineRoom};
+ghost use Rattle.record_lines.specs.Lines.{CutAt, line_feed, line_room};
 
 // A longer line cannot be read.
 pub const LINE_SIZE: usize = 200;
@@ -38,12 +38,12 @@ fn least(a: usize, b: usize) -> usize
 // piece.
 pub fn cut(chunk: &[u8], from: usize, line: &mut [u8], had: usize) -> Taken
     requires from_in_bounds { from ≤ length chunk.now }
-    requires line_len { (length line.old ≡ lineRoom) × (had ≤ lineRoom) }
+    requires line_len { (length line.old ≡ line_room) × (had ≤ line_room) }
     ensures cut_at { CutAt chunk.now from (take had line.old) result.at
         (take result.held line.new) }
     ensures at_value { result.at < length chunk.now →
-        get_or chunk.now result.at 0 ≡ lineFeed }
-    ensures held_le_line_room { result.held ≤ lineRoom }
+        get_or chunk.now result.at 0 ≡ line_feed }
+    ensures held_le_line_room { result.held ≤ line_room }
 {
     let end = bytes::scan::find(chunk, from, chunk.len(), b'\n');
     let n = least(end - from, LINE_ROOM - had);

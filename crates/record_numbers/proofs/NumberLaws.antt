@@ -7,9 +7,9 @@ use Rattle.record_numbers.specs.declared.reading.Number.{Number}
 use Rattle.record_numbers.specs.declared.reading.Number.TheVariants.{Value, Unreadable}
 use Rattle.record_numbers.specs.Decimal.{is_number, value_of, number_in}
 
-abbrev valueIn : ℕ → Number → ℕ
-valueIn d (Value v) = v
-valueIn d Unreadable = d
+abbrev value_in : ℕ → Number → ℕ
+value_in d (Value v) = v
+value_in d Unreadable = d
 
 abbrev is_value : Number → Bool
 is_value (Value v) = true
@@ -19,9 +19,9 @@ is-value : (t : Bool) (v : ℕ) → is_value (cond t (Value v) Unreadable) ≡ t
 is-value true v = refl
 is-value false v = refl
 
-value_in : (t : Bool) (v : ℕ) → valueIn v (cond t (Value v) Unreadable) ≡ v
-value_in true v = refl
-value_in false v = refl
+value_in_lem : (t : Bool) (v : ℕ) → value_in v (cond t (Value v) Unreadable) ≡ v
+value_in_lem true v = refl
+value_in_lem false v = refl
 
 module _ (bs : List ℕ) where
   pub value-number : (v : ℕ) → number_in bs ≡ Value v → is_number bs ≡ true
@@ -30,7 +30,7 @@ module _ (bs : List ℕ) where
 
   pub value_same : (v : ℕ) → number_in bs ≡ Value v → v ≡ value_of bs
   unfolding number_in
-  value_same v e = sym (ap (valueIn (value_of bs)) e) ∙ value_in (is_number bs) (value_of bs)
+  value_same v e = sym (ap (value_in (value_of bs)) e) ∙ value_in_lem (is_number bs) (value_of bs)
 
   pub no_number : number_in bs ≡ Unreadable → is_number bs ≡ false
   unfolding number_in

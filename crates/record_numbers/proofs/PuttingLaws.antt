@@ -10,28 +10,28 @@ use native.Mathlib.Omega.{arith}
 use lib.ListN.{length, take, drop, set, take-append-drop, length-set}
 use lib.Seq.{slice, slice_empty, take-take, take-set-le, take-set-lt, drop-cons, drop-set-lt, get_or-set_same}
 use lib.Seq.{lt-length-set, append_snoc, length-take-le}
-use Rattle.record_numbers.specs.Decimal.{digitsOf, placesIn, places_of, text_of, numberRoom}
+use Rattle.record_numbers.specs.Decimal.{digits_of, places_in, places_of, text_of, number_room}
 use Rattle.record_numbers.proofs.TextLaws.{places-one, places-more}
 
 -- ---- places
 
 -- k places are counted, the last of them among those of what is left of n
 pub record Counted (n k rest : ℕ) : Type 0 where
-  pub few : k ≤ numberRoom
-  pub fits : rest < 10 ^ suc (numberRoom - k)
-  pub all : k + placesIn (suc (numberRoom - k)) rest ≡ 1 + places_of n
+  pub few : k ≤ number_room
+  pub fits : rest < 10 ^ suc (number_room - k)
+  pub all : k + places_in (suc (number_room - k)) rest ≡ 1 + places_of n
 
 module _ {n k rest : ℕ} (h : Counted n k rest) where
   pub counted-end : rest ≤ 9 → k ≡ places_of n
-  counted-end l = omega (arith, places-one (numberRoom - k) rest (omega arith))
+  counted-end l = omega (arith, places-one (number_room - k) rest (omega arith))
 
   pub counted-more : 9 < rest → Counted n (k + 1) (rest / 10)
-  counted-more l = at (numberRoom - k) refl
+  counted-more l = at (number_room - k) refl
     where
-      at : (f : ℕ) → numberRoom - k ≡ f → Counted n (k + 1) (rest / 10)
+      at : (f : ℕ) → number_room - k ≡ f → Counted n (k + 1) (rest / 10)
       at zero e = absurd (omega (arith, rw e at h.fits))
       at (suc f) e =
-          let next : numberRoom - (k + 1) ≡ f = omega arith in
+          let next : number_room - (k + 1) ≡ f = omega arith in
           record {
             few = omega arith;
             fits = rw next (omega (arith, rw e at h.fits));
@@ -45,7 +45,7 @@ pub record Standing (n at end : ℕ) (out₀ out : List ℕ) (i rest : ℕ) : Ty
   pub within : (at ≤ i) × (i ≤ end) × (end ≤ length out)
   pub long : length out ≡ length out₀
   pub kept : take at out ≡ take at out₀
-  pub all : digitsOf (i - at) rest ++ slice i end out ≡ text_of n
+  pub all : digits_of (i - at) rest ++ slice i end out ≡ text_of n
 
 pub standing-start : (n at end : ℕ) (out : List ℕ) → end ≡ at + places_of n → end ≤ length out
     → Standing n at end out out end n
@@ -56,7 +56,7 @@ standing-start n at end out e h =
       within = omega arith;
       long = refl;
       kept = refl;
-      all = rw (slice_empty, append-nil) (ap (λ (k : ℕ). digitsOf k n) left);
+      all = rw (slice_empty, append-nil) (ap (λ (k : ℕ). digits_of k n) left);
     }
 
 drop-set-same : (l : List ℕ) (j b : ℕ) → j < length l → drop j (set l j b) ≡ b ∷ drop (suc j) l
@@ -71,7 +71,7 @@ slice-set-same l j end b h m =
 
 module _ {n at end : ℕ} {out₀ out : List ℕ} {i rest : ℕ} (h : Standing n at end out₀ out i rest) where
   pub standing-end : i ≤ at → take end out ≡ take at out₀ ++ text_of n
-  unfolding digitsOf
+  unfolding digits_of
   standing-end l =
       let here : i ≡ at = omega arith in
       let none : at - at ≡ 0 = omega arith in
@@ -80,14 +80,14 @@ module _ {n at end : ℕ} {out₀ out : List ℕ} {i rest : ℕ} (h : Standing n
 
   pub standing-more : at < i
       → Standing n at end out₀ (set out (i - 1) (48 + rest % 10)) (i - 1) (rest / 10)
-  unfolding digitsOf
+  unfolding digits_of
   standing-more l =
       let j = i - 1 in
       let b = 48 + rest % 10 in
       let next : suc j ≡ i = omega arith in
       let left : i - at ≡ suc (j - at) = omega arith in
       let first = rw next at (slice-set-same out j end b (omega arith) (omega arith)) in
-      let seam = append_snoc (digitsOf (j - at) (rest / 10)) b (slice i end out) in
+      let seam = append_snoc (digits_of (j - at) (rest / 10)) b (slice i end out) in
       record {
         within = omega (arith, length-set out j b);
         long = length-set out j b ∙ h.long;

@@ -1,5 +1,5 @@
 -- Laws of the numbers that are read: one digit after the other. No contract cites this file. Assumes nothing.
---   numberFrom v bs          what the bytes bs read as behind digits that make v
+--   number_from v bs          what the bytes bs read as behind digits that make v
 --   from-none, from_start    an empty field, and the start of any other
 --   from-below, from-above   a byte that is no digit
 --   from-beyond              a digit that makes more than 64 bits
@@ -17,14 +17,14 @@ use lib.ListN.{length, drop, get_or, drop_of_length-le}
 use lib.Seq.{drop-cons}
 use Rattle.record_numbers.specs.declared.reading.Number.{Number}
 use Rattle.record_numbers.specs.declared.reading.Number.TheVariants.{Value, Unreadable}
-use Rattle.record_numbers.specs.Decimal.{allDigits, valueOnto, is_number, number_in}
+use Rattle.record_numbers.specs.Decimal.{all_digits, value_onto, is_number, number_in}
 
-unfoldable pub numberFrom : ℕ → List ℕ → Number
-numberFrom v bs =
-    cond (allDigits bs && ltb (valueOnto v bs) (2 ^ 64)) (Value (valueOnto v bs)) Unreadable
+unfoldable pub number_from : ℕ → List ℕ → Number
+number_from v bs =
+    cond (all_digits bs && ltb (value_onto v bs) (2 ^ 64)) (Value (value_onto v bs)) Unreadable
 
-pub onto-le : (v : ℕ) (bs : List ℕ) → v ≤ valueOnto v bs
-unfolding valueOnto
+pub onto-le : (v : ℕ) (bs : List ℕ) → v ≤ value_onto v bs
+unfolding value_onto
 onto-le v [] = omega arith
 onto-le v (b ∷ bs) = omega (arith, onto-le (v * 10 + (b - 48)) bs)
 
@@ -32,8 +32,8 @@ pub from-none : (bs : List ℕ) → length bs ≡ 0 → Unreadable ≡ number_in
 unfolding number_in is_number
 from-none bs h = simp h
 
-pub from_start : (bs : List ℕ) → 0 < length bs → number_in bs ≡ numberFrom 0 bs
-unfolding number_in is_number numberFrom
+pub from_start : (bs : List ℕ) → 0 < length bs → number_in bs ≡ number_from 0 bs
+unfolding number_in is_number number_from
 from_start bs h = simp (lt-ltb 0 (length bs) h)
 
 -- ---- at the byte i, with the value v so far
@@ -45,25 +45,25 @@ module _ (bs : List ℕ) (i v : ℕ) (h : i < length bs) where
   abbrev next : ℕ
   next = v * 10 + (here - 48)
 
-  pub from-below : here < 48 → numberFrom v (drop i bs) ≡ Unreadable
-  unfolding numberFrom allDigits
+  pub from-below : here < 48 → number_from v (drop i bs) ≡ Unreadable
+  unfolding number_from all_digits
   from-below l = rw (drop-cons bs i 0) (simp (lt-leb 48 here l))
 
-  pub from-above : 57 < here → numberFrom v (drop i bs) ≡ Unreadable
-  unfolding numberFrom allDigits
+  pub from-above : 57 < here → number_from v (drop i bs) ≡ Unreadable
+  unfolding number_from all_digits
   from-above l = rw (drop-cons bs i 0) (simp (lt-leb here 57 l, and-false))
 
-  pub from-beyond : 2 ^ 64 ≤ next → numberFrom v (drop i bs) ≡ Unreadable
-  unfolding numberFrom valueOnto
+  pub from-beyond : 2 ^ 64 ≤ next → number_from v (drop i bs) ≡ Unreadable
+  unfolding number_from value_onto
   from-beyond l =
       let after = drop (suc i) bs in
-      let far = le-ltb (valueOnto next after) (2 ^ 64) (omega (arith, onto-le next after)) in
+      let far = le-ltb (value_onto next after) (2 ^ 64) (omega (arith, onto-le next after)) in
       rw (drop-cons bs i 0) (simp (far, and-false))
 
-  pub from-digit : 48 ≤ here → here ≤ 57 → numberFrom v (drop i bs) ≡ numberFrom next (drop (i + 1) bs)
-  unfolding numberFrom allDigits valueOnto
+  pub from-digit : 48 ≤ here → here ≤ 57 → number_from v (drop i bs) ≡ number_from next (drop (i + 1) bs)
+  unfolding number_from all_digits value_onto
   from-digit l m = rw (add-one, drop-cons bs i 0) (simp (le-leb 48 here l, le-leb here 57 m))
 
-pub from_end : (bs : List ℕ) (i v : ℕ) → length bs ≤ i → v < 2 ^ 64 → numberFrom v (drop i bs) ≡ Value v
-unfolding numberFrom allDigits valueOnto
+pub from_end : (bs : List ℕ) (i v : ℕ) → length bs ≤ i → v < 2 ^ 64 → number_from v (drop i bs) ≡ Value v
+unfolding number_from all_digits value_onto
 from_end bs i v h l = rw drop_of_length-le (simp (lt-ltb v (2 ^ 64) l))

@@ -1,6 +1,6 @@
 // A number in decimal, put into bytes.
 ghost use Rattle.std.specs.Prelude.{◌+◌, ◌≤◌, ◌≡◌, ◌++◌, length, take};
-ghost use Rattle.record_numbers.specs.Decimal.{places_of, text_of, numberRoom};
+ghost use Rattle.record_numbers.specs.Decimal.{places_of, text_of, number_room};
 
 // How many digits n takes.
 fn places(n: u64) -> usize
@@ -17,9 +17,9 @@ fn places(n: u64) -> usize
 
 // Puts n behind the first `at` bytes of out, and answers how many there are then.
 pub fn put_decimal(out: &mut [u8], at: usize, n: u64) -> usize
-    requires { at + numberRoom ≤ length out.old }
+    requires { at + number_room ≤ length out.old }
     ensures out_after { take result out.new ≡ take at out.old ++ text_of n }
-    ensures upper_bound { result ≤ at + numberRoom }
+    ensures upper_bound { result ≤ at + number_room }
     ensures lower_bound { at ≤ result }
 {
     if n < 10 {

@@ -6,11 +6,11 @@ use native.Mathlib.Omega.{arith}
 use native.Mathlib.Numerals.{add-one}
 use lib.ListN.{length, get_or}
 use lib.Seq.{slice, length-slice, slice_empty}
-use Rattle.record_lines.specs.Lines.{lineFeed, CutAt}
+use Rattle.record_lines.specs.Lines.{line_feed, CutAt}
 use Rattle.record_lines.proofs.PartedLaws.{slice-more, slice-both}
 use Rattle.record_call.specs.Table.{line_of}
 use Rattle.board_runs.specs.Runs.{Lent}
-use Rattle.record_runs.specs.Replay.{Held, passedOn, answerTo, goneOn, printedBy}
+use Rattle.record_runs.specs.Replay.{Held, passed_on, answer_to, gone_on, printed_by}
 use Rattle.record_runs.proofs.RunLaws.{held_same, gone-both, printed-both, printed-none}
 use Rattle.record_runs.proofs.StepLaws.{gone-open, printed-open, gone-ended, printed_ended, number-le}
 use Rattle.record_replay.specs.Pieces.{Went}
@@ -32,39 +32,39 @@ module _ (xs : List ℕ) (f : ℕ) (p : List ℕ) (n : ℕ) (x : Lent) (e : ℕ)
       }
 
   -- the line ends
-  module _ (lt : e < length xs) (feed : get_or xs e 0 ≡ lineFeed) where
-    with-end : slice f (e + 1) xs ≡ slice f e xs ++ (lineFeed ∷ [])
+  module _ (lt : e < length xs) (feed : get_or xs e 0 ≡ line_feed) where
+    with-end : slice f (e + 1) xs ≡ slice f e xs ++ (line_feed ∷ [])
     with-end =
         ap (λ (k : ℕ). slice f k xs) (add-one e) ∙ slice-more xs f e c.start lt
         ∙ ap (λ (b : ℕ). slice f e xs ++ (b ∷ [])) feed
 
-    pub went-ended : (x' : Lent) (b : List ℕ) → x' ≡ passedOn (line_of q) x →
-        b ≡ a ++ answerTo (n + 1) (line_of q) x →
+    pub went-ended : (x' : Lent) (b : List ℕ) → x' ≡ passed_on (line_of q) x →
+        b ≡ a ++ answer_to (n + 1) (line_of q) x →
         Went xs f at_first a (e + 1) record { line = []; number = n + 1; lent = x' } b
     went-ended x' b left said =
         record {
           start = omega (arith, c.start);
           end = omega (arith, lt);
           held = held_same refl refl left
-              ∙ sym (ap (λ (bs : List ℕ). goneOn bs at_first) with-end
+              ∙ sym (ap (λ (bs : List ℕ). gone_on bs at_first) with-end
               ∙ gone-ended p n x (slice f e xs) c.unended q c.line);
           printed = said
               ∙ ap (λ (bs : List ℕ). a ++ bs)
-              (sym (ap (λ (bs : List ℕ). printedBy bs at_first) with-end
+              (sym (ap (λ (bs : List ℕ). printed_by bs at_first) with-end
               ∙ printed_ended p n x (slice f e xs) c.unended q c.line));
         }
 
 -- ---- one after the other
 
 -- nothing yet
-pub went-none : (xs : List ℕ) (f : ℕ) (h : Held) (a : List ℕ) → f ≤ length xs → goneOn [] h ≡ h →
+pub went-none : (xs : List ℕ) (f : ℕ) (h : Held) (a : List ℕ) → f ≤ length xs → gone_on [] h ≡ h →
     Went xs f h a f h a
 went-none xs f h a le none =
     record {
       start = omega arith;
       end = le;
-      held = sym (ap (λ (bs : List ℕ). goneOn bs h) (slice_empty f xs) ∙ none);
-      printed = sym (ap (λ (bs : List ℕ). a ++ printedBy bs h) (slice_empty f xs)
+      held = sym (ap (λ (bs : List ℕ). gone_on bs h) (slice_empty f xs) ∙ none);
+      printed = sym (ap (λ (bs : List ℕ). a ++ printed_by bs h) (slice_empty f xs)
           ∙ ap (λ (bs : List ℕ). a ++ bs) (printed-none h) ∙ append-nil a);
     }
 
@@ -75,14 +75,14 @@ went-both xs f m e h h' h'' a b d one two =
     record {
       start = omega (arith, one.start, two.start);
       end = two.end;
-      held = two.held ∙ ap (goneOn (slice m e xs)) one.held
-          ∙ sym (ap (λ (bs : List ℕ). goneOn bs h) bytes ∙ gone-both (slice f m xs) (slice m e xs) h);
+      held = two.held ∙ ap (gone_on (slice m e xs)) one.held
+          ∙ sym (ap (λ (bs : List ℕ). gone_on bs h) bytes ∙ gone-both (slice f m xs) (slice m e xs) h);
       printed = two.printed
-          ∙ ap (λ (bs : List ℕ). bs ++ printedBy (slice m e xs) h') one.printed
-          ∙ append_assoc a (printedBy (slice f m xs) h) (printedBy (slice m e xs) h')
-          ∙ ap (λ (g : Held). a ++ (printedBy (slice f m xs) h ++ printedBy (slice m e xs) g)) one.held
+          ∙ ap (λ (bs : List ℕ). bs ++ printed_by (slice m e xs) h') one.printed
+          ∙ append_assoc a (printed_by (slice f m xs) h) (printed_by (slice m e xs) h')
+          ∙ ap (λ (g : Held). a ++ (printed_by (slice f m xs) h ++ printed_by (slice m e xs) g)) one.held
           ∙ ap (λ (bs : List ℕ). a ++ bs)
-          (sym (ap (λ (bs : List ℕ). printedBy bs h) bytes ∙ printed-both (slice f m xs) (slice m e xs) h));
+          (sym (ap (λ (bs : List ℕ). printed_by bs h) bytes ∙ printed-both (slice f m xs) (slice m e xs) h));
     }
 
 -- no more lines than bytes

@@ -5,20 +5,20 @@
 --                          to b
 use Rattle.std.specs.Prelude.{ℕ, ◌≤◌, ◌≡◌, List, ◌++◌, length, take}
 use Rattle.std.proofs.Math.Seq.{slice}
-use Rattle.sizes.specs.Sizes.{logSize}
-use Rattle.record_lines.specs.Lines.{lineRoom}
-use Rattle.record_runs.specs.Replay.{Held, lent_of, goneOn, printedBy}
+use Rattle.sizes.specs.Sizes.{log_size}
+use Rattle.record_lines.specs.Lines.{line_room}
+use Rattle.record_runs.specs.Replay.{Held, lent_of, gone_on, printed_by}
 
 abbrev pub held_at : List ℕ → List ℕ → List ℕ → List ℕ → ℕ → ℕ → Held
 held_at l g s line held number = record { line = take held line; number = number; lent = lent_of l g s }
 
 pub record Roomy (g line : List ℕ) (held : ℕ) : Type 0 where
-  pub log : length g ≡ logSize
-  pub room : length line ≡ lineRoom
-  pub few : held ≤ lineRoom
+  pub log : length g ≡ log_size
+  pub room : length line ≡ line_room
+  pub few : held ≤ line_room
 
 pub record Went (xs : List ℕ) (f : ℕ) (h : Held) (a : List ℕ) (e : ℕ) (h' : Held) (b : List ℕ) : Type 0 where
   pub start : f ≤ e
   pub end : e ≤ length xs
-  pub held : h' ≡ goneOn (slice f e xs) h
-  pub printed : b ≡ a ++ printedBy (slice f e xs) h
+  pub held : h' ≡ gone_on (slice f e xs) h
+  pub printed : b ≡ a ++ printed_by (slice f e xs) h

@@ -1,9 +1,9 @@
 // A line of a record, run and answered.
 ghost use Rattle.std.specs.Prelude.{◌+◌, ◌≤◌, ◌≡◌, ◌++◌, length, take};
-ghost use Rattle.sizes.specs.Sizes.{logSize};
+ghost use Rattle.sizes.specs.Sizes.{log_size};
 ghost use Rattle.record_call.specs.Table.{line_of};
-ghost use Rattle.record_answer.specs.Shown.{answerRoom};
-ghost use Rattle.record_runs.specs.Replay.{lent_of, passedOn, answerTo};
+ghost use Rattle.record_answer.specs.Shown.{answer_room};
+ghost use Rattle.record_runs.specs.Replay.{lent_of, passed_on, answer_to};
 
 use monitor_answer::numbers;
 use record_answer::{put_answer, put_number};
@@ -21,14 +21,14 @@ pub fn end_line(
     used: usize,
     number: u64,
 ) -> usize
-    requires { (length log.old ≡ logSize) × (used + answerRoom ≤ length out.old) }
+    requires { (length log.old ≡ log_size) × (used + answer_room ≤ length out.old) }
     ensures saved_after { lent_of state.new log.new saved.new ≡
-        passedOn (line_of line.now)
+        passed_on (line_of line.now)
         (lent_of state.old log.old saved.old) }
     ensures out_after { take result out.new ≡ take used out.old ++
-        answerTo number (line_of line.now)
+        answer_to number (line_of line.now)
         (lent_of state.old log.old saved.old) }
-    ensures upper_bound { result ≤ used + answerRoom }
+    ensures upper_bound { result ≤ used + answer_room }
 {
     let Line::Call(call) = read(line) else {
         return put_number(out, used, number);

@@ -1,7 +1,7 @@
 // The lines of a piece of bytes, run and answered.
 ghost use Rattle.std.specs.Prelude.{◌+◌, ◌-◌, ◌≤◌, ◌<◌, ◌^◌, [], length, take};
-ghost use Rattle.record_lines.specs.Lines.{lineRoom};
-ghost use Rattle.record_answer.specs.Shown.{answerRoom};
+ghost use Rattle.record_lines.specs.Lines.{line_room};
+ghost use Rattle.record_answer.specs.Shown.{answer_room};
 ghost use Rattle.record_replay.specs.Pieces.{Roomy, Went, held_at};
 
 use crate::end_line;
@@ -32,7 +32,7 @@ fn one(
     out: &mut [u8],
     run: Run,
 ) -> Run
-    requires { (Roomy log.old line.old run.held) × (run.used + answerRoom ≤ length out.old)
+    requires { (Roomy log.old line.old run.held) × (run.used + answer_room ≤ length out.old)
         × (run.at < length chunk.now) × (run.number + 1 < 2 ^ 64) }
     ensures went { Went chunk.now run.at
         (held_at state.old log.old saved.old line.old run.held
@@ -41,7 +41,7 @@ fn one(
         (held_at state.new log.new saved.new line.new result.held
         result.number)
         (take result.used out.new) }
-    ensures held_le_line_room { (result.held ≤ lineRoom) × (result.used ≤ run.used + answerRoom) × (run.at < result.at) }
+    ensures held_le_line_room { (result.held ≤ line_room) × (result.used ≤ run.used + answer_room) × (run.at < result.at) }
 {
     let taken = cut(chunk, run.at, line, run.held);
     let end = taken.at;
@@ -74,7 +74,7 @@ pub fn some(
     out: &mut [u8],
     from: Run,
 ) -> Run
-    requires { (Roomy log.old line.old from.held) × (answerRoom ≤ length out.old)
+    requires { (Roomy log.old line.old from.held) × (answer_room ≤ length out.old)
         × (from.at ≤ length chunk.now) × (from.number + (length chunk.now - from.at) < 2 ^ 64) }
     ensures went { Went chunk.now from.at
         (held_at state.old log.old saved.old line.old from.held
@@ -83,7 +83,7 @@ pub fn some(
         (held_at state.new log.new saved.new line.new result.held
         result.number)
         (take result.used out.new) }
-    ensures held_le_line_room { (result.held ≤ lineRoom) × (result.used ≤ length out.new) }
+    ensures held_le_line_room { (result.held ≤ line_room) × (result.used ≤ length out.new) }
     ensures at_lt_at { from.at < length chunk.now → from.at < result.at }
 {
     let mut run = from;

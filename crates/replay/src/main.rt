@@ -3,12 +3,12 @@
 mod turns;
 
 ghost use Rattle.std.specs.Prelude.{◌+◌, ◌≤◌, ◌<◌, ◌^◌, ◌≡◌, map, length};
-ghost use Rattle.sizes.specs.Sizes.{logSize};
+ghost use Rattle.sizes.specs.Sizes.{log_size};
 ghost use Rattle.board_runs.specs.Runs.{ran};
 ghost use Rattle.record_lines.specs.Lines.{last_of};
 ghost use Rattle.record_call.specs.Table.{line_of};
-ghost use Rattle.record_answer.specs.Shown.{answerRoom};
-ghost use Rattle.record_runs.specs.Replay.{callsIn, lent_of};
+ghost use Rattle.record_answer.specs.Shown.{answer_room};
+ghost use Rattle.record_runs.specs.Replay.{calls_in, lent_of};
 
 use libc::{STDERR_FILENO, STDOUT_FILENO};
 use record_lines::LINE_ROOM;
@@ -32,9 +32,9 @@ fn finish(
     out: &mut [u8],
     number: u64,
 )
-    requires { (length log.old ≡ logSize) × (answerRoom ≤ length out.old) × (number + 1 < 2 ^ 64) }
+    requires { (length log.old ≡ log_size) × (answer_room ≤ length out.old) × (number + 1 < 2 ^ 64) }
     ensures { lent_of state.new log.new saved.new ≡
-        ran (callsIn (map line_of (last_of line.now)))
+        ran (calls_in (map line_of (last_of line.now)))
         (lent_of state.old log.old saved.old) }
 {
     if line.len() == 0 {

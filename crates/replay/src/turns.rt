@@ -1,8 +1,8 @@
 // The pieces of standard input, one after the other, and what they answer on standard output.
 ghost use Rattle.std.specs.Prelude.{◌+◌, ◌≤◌, ◌<◌, ◌^◌, ◌≡◌, true, length};
-ghost use Rattle.record_lines.specs.Lines.{lineRoom};
-ghost use Rattle.record_answer.specs.Shown.{answerRoom};
-ghost use Rattle.record_runs.specs.Replay.{goneOn};
+ghost use Rattle.record_lines.specs.Lines.{line_room};
+ghost use Rattle.record_answer.specs.Shown.{answer_room};
+ghost use Rattle.record_runs.specs.Replay.{gone_on};
 ghost use Rattle.record_replay.specs.Pieces.{Roomy, held_at};
 
 use libc::{STDIN_FILENO, STDOUT_FILENO};
@@ -33,14 +33,14 @@ fn turn(
     number: u64,
     held: usize,
 ) -> Stand
-    requires { (Roomy log.old line.old held) × (answerRoom ≤ length out.old)
+    requires { (Roomy log.old line.old held) × (answer_room ≤ length out.old)
         × (number + length chunk.now < 2 ^ 64) }
     ensures number_after { result.written ≡ true →
         held_at state.new log.new saved.new line.new result.held
-        result.number ≡ goneOn chunk.now
+        result.number ≡ gone_on chunk.now
         (held_at state.old log.old saved.old line.old held
         number) }
-    ensures held_le_line_room { (result.held ≤ lineRoom) × (result.number ≤ number + length chunk.now) }
+    ensures held_le_line_room { (result.held ≤ line_room) × (result.number ≤ number + length chunk.now) }
 {
     let mut run = Run {
         number: number,
@@ -78,9 +78,9 @@ pub(crate) fn all(
     chunk: &mut [u8],
     out: &mut [u8],
 ) -> Stand
-    requires { (Roomy log.old line.old 0) × (answerRoom ≤ length out.old)
+    requires { (Roomy log.old line.old 0) × (answer_room ≤ length out.old)
         × (length chunk.old ≤ 2 ^ 16) }
-    ensures { (result.held ≤ lineRoom) × (result.number + 1 < 2 ^ 64) }
+    ensures { (result.held ≤ line_room) × (result.number + 1 < 2 ^ 64) }
 {
     let mut number: u64 = 0;
     let mut held = 0;

@@ -1,128 +1,128 @@
 -- Every count, size and place of the board's block, each by one name. 01, "The board", "Calls and their
 -- refusals". Assumes nothing.
---   hartCount, hartFiles, fileCount     4 harts with five files each: machine 0, supervisor 1, guests from
---                                       firstGuest on; 20 in all
---   domainCount                         two domains: the machine domain 0, the child 1
+--   hart_count, hart_files, file_count     4 harts with five files each: machine 0, supervisor 1, guests from
+--                                       first_guest on; 20 in all
+--   domain_count                         two domains: the machine domain 0, the child 1
 --   identities                          a file has the identities 1 to 255; definitions take the number n
---   sourceCount                         a domain has the sources 1 to 63
---   fileSetSize, sourceSetSize          the words of a set of identities, and of a set of sources
+--   source_count                         a domain has the sources 1 to 63
+--   file_set_size, source_set_size          the words of a set of identities, and of a set of sources
 --   ..Size                              how many words something takes: a file, the files, a delivery
 --                                       structure, the four of a domain, a domain, the wired controller,
---                                       the block, the log; savedSize: the 64-bit numbers that a move saves
---   fieldsSize                          the words of a file's four fields, which stand first among its words
---   slotCount                           a domain has a word at each number 0 to 63, twice: number 0 is the
+--                                       the block, the log; saved_size: the 64-bit numbers that a move saves
+--   fields_size                          the words of a file's four fields, which stand first among its words
+--   slot_count                           a domain has a word at each number 0 to 63, twice: number 0 is the
 --                                       domain's own, the others are the sources'
---   ..Place, wiredEnd                   the first word of a part in what holds it; where that part ends
+--   ..Place, wired_end                   the first word of a part in what holds it; where that part ends
 use Rattle.std.specs.Prelude.{ℕ, ◌+◌, ◌*◌}
 
 -- ---- counts
 
 -- [01 B1]
-abbrev pub hartCount : ℕ
-hartCount = 4
+abbrev pub hart_count : ℕ
+hart_count = 4
 
 -- [01 B2]
-abbrev pub hartFiles : ℕ
-hartFiles = 5
+abbrev pub hart_files : ℕ
+hart_files = 5
 
 -- [01 B2]
-abbrev pub firstGuest : ℕ
-firstGuest = 2
+abbrev pub first_guest : ℕ
+first_guest = 2
 
-abbrev pub fileCount : ℕ
-fileCount = hartCount * hartFiles
+abbrev pub file_count : ℕ
+file_count = hart_count * hart_files
 
 -- [01 B5]
-abbrev pub domainCount : ℕ
-domainCount = 2
+abbrev pub domain_count : ℕ
+domain_count = 2
 
 -- [01 B3]
 abbrev pub identities : ℕ
 identities = 255
 
 -- [01 B4]
-abbrev pub sourceCount : ℕ
-sourceCount = 63
+abbrev pub source_count : ℕ
+source_count = 63
 
-abbrev pub slotCount : ℕ
-slotCount = 64
+abbrev pub slot_count : ℕ
+slot_count = 64
 
 -- ---- a file
 
-abbrev pub fileSetSize : ℕ
-fileSetSize = 8
+abbrev pub file_set_size : ℕ
+file_set_size = 8
 
-abbrev pub thresholdPlace : ℕ
-thresholdPlace = 1
+abbrev pub threshold_place : ℕ
+threshold_place = 1
 
-abbrev pub pendingPlace : ℕ
-pendingPlace = 2
+abbrev pub pending_place : ℕ
+pending_place = 2
 
-abbrev pub enablePlace : ℕ
-enablePlace = pendingPlace + fileSetSize
+abbrev pub enable_place : ℕ
+enable_place = pending_place + file_set_size
 
-abbrev pub fieldsSize : ℕ
-fieldsSize = enablePlace + fileSetSize
+abbrev pub fields_size : ℕ
+fields_size = enable_place + file_set_size
 
-abbrev pub fileSize : ℕ
-fileSize = fieldsSize
+abbrev pub file_size : ℕ
+file_size = fields_size
 
-abbrev pub filesSize : ℕ
-filesSize = fileCount * fileSize
+abbrev pub files_size : ℕ
+files_size = file_count * file_size
 
 -- ---- a domain
 
-abbrev pub sourceSetSize : ℕ
-sourceSetSize = 2
+abbrev pub source_set_size : ℕ
+source_set_size = 2
 
-abbrev pub structureSize : ℕ
-structureSize = 3
+abbrev pub structure_size : ℕ
+structure_size = 3
 
-abbrev pub structuresSize : ℕ
-structuresSize = hartCount * structureSize
+abbrev pub structures_size : ℕ
+structures_size = hart_count * structure_size
 
-abbrev pub targetsPlace : ℕ
-targetsPlace = slotCount
+abbrev pub targets_place : ℕ
+targets_place = slot_count
 
-abbrev pub pendingsPlace : ℕ
-pendingsPlace = targetsPlace + slotCount
+abbrev pub pendings_place : ℕ
+pendings_place = targets_place + slot_count
 
-abbrev pub enablesPlace : ℕ
-enablesPlace = pendingsPlace + sourceSetSize
+abbrev pub enables_place : ℕ
+enables_place = pendings_place + source_set_size
 
-abbrev pub structuresPlace : ℕ
-structuresPlace = enablesPlace + sourceSetSize
+abbrev pub structures_place : ℕ
+structures_place = enables_place + source_set_size
 
-abbrev pub domainSize : ℕ
-domainSize = structuresPlace + structuresSize
+abbrev pub domain_size : ℕ
+domain_size = structures_place + structures_size
 
 -- ---- the wired controller
 
-abbrev pub machinePlace : ℕ
-machinePlace = sourceSetSize
+abbrev pub machine_place : ℕ
+machine_place = source_set_size
 
-abbrev pub childPlace : ℕ
-childPlace = machinePlace + domainSize
+abbrev pub child_place : ℕ
+child_place = machine_place + domain_size
 
-abbrev pub wiredSize : ℕ
-wiredSize = childPlace + domainSize
+abbrev pub wired_size : ℕ
+wired_size = child_place + domain_size
 
 -- ---- the board and what is lent beside it
 
-abbrev pub wiredPlace : ℕ
-wiredPlace = filesSize
+abbrev pub wired_place : ℕ
+wired_place = files_size
 
-abbrev pub wiredEnd : ℕ
-wiredEnd = wiredPlace + wiredSize
+abbrev pub wired_end : ℕ
+wired_end = wired_place + wired_size
 
 -- [01 B7]
-abbrev pub blockSize : ℕ
-blockSize = wiredEnd
+abbrev pub block_size : ℕ
+block_size = wired_end
 
 -- [01 B10]
-abbrev pub logSize : ℕ
-logSize = 63
+abbrev pub log_size : ℕ
+log_size = 63
 
 -- [01 V3]
-abbrev pub savedSize : ℕ
-savedSize = 10
+abbrev pub saved_size : ℕ
+saved_size = 10

@@ -3,100 +3,100 @@ use Prim.Native.Nat.{ℕ}
 use mathlib.Core.Path.{◌≡◌, ◌∙◌}
 use mathlib.Core.Bool.{Bool, true, false, not, ◌&&◌, ◌||◌, and_assoc, and-false, or-false}
 use Rattle.source.specs.declared.Source.{Source}
-use Rattle.source_mode.specs.Mode.{isActive, isLevel, isRectified}
-use Rattle.source_target.specs.Target.{startTarget, keptTarget}
-use Rattle.source.specs.Pending.{withPending, withEnabled, withTarget, withMode, inactive, fresh}
+use Rattle.source_mode.specs.Mode.{is_active, is_level, is_rectified}
+use Rattle.source_target.specs.Target.{start_target, kept_target}
+use Rattle.source.specs.Pending.{with_pending, with_enabled, with_target, with_mode, inactive, fresh}
 use Rattle.source.specs.Pending.{settled, pended, cleared, switched, moded, redelivered, retargeted}
 use Rattle.source.specs.Pending.{candidate}
 
 module _ (s : Source) (m : Bool) where
-  pub settled-messages : (rose high : Bool) → isLevel s.mode ≡ true → m ≡ true
-      → settled s m rose high ≡ withPending s (high && (s.pending || rose))
+  pub settled-messages : (rose high : Bool) → is_level s.mode ≡ true → m ≡ true
+      → settled s m rose high ≡ with_pending s (high && (s.pending || rose))
   unfolding settled
   settled-messages rose high l e = simp (l, e)
 
-  pub settled-direct : (rose high : Bool) → isLevel s.mode ≡ true → m ≡ false
-      → settled s m rose high ≡ withPending s high
+  pub settled-direct : (rose high : Bool) → is_level s.mode ≡ true → m ≡ false
+      → settled s m rose high ≡ with_pending s high
   unfolding settled
   settled-direct rose high l e = simp (l, e)
 
-  pub settled-other : (rose high : Bool) → isLevel s.mode ≡ false
-      → settled s m rose high ≡ withPending s (s.pending || rose)
+  pub settled-other : (rose high : Bool) → is_level s.mode ≡ false
+      → settled s m rose high ≡ with_pending s (s.pending || rose)
   unfolding settled
   settled-other rose high l = simp l
 
-  pub pended-inactive : (wire : Bool) → isActive s.mode ≡ false → pended s m wire ≡ s
+  pub pended-inactive : (wire : Bool) → is_active s.mode ≡ false → pended s m wire ≡ s
   unfolding pended
   pended-inactive wire a = simp a
 
-  pub pended-other : (wire : Bool) → isActive s.mode ≡ true → isLevel s.mode ≡ false
-      → pended s m wire ≡ withPending s true
+  pub pended-other : (wire : Bool) → is_active s.mode ≡ true → is_level s.mode ≡ false
+      → pended s m wire ≡ with_pending s true
   unfolding pended
   pended-other wire a l = simp (a, l)
 
-  pub pended-messages : (wire : Bool) → isActive s.mode ≡ true → isLevel s.mode ≡ true → m ≡ true
-      → pended s m wire ≡ withPending s (s.pending || isRectified s.mode wire)
+  pub pended-messages : (wire : Bool) → is_active s.mode ≡ true → is_level s.mode ≡ true → m ≡ true
+      → pended s m wire ≡ with_pending s (s.pending || is_rectified s.mode wire)
   unfolding pended
   pended-messages wire a l e = simp (a, l, e)
 
-  pub pended-direct : (wire : Bool) → isActive s.mode ≡ true → isLevel s.mode ≡ true → m ≡ false
+  pub pended-direct : (wire : Bool) → is_active s.mode ≡ true → is_level s.mode ≡ true → m ≡ false
       → pended s m wire ≡ s
   unfolding pended
   pended-direct wire a l e = simp (a, l, e, or-false)
 
-  pub cleared-other : isLevel s.mode ≡ false → cleared s m ≡ withPending s false
+  pub cleared-other : is_level s.mode ≡ false → cleared s m ≡ with_pending s false
   unfolding cleared
   cleared-other l = simp l
 
-  pub cleared-messages : isLevel s.mode ≡ true → m ≡ true → cleared s m ≡ withPending s false
+  pub cleared-messages : is_level s.mode ≡ true → m ≡ true → cleared s m ≡ with_pending s false
   unfolding cleared
   cleared-messages l e = simp (l, e)
 
-  pub cleared-direct : isLevel s.mode ≡ true → m ≡ false → cleared s m ≡ s
+  pub cleared-direct : is_level s.mode ≡ true → m ≡ false → cleared s m ≡ s
   unfolding cleared
   cleared-direct l e = simp (l, e)
 
-  pub redelivered-inactive : (wire : Bool) → isActive s.mode ≡ false → redelivered s m wire ≡ s
+  pub redelivered-inactive : (wire : Bool) → is_active s.mode ≡ false → redelivered s m wire ≡ s
   unfolding redelivered
   redelivered-inactive wire a = simp a
 
-  pub redelivered-active : (wire : Bool) → isActive s.mode ≡ true
-      → redelivered s m wire ≡ settled (withTarget s (startTarget m)) m false (isRectified s.mode wire)
+  pub redelivered-active : (wire : Bool) → is_active s.mode ≡ true
+      → redelivered s m wire ≡ settled (with_target s (start_target m)) m false (is_rectified s.mode wire)
   unfolding redelivered
   redelivered-active wire a = simp a
 
-  pub retargeted-inactive : (c : Bool) (v : ℕ) → isActive s.mode ≡ false → retargeted s c m v ≡ s
+  pub retargeted-inactive : (c : Bool) (v : ℕ) → is_active s.mode ≡ false → retargeted s c m v ≡ s
   unfolding retargeted
   retargeted-inactive c v a = simp a
 
-  pub retargeted-active : (c : Bool) (v : ℕ) → isActive s.mode ≡ true
-      → retargeted s c m v ≡ withTarget s (keptTarget c m v)
+  pub retargeted-active : (c : Bool) (v : ℕ) → is_active s.mode ≡ true
+      → retargeted s c m v ≡ with_target s (kept_target c m v)
   unfolding retargeted
   retargeted-active c v a = simp a
 
   module _ (mode : ℕ) (wire : Bool) where
     abbrev rises : Bool
-    rises = not (isRectified s.mode wire) && isRectified mode wire
+    rises = not (is_rectified s.mode wire) && is_rectified mode wire
 
-    pub moded-inactive : isActive mode ≡ false → moded s m mode wire ≡ inactive mode
+    pub moded-inactive : is_active mode ≡ false → moded s m mode wire ≡ inactive mode
     unfolding moded
     moded-inactive a = simp a
 
-    pub moded-fresh : isActive mode ≡ true → isActive s.mode ≡ false
-        → moded s m mode wire ≡ settled (fresh m mode) m rises (isRectified mode wire)
+    pub moded-fresh : is_active mode ≡ true → is_active s.mode ≡ false
+        → moded s m mode wire ≡ settled (fresh m mode) m rises (is_rectified mode wire)
     unfolding moded
     moded-fresh a b = simp (a, b)
 
-    pub moded-kept : isActive mode ≡ true → isActive s.mode ≡ true
-        → moded s m mode wire ≡ settled (withMode s mode) m rises (isRectified mode wire)
+    pub moded-kept : is_active mode ≡ true → is_active s.mode ≡ true
+        → moded s m mode wire ≡ settled (with_mode s mode) m rises (is_rectified mode wire)
     unfolding moded
     moded-kept a b = simp (a, b)
 
-pub switched-inactive : (s : Source) (on : Bool) → isActive s.mode ≡ false → switched s on ≡ s
+pub switched-inactive : (s : Source) (on : Bool) → is_active s.mode ≡ false → switched s on ≡ s
 unfolding switched
 switched-inactive s on a = simp a
 
-pub switched-active : (s : Source) (on : Bool) → isActive s.mode ≡ true → switched s on ≡ withEnabled s on
+pub switched-active : (s : Source) (on : Bool) → is_active s.mode ≡ true → switched s on ≡ with_enabled s on
 unfolding switched
 switched-active s on a = simp a
 
@@ -104,4 +104,4 @@ switched-active s on a = simp a
 pub not-candidate : (s : Source) → (s.pending && s.enabled) ≡ false → candidate s ≡ false
 unfolding candidate
 not-candidate s e =
-    and_assoc (isActive s.mode) s.pending s.enabled ∙ rw e (and-false (isActive s.mode))
+    and_assoc (is_active s.mode) s.pending s.enabled ∙ rw e (and-false (is_active s.mode))

@@ -1,6 +1,6 @@
 // What happens to a source. `messages` is the domain's delivery mode: false is direct, true by messages.
 ghost use Rattle.std.specs.Prelude.{◌≡◌};
-ghost use Rattle.source.specs.Pending.{settled, wireChanged, pended, cleared};
+ghost use Rattle.source.specs.Pending.{settled, wire_changed, pended, cleared};
 ghost use Rattle.source.specs.Pending.{moded, redelivered, retargeted, candidate};
 
 use super::Source;
@@ -25,7 +25,7 @@ impl Source {
     }
 
     pub fn wire_changed(self, messages: bool, was: bool, is: bool) -> Source
-        ensures { result ≡ wireChanged self messages was is }
+        ensures { result ≡ wire_changed self messages was is }
     {
         let before = rectified(self.mode, was);
         let after = rectified(self.mode, is);

@@ -2,10 +2,10 @@
 -- nothing risen, settling it again changes nothing. No contract cites this file. Assumes nothing.
 use mathlib.Core.Path.{◌≡◌, refl, sym, ap}
 use mathlib.Core.Bool.{Bool, true, false, cond, not, ◌&&◌, ◌||◌, or-true, or-false}
-use Rattle.source_mode.specs.Mode.{isLevel, isRectified}
+use Rattle.source_mode.specs.Mode.{is_level, is_rectified}
 use Rattle.source.specs.declared.Source.{Source}
-use Rattle.source.specs.Pending.{withPending, settled, cleared}
-use Rattle.source_rules.specs.SourceRules.{levelRule}
+use Rattle.source.specs.Pending.{with_pending, settled, cleared}
+use Rattle.source_rules.specs.SourceRules.{level_rule}
 
 -- the rule, of a level source (l) with rectified value high and pending bit p
 abbrev rule : Bool → Bool → Bool → Bool → Bool
@@ -47,23 +47,23 @@ settled-bit true false false false e = refl
 -- what a write of the setip family makes of an active source
 abbrev pub raised : Bool → Bool → Source → Source
 raised m wire s =
-    withPending s (cond (isLevel s.mode) (s.pending || (m && isRectified s.mode wire)) true)
+    with_pending s (cond (is_level s.mode) (s.pending || (m && is_rectified s.mode wire)) true)
 
 module _ (m wire : Bool) (s : Source) where
-  pub level-settled : (rose : Bool) → levelRule m wire (settled s m rose (isRectified s.mode wire)) ≡ true
-  unfolding levelRule settled
-  level-settled rose = rule-settled (isLevel s.mode) m rose (isRectified s.mode wire) s.pending
+  pub level-settled : (rose : Bool) → level_rule m wire (settled s m rose (is_rectified s.mode wire)) ≡ true
+  unfolding level_rule settled
+  level-settled rose = rule-settled (is_level s.mode) m rose (is_rectified s.mode wire) s.pending
 
-  module _ (e : levelRule m wire s ≡ true) where
-    pub level-raised : levelRule m wire (raised m wire s) ≡ true
-    unfolding levelRule
-    level-raised = rule-raised (isLevel s.mode) m (isRectified s.mode wire) s.pending e
+  module _ (e : level_rule m wire s ≡ true) where
+    pub level-raised : level_rule m wire (raised m wire s) ≡ true
+    unfolding level_rule
+    level-raised = rule-raised (is_level s.mode) m (is_rectified s.mode wire) s.pending e
 
-    pub level-cleared : levelRule m wire (cleared s m) ≡ true
-    unfolding levelRule cleared
-    level-cleared = rule-cleared (isLevel s.mode) m (isRectified s.mode wire) s.pending e
+    pub level-cleared : level_rule m wire (cleared s m) ≡ true
+    unfolding level_rule cleared
+    level-cleared = rule-cleared (is_level s.mode) m (is_rectified s.mode wire) s.pending e
 
-    pub settled_same : settled s m false (isRectified s.mode wire) ≡ s
-    unfolding levelRule settled
+    pub settled_same : settled s m false (is_rectified s.mode wire) ≡ s
+    unfolding level_rule settled
     settled_same =
-        ap (withPending s) (settled-bit (isLevel s.mode) m (isRectified s.mode wire) s.pending e)
+        ap (with_pending s) (settled-bit (is_level s.mode) m (is_rectified s.mode wire) s.pending e)

@@ -7,11 +7,11 @@ use mathlib.Core.Logic.{◌⊎◌, inl, inr}
 use native.Mathlib.Omega.{arith}
 use lib.Dec.{eqb}
 use borrow.Author.Tests.{eqb-true}
-use Rattle.words.specs.Bits.{bit_of, hasBit}
+use Rattle.words.specs.Bits.{bit_of, has_bit}
 use Rattle.words.specs.Parts.{field_of}
-use Rattle.words.proofs.PartsLaws.{fieldOf-lt}
+use Rattle.words.proofs.PartsLaws.{field_of-lt}
 use Rattle.words.proofs.TestsLaws.{tested, not_same}
-use Rattle.source_mode.specs.Mode.{isActive, isLevel, isRectified, keptMode, source_word}
+use Rattle.source_mode.specs.Mode.{is_active, is_level, is_rectified, kept_mode, source_word}
 
 -- ---- the words that a write stores: six modes, and 1024 in the machine domain
 
@@ -27,27 +27,27 @@ module _ (P : ℕ → Type 0) (p0 : P 0) (p1 : P 1) (p4 : P 4) (p5 : P 5) (p6 : 
   field-cases (suc (suc (suc (suc (suc (suc (suc zero))))))) h = p7
   field-cases (suc (suc (suc (suc (suc (suc (suc (suc x)))))))) h = absurd (omega arith)
 
-  keptMode-cases : (v : ℕ) → P (keptMode v)
-  unfolding keptMode
-  keptMode-cases v = field-cases (field_of v 0 3) (fieldOf-lt v 0 3)
+  kept_mode-cases : (v : ℕ) → P (kept_mode v)
+  unfolding kept_mode
+  kept_mode-cases v = field-cases (field_of v 0 3) (field_of-lt v 0 3)
 
   module _ (c : Bool) (p1024 : c ≡ false → P 1024) where
     child-cases : (has : Bool) (v : ℕ) → c ≡ true → P (source_word c has v)
     unfolding source_word
     child-cases has v e =
-        rw e (tested (has && not (hasBit v 10)) (λ t. rw t (keptMode-cases v)) (λ f. rw f p0))
+        rw e (tested (has && not (has_bit v 10)) (λ t. rw t (kept_mode-cases v)) (λ f. rw f p0))
 
     machine-cases : (has : Bool) (v : ℕ) → c ≡ false → P (source_word c has v)
     unfolding source_word
-    machine-cases has v e = rw e (tested (hasBit v 10) (λ t. rw t (p1024 e)) (λ f. rw f (keptMode-cases v)))
+    machine-cases has v e = rw e (tested (has_bit v 10) (λ t. rw t (p1024 e)) (λ f. rw f (kept_mode-cases v)))
 
     -- what holds of each of these words holds of what a write stores
-    pub sourceWord-cases : (has : Bool) (v : ℕ) → P (source_word c has v)
-    sourceWord-cases has v = tested c (child-cases has v) (machine-cases has v)
+    pub source_word-cases : (has : Bool) (v : ℕ) → P (source_word c has v)
+    source_word-cases has v = tested c (child-cases has v) (machine-cases has v)
 
     -- and of a word that would be stored as it is
     pub range-cases : (w : ℕ) → w ≡ source_word c true w → P w
-    range-cases w e = subst P (sym e) (sourceWord-cases true w)
+    range-cases w e = subst P (sym e) (source_word-cases true w)
 
 -- a choice between equals
 either : (c : Bool) (w : ℕ) → cond c w w ≡ w
@@ -56,18 +56,18 @@ either false w = refl
 
 module _ (c : Bool) where
   -- to write what was stored would store it as it is
-  pub sourceWord-back : (has : Bool) (v : ℕ) → source_word c true (source_word c has v) ≡ source_word c has v
-  unfolding source_word keptMode hasBit bit_of field_of
-  sourceWord-back =
-      sourceWord-cases (λ w. source_word c true w ≡ w) (either c 0) (either c 1) (either c 4) (either c 5)
+  pub source_word-back : (has : Bool) (v : ℕ) → source_word c true (source_word c has v) ≡ source_word c has v
+  unfolding source_word kept_mode has_bit bit_of field_of
+  source_word-back =
+      source_word-cases (λ w. source_word c true w ≡ w) (either c 0) (either c 1) (either c 4) (either c 5)
       (either c 6) (either c 7) c (λ e. rw e)
 
   pub range-zero : 0 ≡ source_word c true 0
-  unfolding source_word keptMode hasBit bit_of field_of
+  unfolding source_word kept_mode has_bit bit_of field_of
   range-zero = sym (either c 0)
 
   pub range-delegated : c ≡ false → 1024 ≡ source_word c true 1024
-  unfolding source_word hasBit bit_of
+  unfolding source_word has_bit bit_of
   range-delegated e = rw e
 
   -- 1024 is the greatest of them
@@ -77,33 +77,33 @@ module _ (c : Bool) where
       (λ h. omega arith) (λ h. omega arith) (λ h. omega arith) c (λ e h. refl)
 
   -- an inactive one is 0, or delegates, which only the machine domain's do
-  pub range-inactive : (w : ℕ) → w ≡ source_word c true w → isActive w ≡ false
+  pub range-inactive : (w : ℕ) → w ≡ source_word c true w → is_active w ≡ false
       → (w ≡ 0) ⊎ ((w ≡ 1024) × (c ≡ false))
-  unfolding isActive
+  unfolding is_active
   range-inactive =
-      range-cases (λ w. isActive w ≡ false → (w ≡ 0) ⊎ ((w ≡ 1024) × (c ≡ false))) (λ f. inl refl)
+      range-cases (λ w. is_active w ≡ false → (w ≡ 0) ⊎ ((w ≡ 1024) × (c ≡ false))) (λ f. inl refl)
       (λ f. absurd (true≢false f)) (λ f. absurd (true≢false f)) (λ f. absurd (true≢false f))
       (λ f. absurd (true≢false f)) (λ f. absurd (true≢false f)) c (λ e f. inr (refl, e))
 
 -- ---- an inactive word
 
-pub active-delegated : isActive 1024 ≡ false
-unfolding isActive
+pub active-delegated : is_active 1024 ≡ false
+unfolding is_active
 active-delegated = refl
 
 module _ (w : ℕ) where
   -- it is none of the active ones
-  inactive-other : isActive w ≡ false → (k : ℕ) → isActive k ≡ true → eqb w k ≡ false
+  inactive-other : is_active w ≡ false → (k : ℕ) → is_active k ≡ true → eqb w k ≡ false
   inactive-other f k t =
       tested (eqb w k)
-      (λ e. absurd (not_same (isActive k) t (ap isActive (sym (eqb-true w k e)) ∙ f))) (λ n. n)
+      (λ e. absurd (not_same (is_active k) t (ap is_active (sym (eqb-true w k e)) ∙ f))) (λ n. n)
 
-  pub level-inactive : isActive w ≡ false → isLevel w ≡ false
-  unfolding isActive isLevel
+  pub level-inactive : is_active w ≡ false → is_level w ≡ false
+  unfolding is_active is_level
   level-inactive f = rw (inactive-other f 6 refl, inactive-other f 7 refl)
 
-  pub rectified-inactive : (wire : Bool) → isActive w ≡ false → isRectified w wire ≡ false
-  unfolding isActive isRectified
+  pub rectified-inactive : (wire : Bool) → is_active w ≡ false → is_rectified w wire ≡ false
+  unfolding is_active is_rectified
   rectified-inactive wire f = simp (
     inactive-other f 4 refl,
     inactive-other f 5 refl,
@@ -111,5 +111,5 @@ module _ (w : ℕ) where
     inactive-other f 7 refl,
   )
 
-  pub active-level : isLevel w ≡ true → isActive w ≡ true
-  active-level l = tested (isActive w) (λ t. t) (λ f. absurd (not_same (isLevel w) l (level-inactive f)))
+  pub active-level : is_level w ≡ true → is_active w ≡ true
+  active-level l = tested (is_active w) (λ t. t) (λ f. absurd (not_same (is_level w) l (level-inactive f)))

@@ -6,12 +6,12 @@ use mathlib.Core.Bool.{Bool, true, false, not, ◌&&◌}
 use lib.Dec.{eqb}
 use borrow.Author.Tests.{eqb-true, eq-eqb, not-true}
 use Rattle.words.proofs.TestsLaws.{tested, and_first, and_second}
-use Rattle.source_mode.specs.Mode.{isActive, source_word}
+use Rattle.source_mode.specs.Mode.{is_active, source_word}
 use Rattle.source_mode.proofs.ModeLaws.{active-zero}
-use Rattle.source_target.specs.Target.{keptTarget}
+use Rattle.source_target.specs.Target.{kept_target}
 use Rattle.source.specs.declared.Source.{Source}
 use Rattle.source.specs.Pending.{inactive}
-use Rattle.source_rules.specs.SourceRules.{modeRange, targetRange, inactiveRule, levelRule, sourceSteady}
+use Rattle.source_rules.specs.SourceRules.{mode_range, target_range, inactive_rule, level_rule, source_steady}
 use Rattle.source_laws.proofs.ModeEffects.{range-zero, range-delegated, active-delegated}
 use Rattle.source_laws.proofs.ModeEffects.{level-inactive}
 
@@ -21,31 +21,31 @@ and-three a b c e =
 
 -- ---- taken apart
 
-module _ (c m wire : Bool) (s : Source) (e : sourceSteady c m wire s ≡ true) where
-  parts : ((modeRange c s && targetRange c m s) ≡ true) × (inactiveRule s ≡ true)
-      × (levelRule m wire s ≡ true)
-  unfolding sourceSteady
-  parts = and-three (modeRange c s && targetRange c m s) (inactiveRule s) (levelRule m wire s) e
+module _ (c m wire : Bool) (s : Source) (e : source_steady c m wire s ≡ true) where
+  parts : ((mode_range c s && target_range c m s) ≡ true) × (inactive_rule s ≡ true)
+      × (level_rule m wire s ≡ true)
+  unfolding source_steady
+  parts = and-three (mode_range c s && target_range c m s) (inactive_rule s) (level_rule m wire s) e
 
   pub steady-mode : s.mode ≡ source_word c true s.mode
-  unfolding modeRange
+  unfolding mode_range
   steady-mode =
       eqb-true s.mode (source_word c true s.mode)
-      (and_first (modeRange c s) (targetRange c m s) parts.0)
+      (and_first (mode_range c s) (target_range c m s) parts.0)
 
-  pub steady-target : isActive s.mode ≡ true → s.target ≡ keptTarget c m s.target
-  unfolding targetRange
+  pub steady-target : is_active s.mode ≡ true → s.target ≡ kept_target c m s.target
+  unfolding target_range
   steady-target a =
-      eqb-true s.target (keptTarget c m s.target)
-      (rw a at (and_second (modeRange c s) (targetRange c m s) parts.0))
+      eqb-true s.target (kept_target c m s.target)
+      (rw a at (and_second (mode_range c s) (target_range c m s) parts.0))
 
-  zeros : isActive s.mode ≡ false
+  zeros : is_active s.mode ≡ false
       → (eqb s.target 0 ≡ true) × (not s.pending ≡ true) × (not s.enabled ≡ true)
-  unfolding inactiveRule
+  unfolding inactive_rule
   zeros f = and-three (eqb s.target 0) (not s.pending) (not s.enabled) (rw f at parts.1)
 
   -- an inactive source is all zeros
-  pub steady-inactive : isActive s.mode ≡ false → s ≡ inactive s.mode
+  pub steady-inactive : is_active s.mode ≡ false → s ≡ inactive s.mode
   steady-inactive f = λ k. record {
     mode = s.mode;
     target = eqb-true s.target 0 (zeros f).0 k;
@@ -53,39 +53,39 @@ module _ (c m wire : Bool) (s : Source) (e : sourceSteady c m wire s ≡ true) w
     enabled = not-true s.enabled (zeros f).2 k;
   }
 
-  pub steady-level : levelRule m wire s ≡ true
+  pub steady-level : level_rule m wire s ≡ true
   steady-level = parts.2
 
 -- ---- put together
 
-pub steady-active : (c m wire : Bool) (s : Source) → isActive s.mode ≡ true
-    → s.mode ≡ source_word c true s.mode → s.target ≡ keptTarget c m s.target
-    → levelRule m wire s ≡ true → sourceSteady c m wire s ≡ true
-unfolding sourceSteady modeRange targetRange inactiveRule
+pub steady-active : (c m wire : Bool) (s : Source) → is_active s.mode ≡ true
+    → s.mode ≡ source_word c true s.mode → s.target ≡ kept_target c m s.target
+    → level_rule m wire s ≡ true → source_steady c m wire s ≡ true
+unfolding source_steady mode_range target_range inactive_rule
 steady-active c m wire s a r t l = rw (eq-eqb _ _ r, eq-eqb _ _ t, a) l
 
 -- an inactive word with zeros
-pub steady-zeros : (c m wire : Bool) (w : ℕ) → w ≡ source_word c true w → isActive w ≡ false
-    → sourceSteady c m wire (inactive w) ≡ true
-unfolding sourceSteady modeRange targetRange inactiveRule levelRule
+pub steady-zeros : (c m wire : Bool) (w : ℕ) → w ≡ source_word c true w → is_active w ≡ false
+    → source_steady c m wire (inactive w) ≡ true
+unfolding source_steady mode_range target_range inactive_rule level_rule
 steady-zeros c m wire w r f = simp (eq-eqb _ _ r, f, level-inactive w f)
 
 module _ (c m wire : Bool) where
   -- as a source starts
-  pub steady-start : sourceSteady c m wire (inactive 0) ≡ true
+  pub steady-start : source_steady c m wire (inactive 0) ≡ true
   steady-start = steady-zeros c m wire 0 (range-zero c) (active-zero 0 refl)
 
-  pub steady-delegated : c ≡ false → sourceSteady c m wire (inactive 1024) ≡ true
+  pub steady-delegated : c ≡ false → source_steady c m wire (inactive 1024) ≡ true
   steady-delegated e = steady-zeros c m wire 1024 (range-delegated c e) active-delegated
 
-module _ (c m wire : Bool) (s : Source) (e : sourceSteady c m wire s ≡ true) (m' wire' : Bool) where
+module _ (c m wire : Bool) (s : Source) (e : source_steady c m wire s ≡ true) (m' wire' : Bool) where
   -- an inactive source that is steady is so whatever the delivery mode and the wire are
-  pub steady-other : isActive s.mode ≡ false → sourceSteady c m' wire' s ≡ true
+  pub steady-other : is_active s.mode ≡ false → source_steady c m' wire' s ≡ true
   steady-other f =
       rw (steady-inactive c m wire s e f) (steady-zeros c m' wire' s.mode (steady-mode c m wire s e) f)
 
   -- what becomes of a source is steady if it is so of an active one, and an inactive one stays
-  pub steady-cases : (t : Source) → (isActive s.mode ≡ true → sourceSteady c m' wire' t ≡ true)
-      → (isActive s.mode ≡ false → t ≡ s) → sourceSteady c m' wire' t ≡ true
+  pub steady-cases : (t : Source) → (is_active s.mode ≡ true → source_steady c m' wire' t ≡ true)
+      → (is_active s.mode ≡ false → t ≡ s) → source_steady c m' wire' t ≡ true
   steady-cases t active other =
-      tested (isActive s.mode) active (λ f. rw (other f) (steady-other f))
+      tested (is_active s.mode) active (λ f. rw (other f) (steady-other f))

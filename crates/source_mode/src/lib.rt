@@ -1,6 +1,6 @@
 // What a sourcecfg word says of a source: whether it is active, how its wire is read, what a write keeps.
 ghost use Rattle.std.specs.Prelude.{◌≡◌};
-ghost use Rattle.source_mode.specs.Mode.{isActive, isLevel, isRectified, keptMode, source_word};
+ghost use Rattle.source_mode.specs.Mode.{is_active, is_level, is_rectified, kept_mode, source_word};
 
 // Bit D of a sourcecfg word, and what is stored for a delegated source.
 const DELEGATED_BIT: u32 = 10;
@@ -17,7 +17,7 @@ pub const LEVEL1: u32 = 6;
 pub const LEVEL0: u32 = 7;
 
 pub fn active(mode: u32) -> bool
-    ensures { result ≡ isActive mode }
+    ensures { result ≡ is_active mode }
 {
     if mode == 0 {
         return false;
@@ -26,7 +26,7 @@ pub fn active(mode: u32) -> bool
 }
 
 pub fn level(mode: u32) -> bool
-    ensures { result ≡ isLevel mode }
+    ensures { result ≡ is_level mode }
 {
     if mode == LEVEL1 {
         return true;
@@ -36,7 +36,7 @@ pub fn level(mode: u32) -> bool
 
 // Edge1 and Level1 are high with the wire, Edge0 and Level0 while it is low, and no other mode ever is.
 pub fn rectified(mode: u32, wire: bool) -> bool
-    ensures { result ≡ isRectified mode wire }
+    ensures { result ≡ is_rectified mode wire }
 {
     if mode == EDGE1 {
         return wire;
@@ -54,7 +54,7 @@ pub fn rectified(mode: u32, wire: bool) -> bool
 }
 
 pub fn kept_mode(value: u32) -> u32
-    ensures { result ≡ keptMode value }
+    ensures { result ≡ kept_mode value }
 {
     let mode = words::field32(value, 0, 3);
     if mode == 2 {

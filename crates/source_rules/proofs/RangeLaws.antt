@@ -11,34 +11,34 @@ use native.Mathlib.Nat.{mod-eq_of_lt, zero-add}
 use lib.Pow.{mod-pow-add}
 use borrow.Author.Tests.{eq-eqb, ne_eqb, eqb-true, eqb-false}
 use Rattle.words.specs.Parts.{field_of, packed}
-use Rattle.words.proofs.PartsLaws.{fieldOf-is, packed-is}
+use Rattle.words.proofs.PartsLaws.{field_of-is, packed-is}
 use Rattle.words.proofs.TestsLaws.{tested, same_truth, and_both}
 use Rattle.words_masks.proofs.MasksLaws.{or-none}
-use Rattle.source_mode.specs.Mode.{keptMode}
+use Rattle.source_mode.specs.Mode.{kept_mode}
 use Rattle.source_mode.proofs.ModeLaws.{kept-lt, kept_reserved, kept-other}
-use Rattle.source_target.specs.Target.{hartOf, guestOf, number_of, keptTarget}
-use Rattle.source_target.proofs.TargetLaws.{hartOf-is, guestOf-is, numberOf-is}
+use Rattle.source_target.specs.Target.{hart_of, guest_of, number_of, kept_target}
+use Rattle.source_target.proofs.TargetLaws.{hart_of-is, guest_of-is, number_of-is}
 use Rattle.source_target.proofs.TargetLaws.{kept-first, kept-priority, kept-child, kept-machine}
 
 -- ---- a mode
 
 module _ (m : ℕ) where
   low : field_of m 0 3 ≡ m % 8
-  low = fieldOf-is m 0 3 ∙ omega arith
+  low = field_of-is m 0 3 ∙ omega arith
 
-  pub mode-large : 7 < m → eqb m (keptMode m) ≡ false
-  mode-large h = ne_eqb m (keptMode m) (λ e. omega (arith, kept-lt m))
+  pub mode-large : 7 < m → eqb m (kept_mode m) ≡ false
+  mode-large h = ne_eqb m (kept_mode m) (λ e. omega (arith, kept-lt m))
 
-  pub mode-reserved : (m ≡ 2) ⊎ (m ≡ 3) → eqb m (keptMode m) ≡ false
+  pub mode-reserved : (m ≡ 2) ⊎ (m ≡ 3) → eqb m (kept_mode m) ≡ false
   mode-reserved h =
       let field : (field_of m 0 3 ≡ 2) ⊎ (field_of m 0 3 ≡ 3) =
       ⊎_elim (λ e. inl (omega (arith, low))) (λ e. inr (omega (arith, low))) h in
-      ne_eqb m (keptMode m) (λ e. ⊎_elim (λ a. omega (arith, kept_reserved m field))
+      ne_eqb m (kept_mode m) (λ e. ⊎_elim (λ a. omega (arith, kept_reserved m field))
       (λ a. omega (arith, kept_reserved m field)) h)
 
-  pub mode-legal : m ≤ 7 → m ≢ 2 → m ≢ 3 → eqb m (keptMode m) ≡ true
+  pub mode-legal : m ≤ 7 → m ≢ 2 → m ≢ 3 → eqb m (kept_mode m) ≡ true
   mode-legal h a b =
-      eq-eqb m (keptMode m)
+      eq-eqb m (kept_mode m)
       (omega (arith, low, kept-other m (λ e. a (omega (arith, low))) (λ e. b (omega (arith, low)))))
 
 -- ---- a target
@@ -102,7 +102,7 @@ stray t g =
     bit_or (bit_or (bit_and t 4293918720) (bit_and t 245760)) (bit_or (bit_and t 3840) (bit_and t g))
 
 module _ (t : ℕ) (h : t < 2 ^ 32) where
-  fields : t ≡ sum (above t) (hartOf t) (between t) (guestOf t) (below t) (number_of t)
+  fields : t ≡ sum (above t) (hart_of t) (between t) (guest_of t) (below t) (number_of t)
   unfolding sum above between below
   fields =
       sym (mod-eq_of_lt h) ∙ mod-pow-add t 12 20
@@ -110,48 +110,48 @@ module _ (t : ℕ) (h : t < 2 ^ 32) where
       ∙ ap (λ (x : ℕ). t / 2 ^ 18 % 2 ^ 2 * 2 ^ 18 + x) (mod-pow-add t 4 14
       ∙ ap (λ (x : ℕ). between t * 2 ^ 14 + x) (mod-pow-add t 2 12
       ∙ ap (λ (x : ℕ). t / 2 ^ 12 % 2 ^ 2 * 2 ^ 12 + x) (mod-pow-add t 4 8))))
-      ∙ (λ k. above t * 2 ^ 20 + (sym (hartOf-is t) k * 2 ^ 18 + (between t * 2 ^ 14
-      + (sym (guestOf-is t) k * 2 ^ 12 + (below t * 2 ^ 8 + sym (numberOf-is t) k)))))
+      ∙ (λ k. above t * 2 ^ 20 + (sym (hart_of-is t) k * 2 ^ 18 + (between t * 2 ^ 14
+      + (sym (guest_of-is t) k * 2 ^ 12 + (below t * 2 ^ 8 + sym (number_of-is t) k)))))
 
   -- what the code gathers, as the test of the kept word
-  gathers : (g x y : ℕ) → bit_and t g ≡ x → x + y ≡ guestOf t * 2 ^ 12
-      → eqb (stray t g) 0 ≡ eqb t (hartOf t * 2 ^ 18 + (y + number_of t))
+  gathers : (g x y : ℕ) → bit_and t g ≡ x → x + y ≡ guest_of t * 2 ^ 12
+      → eqb (stray t g) 0 ≡ eqb t (hart_of t * 2 ^ 18 + (y + number_of t))
   unfolding above between below
   gathers g x y e q =
       (λ k. eqb (bit_or (bit_or (and_high t 12 20 k) (and_high t 4 14 k)) (bit_or (and_high t 4 8 k) (e k))) 0)
-      ∙ rest-stray (above t) (hartOf t) (between t) (guestOf t) (below t) (number_of t) x y q
-      ∙ ap (λ (z : ℕ). eqb z (hartOf t * 2 ^ 18 + (y + number_of t))) (sym fields)
+      ∙ rest-stray (above t) (hart_of t) (between t) (guest_of t) (below t) (number_of t) x y q
+      ∙ ap (λ (z : ℕ). eqb z (hart_of t * 2 ^ 18 + (y + number_of t))) (sym fields)
 
-  stray-machine : eqb (stray t 12288) 0 ≡ eqb t (packed (hartOf t) 18 (number_of t))
+  stray-machine : eqb (stray t 12288) 0 ≡ eqb t (packed (hart_of t) 18 (number_of t))
   stray-machine =
-      gathers 12288 (guestOf t * 2 ^ 12) 0 (and_high t 2 12 ∙ ap (λ (x : ℕ). x * 2 ^ 12) (sym (guestOf-is t)))
+      gathers 12288 (guest_of t * 2 ^ 12) 0 (and_high t 2 12 ∙ ap (λ (x : ℕ). x * 2 ^ 12) (sym (guest_of-is t)))
       (omega arith)
-      ∙ ap (eqb t) (ap (λ (x : ℕ). hartOf t * 2 ^ 18 + x) (zero-add (number_of t))
-      ∙ sym (packed-is (hartOf t) 18 (number_of t)))
+      ∙ ap (eqb t) (ap (λ (x : ℕ). hart_of t * 2 ^ 18 + x) (zero-add (number_of t))
+      ∙ sym (packed-is (hart_of t) 18 (number_of t)))
 
-  stray-child : eqb (stray t 0) 0 ≡ eqb t (packed (hartOf t) 18 (packed (guestOf t) 12 (number_of t)))
+  stray-child : eqb (stray t 0) 0 ≡ eqb t (packed (hart_of t) 18 (packed (guest_of t) 12 (number_of t)))
   stray-child =
-      gathers 0 0 (guestOf t * 2 ^ 12) (and_zero_r t) (omega arith)
-      ∙ ap (eqb t) (ap (λ (x : ℕ). hartOf t * 2 ^ 18 + x) (sym (packed-is (guestOf t) 12 (number_of t)))
-      ∙ sym (packed-is (hartOf t) 18 (packed (guestOf t) 12 (number_of t))))
+      gathers 0 0 (guest_of t * 2 ^ 12) (and_zero_r t) (omega arith)
+      ∙ ap (eqb t) (ap (λ (x : ℕ). hart_of t * 2 ^ 18 + x) (sym (packed-is (guest_of t) 12 (number_of t)))
+      ∙ sym (packed-is (hart_of t) 18 (packed (guest_of t) 12 (number_of t))))
 
-  priority-one : number_of t ≡ 0 → t ≡ packed (hartOf t) 18 1 → ⊥
-  priority-one z e = omega (arith, numberOf-is t, packed-is (hartOf t) 18 1)
+  priority-one : number_of t ≡ 0 → t ≡ packed (hart_of t) 18 1 → ⊥
+  priority-one z e = omega (arith, number_of-is t, packed-is (hart_of t) 18 1)
 
   -- where a domain delivers directly, a priority of 0 is not kept
   direct : (c : Bool)
-      → (eqb t (packed (hartOf t) 18 (number_of t)) && not (eqb (number_of t) 0)) ≡ eqb t (keptTarget c false t)
+      → (eqb t (packed (hart_of t) 18 (number_of t)) && not (eqb (number_of t) 0)) ≡ eqb t (kept_target c false t)
   direct c =
       tested (eqb (number_of t) 0)
       (λ e. let zero = eqb-true (number_of t) 0 e in
-      rw (e, ne_eqb t (keptTarget c false t) (λ q. priority-one zero (q ∙ kept-first c false t refl zero)))
-      (and-false (eqb t (packed (hartOf t) 18 (number_of t)))))
+      rw (e, ne_eqb t (kept_target c false t) (λ q. priority-one zero (q ∙ kept-first c false t refl zero)))
+      (and-false (eqb t (packed (hart_of t) 18 (number_of t)))))
       (λ f. rw (f, kept-priority c false t refl (eqb-false (number_of t) 0 f))
-      (and-true (eqb t (packed (hartOf t) 18 (number_of t)))))
+      (and-true (eqb t (packed (hart_of t) 18 (number_of t)))))
 
   pub target-legal : (c m : Bool)
       → (eqb (stray t (cond (c && m) 0 12288)) 0 && (m || not (eqb (number_of t) 0)))
-      ≡ eqb t (keptTarget c m t)
+      ≡ eqb t (kept_target c m t)
   target-legal true true =
       and-true (eqb (stray t 0) 0) ∙ stray-child ∙ ap (eqb t) (sym (kept-child true true t refl refl))
   target-legal false true =

@@ -1,8 +1,8 @@
 // The words of an active source against their ranges. What a test gives is 0 exactly if the word is in range,
 // so that a pass over the sources gathers all of them in one word.
 ghost use Rattle.std.specs.Prelude.{◌≡◌, cond, not, ◌&&◌, ◌||◌, eqb};
-ghost use Rattle.source_mode.specs.Mode.{keptMode};
-ghost use Rattle.source_target.specs.Target.{number_of, keptTarget};
+ghost use Rattle.source_mode.specs.Mode.{kept_mode};
+ghost use Rattle.source_target.specs.Target.{number_of, kept_target};
 
 use source_mode::LEVEL0;
 
@@ -17,7 +17,7 @@ const GUEST: u32 = 0x3000;
 
 // Legal modes are 0, 1 and 4 to 7.
 pub fn mode_fault(mode: u32) -> u32
-    ensures { eqb result 0 ≡ eqb mode (keptMode mode) }
+    ensures { eqb result 0 ≡ eqb mode (kept_mode mode) }
 {
     if LEVEL0 < mode {
         return 1;
@@ -54,7 +54,7 @@ fn barred_guest(child: bool, messages: bool) -> u32
 }
 
 pub fn target_fault(child: bool, messages: bool, target: u32) -> u32
-    ensures { eqb result 0 ≡ eqb target (keptTarget child messages target) }
+    ensures { eqb result 0 ≡ eqb target (kept_target child messages target) }
 {
     let barred = barred_guest(child, messages);
     let low = (target & BELOW_GUEST) | (target & barred);

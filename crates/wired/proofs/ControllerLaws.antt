@@ -8,21 +8,21 @@ use mathlib.Core.Logic.{◌≢◌, inl, inr}
 use native.Mathlib.Omega.{arith}
 use lib.ListN.{length}
 use Rattle.domain.specs.Domain.{Domain}
-use Rattle.wired_state.specs.Wires.{Wired, domainIn}
-use Rattle.wired_registers.specs.Wired.{writtenIn}
+use Rattle.wired_state.specs.Wires.{Wired, domain_in}
+use Rattle.wired_registers.specs.Wired.{written_in}
 use Rattle.wired_state.proofs.WiresLaws.{wired-path}
 use Rattle.wired_state.proofs.PassLaws.{flushed-both}
-use Rattle.domain_sending.specs.Sending.{Sent, sent, sentNothing, logged}
+use Rattle.domain_sending.specs.Sending.{Sent, sent, sent_nothing, logged}
 use Rattle.domain_sending.proofs.SendingLaws.{logged_none}
-use Rattle.domain_genmsi.specs.Genmsi.{genmsiSent}
+use Rattle.domain_genmsi.specs.Genmsi.{genmsi_sent}
 use Rattle.domain_region.specs.declared.Word.{Word}
 use Rattle.domain_region.specs.declared.Word.TheVariants.{Genmsi}
 use Rattle.domain_region.specs.declared.role.Role.{Role}
 use Rattle.domain_region.specs.declared.role.Role.TheVariants.{Claims, Configures, Generates, Plain}
-use Rattle.domain_region.specs.Role.{roleOf}
+use Rattle.domain_region.specs.Role.{role_of}
 use Rattle.domain_region.proofs.RoleLaws.{generates-only}
-use Rattle.wired.specs.Controller.{Out, flushed, OneSends, Leaves, genmsiAs, genmsiBy}
-use Rattle.wired.specs.Controller.{writeCall}
+use Rattle.wired.specs.Controller.{Out, flushed, OneSends, Leaves, genmsi_as, genmsi_by}
+use Rattle.wired.specs.Controller.{write_call}
 
 -- what a call leaves and answers, from what it is to send
 abbrev pub Answers : Domain → List ℕ → List ℕ → ℕ → Sent → Type 0
@@ -44,7 +44,7 @@ no_length (x ∷ l) e = absurd (omega arith)
 module _ (w : Wired) where
   -- the second domain has nothing to send where the first has sent
   second-silent : OneSends w → (n : ℕ) → n ≢ 0 → n ≡ length (sent false w.machine).messages
-      → sent true w.child ≡ sentNothing w.child
+      → sent true w.child ≡ sent_nothing w.child
   second-silent (inl none) n h e = absurd (h (e ∙ ap length none))
   second-silent (inr none) n h e = none
 
@@ -81,70 +81,70 @@ module _ (w : Wired) where
 
 module _ (c : Bool) (d : Domain) (r : Word) (v : ℕ) where
   abbrev Logs : List ℕ → List ℕ → ℕ → Type 0
-  Logs l l' n = (l' ≡ logged l (genmsiBy c d r v)) × (n ≡ length (genmsiBy c d r v))
+  Logs l l' n = (l' ≡ logged l (genmsi_by c d r v)) × (n ≡ length (genmsi_by c d r v))
 
-  genmsiBy-generates : roleOf r ≡ Generates → genmsiBy c d r v ≡ genmsiSent c d v
-  unfolding genmsiBy genmsiAs
-  genmsiBy-generates e = ap (genmsiAs c d v) e
+  genmsi_by-generates : role_of r ≡ Generates → genmsi_by c d r v ≡ genmsi_sent c d v
+  unfolding genmsi_by genmsi_as
+  genmsi_by-generates e = ap (genmsi_as c d v) e
 
-  pub genmsi-else : roleOf r ≢ Generates → genmsiBy c d r v ≡ []
-  unfolding genmsiBy genmsiAs
-  genmsi-else n = at (roleOf r) n
+  pub genmsi-else : role_of r ≢ Generates → genmsi_by c d r v ≡ []
+  unfolding genmsi_by genmsi_as
+  genmsi-else n = at (role_of r) n
     where
-      at : (x : Role) → x ≢ Generates → genmsiAs c d v x ≡ []
+      at : (x : Role) → x ≢ Generates → genmsi_as c d v x ≡ []
       at (Claims h) n = refl
       at (Configures i) n = refl
       at Generates n = absurd (n refl)
       at Plain n = refl
 
   -- either case, with what tells it
-  pub genmsi-cases : (P : List ℕ → Type 0) → (roleOf r ≡ Generates → P (genmsiSent c d v))
-      → P [] → P (genmsiBy c d r v)
-  unfolding genmsiBy genmsiAs
-  genmsi-cases P sends none = at (roleOf r) refl
+  pub genmsi-cases : (P : List ℕ → Type 0) → (role_of r ≡ Generates → P (genmsi_sent c d v))
+      → P [] → P (genmsi_by c d r v)
+  unfolding genmsi_by genmsi_as
+  genmsi-cases P sends none = at (role_of r) refl
     where
-      at : (x : Role) → roleOf r ≡ x → P (genmsiAs c d v x)
+      at : (x : Role) → role_of r ≡ x → P (genmsi_as c d v x)
       at (Claims h) e = none
       at (Configures i) e = none
       at Generates e = sends e
       at Plain e = none
 
-  pub answered-else : roleOf r ≢ Generates → (l : List ℕ) → Logs l l 0
+  pub answered-else : role_of r ≢ Generates → (l : List ℕ) → Logs l l 0
   answered-else e l =
       let none = genmsi-else e in (sym (logged_none l) ∙ ap (logged l) (sym none), ap length (sym none))
 
-  pub answered-genmsi : roleOf r ≡ Generates → (b : Bool) → c ≡ b → (e : Domain) → e ≡ d
+  pub answered-genmsi : role_of r ≡ Generates → (b : Bool) → c ≡ b → (e : Domain) → e ≡ d
       → (l l' : List ℕ) (n : ℕ)
-      → (l' ≡ logged l (genmsiSent b e v)) × (n ≡ length (genmsiSent b e v)) → Logs l l' n
+      → (l' ≡ logged l (genmsi_sent b e v)) × (n ≡ length (genmsi_sent b e v)) → Logs l l' n
   answered-genmsi g b p e q l l' n (x, y) =
-      let same : genmsiSent b e v ≡ genmsiBy c d r v =
-      ap₂ (λ (x : Bool) (y : Domain). genmsiSent x y v) (sym p) q ∙ sym (genmsiBy-generates g) in
+      let same : genmsi_sent b e v ≡ genmsi_by c d r v =
+      ap₂ (λ (x : Bool) (y : Domain). genmsi_sent x y v) (sym p) q ∙ sym (genmsi_by-generates g) in
       (x ∙ ap (logged l) same, y ∙ ap length same)
 
 -- ---- a change and the pass after it
 
 module _ (w : Wired) (c : Bool) (r : Word) (v : ℕ) where
   abbrev own : List ℕ
-  own = genmsiBy c (domainIn w c) r v
+  own = genmsi_by c (domain_in w c) r v
 
   -- a write that sent at once, with nothing to be sent after it
-  pub write_alone : (w' : Wired) → w' ≡ writtenIn w c r v
-      → flushed (writtenIn w c r v) ≡ record { wired = writtenIn w c r v; messages = [] }
+  pub write_alone : (w' : Wired) → w' ≡ written_in w c r v
+      → flushed (written_in w c r v) ≡ record { wired = written_in w c r v; messages = [] }
       → (l l' : List ℕ) (n : ℕ) → (l' ≡ logged l own) × (n ≡ length own)
-      → Leaves (writeCall w c r v) w' l l' n
-  unfolding writeCall
+      → Leaves (write_call w c r v) w' l l' n
+  unfolding write_call
   write_alone w' e silent l l' n (x, y) =
-      let alone : (own ++ (flushed (writtenIn w c r v)).messages) ≡ own =
+      let alone : (own ++ (flushed (written_in w c r v)).messages) ≡ own =
       ap (λ (o : Out). own ++ o.messages) silent ∙ append-nil own in
       (e ∙ sym (ap (λ (o : Out). o.wired) silent), x ∙ ap (logged l) (sym alone), y ∙ ap length (sym alone))
 
   -- a write that sent nothing at once, and the pass after it
   pub write-passed : (w' : Wired) (l k l' : List ℕ) (m n : ℕ) → (k ≡ logged l own) × (m ≡ length own) → m ≡ 0
-      → Leaves (flushed (writtenIn w c r v)) w' k l' n → Leaves (writeCall w c r v) w' l l' n
-  unfolding writeCall
+      → Leaves (flushed (written_in w c r v)) w' k l' n → Leaves (write_call w c r v) w' l l' n
+  unfolding write_call
   write-passed w' l k l' m n (x, y) z (a, b, d) =
       let none = no_length own (sym y ∙ z) in
-      let after = (flushed (writtenIn w c r v)).messages in
+      let after = (flushed (written_in w c r v)).messages in
       let alone : (own ++ after) ≡ after = ap (λ (u : List ℕ). u ++ after) none in
       let same : k ≡ l = x ∙ ap (logged l) none ∙ logged_none l in
       (a, b ∙ ap (λ (u : List ℕ). logged u after) same ∙ ap (logged l) (sym alone), d ∙ ap length (sym alone))
@@ -152,5 +152,5 @@ module _ (w : Wired) (c : Bool) (r : Word) (v : ℕ) where
   -- what was sent at once was sent by genmsi
   pub own-genmsi : (n : ℕ) → n ≡ length own → n ≢ 0 → r ≡ Genmsi
   own-genmsi n e h =
-      genmsi-cases c (domainIn w c) r v (λ (l : List ℕ). n ≡ length l → r ≡ Genmsi)
+      genmsi-cases c (domain_in w c) r v (λ (l : List ℕ). n ≡ length l → r ≡ Genmsi)
       (λ t _. generates-only r t) (λ z. absurd (h z)) e

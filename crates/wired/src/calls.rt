@@ -1,12 +1,12 @@
 // A wire set, a register read or written, with what is then sent. Messages come first in `log`.
 ghost use Rattle.std.specs.Prelude.{◌≡◌, true, ◌≤◌, ◌<◌, length};
-ghost use Rattle.sizes.specs.Sizes.{slotCount, wiredSize, logSize};
+ghost use Rattle.sizes.specs.Sizes.{slot_count, wired_size, log_size};
 ghost use Rattle.domain_region.specs.Region.{Within};
-ghost use Rattle.wired_state.specs.Wires.{wiredOf, domainIn};
-ghost use Rattle.wired_registers.specs.Wired.{readIn};
-ghost use Rattle.wired_rules.specs.Rules.{wiredSound};
+ghost use Rattle.wired_state.specs.Wires.{wired_of, domain_in};
+ghost use Rattle.wired_registers.specs.Wired.{read_in};
+ghost use Rattle.wired_rules.specs.Rules.{wired_sound};
 ghost use Rattle.domain_sending.specs.Sending.{logged};
-ghost use Rattle.wired.specs.Controller.{genmsiBy, wireCall, readCall, writeCall};
+ghost use Rattle.wired.specs.Controller.{genmsi_by, wire_call, read_call, write_call};
 ghost use Rattle.wired.specs.Controller.{Leaves};
 
 use super::pass::flush;
@@ -16,9 +16,9 @@ use sizes::{CHILD_PLACE, MACHINE_PLACE, WIRED_SIZE};
 
 // Answers the number of messages.
 pub fn set_wire(w: &mut [u32], log: &mut [u32], i: usize, level: bool) -> usize
-    requires { (length w.old ≡ wiredSize) × (length log.old ≡ logSize) × (1 ≤ i) × (i < slotCount)
-        × (wiredSound (wiredOf w.old) ≡ true) }
-    ensures { Leaves (wireCall (wiredOf w.old) i level) (wiredOf w.new)
+    requires { (length w.old ≡ wired_size) × (length log.old ≡ log_size) × (1 ≤ i) × (i < slot_count)
+        × (wired_sound (wired_of w.old) ≡ true) }
+    ensures { Leaves (wire_call (wired_of w.old) i level) (wired_of w.new)
         log.old log.new result }
 {
     wired_state::set_wire(w, i, level);
@@ -27,19 +27,19 @@ pub fn set_wire(w: &mut [u32], log: &mut [u32], i: usize, level: bool) -> usize
 
 // Nothing is sent: a claim can only clear a pending bit.
 pub fn read(w: &mut [u32], child: bool, word: Word) -> u32
-    requires { (length w.old ≡ wiredSize) × Within word × (wiredSound (wiredOf w.old) ≡ true) }
-    ensures { (result ≡ readIn (wiredOf w.old) child word)
-        × (wiredOf w.new ≡ (readCall (wiredOf w.old) child word).wired) }
+    requires { (length w.old ≡ wired_size) × Within word × (wired_sound (wired_of w.old) ≡ true) }
+    ensures { (result ≡ read_in (wired_of w.old) child word)
+        × (wired_of w.new ≡ (read_call (wired_of w.old) child word).wired) }
 {
     wired_registers::read(w, child, word)
 }
 
 // The message of a write to genmsi, which is sent at once.
 fn generate(w: &[u32], log: &mut [u32], child: bool, word: Word, value: u32) -> usize
-    requires { (length w.now ≡ wiredSize) × (length log.old ≡ logSize) }
+    requires { (length w.now ≡ wired_size) × (length log.old ≡ log_size) }
     ensures { (log.new ≡ logged log.old
-        (genmsiBy child (domainIn (wiredOf w.now) child) word value))
-        × (result ≡ length (genmsiBy child (domainIn (wiredOf w.now) child) word value)) }
+        (genmsi_by child (domain_in (wired_of w.now) child) word value))
+        × (result ≡ length (genmsi_by child (domain_in (wired_of w.now) child) word value)) }
 {
     let Role::Generates = role_of(word) else {
         return 0;
@@ -52,9 +52,9 @@ fn generate(w: &[u32], log: &mut [u32], child: bool, word: Word, value: u32) -> 
 
 // Answers the number of messages. That of a genmsi is the only one of its call.
 pub fn write(w: &mut [u32], log: &mut [u32], child: bool, word: Word, value: u32) -> usize
-    requires { (length w.old ≡ wiredSize) × (length log.old ≡ logSize) × Within word
-        × (wiredSound (wiredOf w.old) ≡ true) }
-    ensures { Leaves (writeCall (wiredOf w.old) child word value) (wiredOf w.new)
+    requires { (length w.old ≡ wired_size) × (length log.old ≡ log_size) × Within word
+        × (wired_sound (wired_of w.old) ≡ true) }
+    ensures { Leaves (write_call (wired_of w.old) child word value) (wired_of w.new)
         log.old log.new result }
 {
     let n = generate(w, log, child, word, value);

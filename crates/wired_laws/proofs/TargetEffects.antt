@@ -7,61 +7,61 @@ use mathlib.Core.List.{[]}
 use mathlib.Core.Logic.{◌≢◌}
 use Rattle.source.specs.Pending.{retargeted}
 use Rattle.domain_region.specs.declared.Word.TheVariants.{Target}
-use Rattle.domain.specs.Domain.{Domain, byMessages}
-use Rattle.domain.specs.Slot.{sourceAt}
+use Rattle.domain.specs.Domain.{Domain, by_messages}
+use Rattle.domain.specs.Slot.{source_at}
 use Rattle.domain_laws.specs.Shape.{DomainShaped}
-use Rattle.domain_writes.specs.Writes.{targetWritten}
-use Rattle.domain_writes_laws.proofs.WritesEffects.{sourceAt-targetWritten-same, sourceAt-targetWritten-other}
-use Rattle.domain_registers.specs.Write.{registerWritten}
-use Rattle.wired_state.specs.Wires.{Wired, domainIn, withDomain}
-use Rattle.wired_registers.specs.Wired.{writtenAs, writtenIn}
+use Rattle.domain_writes.specs.Writes.{target_written}
+use Rattle.domain_writes_laws.proofs.WritesEffects.{source_at-target_written-same, source_at-target_written-other}
+use Rattle.domain_registers.specs.Write.{register_written}
+use Rattle.wired_state.specs.Wires.{Wired, domain_in, with_domain}
+use Rattle.wired_registers.specs.Wired.{written_as, written_in}
 use Rattle.wired_rules_laws.specs.Steady.{WiredSteady, WiredQuiet}
-use Rattle.wired_rules_laws.proofs.WiredQuietEffects.{quiet-target, other-withDomain}
-use Rattle.wired.specs.Controller.{genmsiAs, genmsiBy, writeCall}
+use Rattle.wired_rules_laws.proofs.WiredQuietEffects.{quiet-target, other-with_domain}
+use Rattle.wired.specs.Controller.{genmsi_as, genmsi_by, write_call}
 use Rattle.wired.proofs.CallLaws.{flushed-quiet}
 
 pub target-call : (w : Wired) → WiredSteady w → WiredQuiet w → (c : Bool) (i : ℕ) → 1 ≤ i → i < 64 → (v : ℕ)
-    → writeCall w c (Target i) v ≡ record { wired = writtenIn w c (Target i) v; messages = [] }
-unfolding writeCall genmsiBy genmsiAs
-target-call w s q c i l h v = rw (flushed-quiet (writtenIn w c (Target i) v) (quiet-target w q s c i l h v))
+    → write_call w c (Target i) v ≡ record { wired = written_in w c (Target i) v; messages = [] }
+unfolding write_call genmsi_by genmsi_as
+target-call w s q c i l h v = rw (flushed-quiet (written_in w c (Target i) v) (quiet-target w q s c i l h v))
 
 -- ---- what it leaves
 
-own-withDomain : (w : Wired) (c : Bool) (d : Domain) → domainIn (withDomain w c d) c ≡ d
-unfolding domainIn withDomain
-own-withDomain w true d = refl
-own-withDomain w false d = refl
+own-with_domain : (w : Wired) (c : Bool) (d : Domain) → domain_in (with_domain w c d) c ≡ d
+unfolding domain_in with_domain
+own-with_domain w true d = refl
+own-with_domain w false d = refl
 
-wires-withDomain : (w : Wired) (c : Bool) (d : Domain) → (withDomain w c d).wires ≡ w.wires
-unfolding withDomain
-wires-withDomain w true d = refl
-wires-withDomain w false d = refl
+wires-with_domain : (w : Wired) (c : Bool) (d : Domain) → (with_domain w c d).wires ≡ w.wires
+unfolding with_domain
+wires-with_domain w true d = refl
+wires-with_domain w false d = refl
 
 module _ (w : Wired) (c : Bool) (i v : ℕ) where
   abbrev target-after : Domain
-  target-after = targetWritten c (domainIn w c) i v
+  target-after = target_written c (domain_in w c) i v
 
-  target-part : writtenIn w c (Target i) v ≡ withDomain w c target-after
-  unfolding writtenIn writtenAs registerWritten
+  target-part : written_in w c (Target i) v ≡ with_domain w c target-after
+  unfolding written_in written_as register_written
   target-part = refl
 
-  target-domain : domainIn (writtenIn w c (Target i) v) c ≡ target-after
-  target-domain = ap (λ (x : Wired). domainIn x c) target-part ∙ own-withDomain w c target-after
+  target-domain : domain_in (written_in w c (Target i) v) c ≡ target-after
+  target-domain = ap (λ (x : Wired). domain_in x c) target-part ∙ own-with_domain w c target-after
 
-  pub target-wires : (writtenIn w c (Target i) v).wires ≡ w.wires
-  target-wires = ap (λ (x : Wired). x.wires) target-part ∙ wires-withDomain w c target-after
+  pub target-wires : (written_in w c (Target i) v).wires ≡ w.wires
+  target-wires = ap (λ (x : Wired). x.wires) target-part ∙ wires-with_domain w c target-after
 
-  pub target-not : domainIn (writtenIn w c (Target i) v) (not c) ≡ domainIn w (not c)
-  target-not = ap (λ (x : Wired). domainIn x (not c)) target-part ∙ other-withDomain w c target-after
+  pub target-not : domain_in (written_in w c (Target i) v) (not c) ≡ domain_in w (not c)
+  target-not = ap (λ (x : Wired). domain_in x (not c)) target-part ∙ other-with_domain w c target-after
 
-  pub target-own : DomainShaped (domainIn w c) → i < 64
-      → sourceAt (domainIn (writtenIn w c (Target i) v) c) i
-      ≡ retargeted (sourceAt (domainIn w c) i) c (byMessages (domainIn w c)) v
+  pub target-own : DomainShaped (domain_in w c) → i < 64
+      → source_at (domain_in (written_in w c (Target i) v) c) i
+      ≡ retargeted (source_at (domain_in w c) i) c (by_messages (domain_in w c)) v
   target-own shaped h =
-      ap (λ (d : Domain). sourceAt d i) target-domain
-      ∙ sourceAt-targetWritten-same c (domainIn w c) i v shaped h
+      ap (λ (d : Domain). source_at d i) target-domain
+      ∙ source_at-target_written-same c (domain_in w c) i v shaped h
 
   pub target-other : (j : ℕ) → j ≢ i
-      → sourceAt (domainIn (writtenIn w c (Target i) v) c) j ≡ sourceAt (domainIn w c) j
+      → source_at (domain_in (written_in w c (Target i) v) c) j ≡ source_at (domain_in w c) j
   target-other j n =
-      ap (λ (d : Domain). sourceAt d j) target-domain ∙ sourceAt-targetWritten-other c (domainIn w c) i v j n
+      ap (λ (d : Domain). source_at d j) target-domain ∙ source_at-target_written-other c (domain_in w c) i v j n

@@ -5,22 +5,22 @@ use mathlib.Core.Bool.{Bool, true, false, not, ◌&&◌, ◌||◌}
 use mathlib.Core.List.{List}
 use native.Mathlib.Omega.{arith}
 use lib.ListN.{get_or}
-use Rattle.words.specs.Bits.{hasBit}
+use Rattle.words.specs.Bits.{has_bit}
 use Rattle.words.specs.Parts.{joined}
 use Rattle.words.specs.Sets.{member}
 use Rattle.words.specs.Every.{every}
 use Rattle.words.proofs.SetsLaws.{member-word}
 use Rattle.words.proofs.EveryLaws.{and_assoc, every-both, every-same, every_first}
-use Rattle.words_masks.proofs.MasksLaws.{hasBit-set}
-use Rattle.source_rules.specs.SourceParts.{occupied, straightWord, invertedWord}
+use Rattle.words_masks.proofs.MasksLaws.{has_bit-set}
+use Rattle.source_rules.specs.SourceParts.{occupied, straight_word, inverted_word}
 use Rattle.source_laws.proofs.PartsEffects.{level-words, bits_are}
-use Rattle.domain.specs.Domain.{Domain, isEnabled, byMessages, sends}
-use Rattle.domain.specs.Slot.{sourceAt}
+use Rattle.domain.specs.Domain.{Domain, is_enabled, by_messages, sends}
+use Rattle.domain.specs.Slot.{source_at}
 use Rattle.domain.proofs.SlotLaws.{pending-word, enable-word}
 use Rattle.domain_slots.specs.declared.Gathered.{Gathered}
 use Rattle.domain_slots.specs.Slots.{SoFar}
 use Rattle.domain_slots.proofs.SlotsLaws.{bit-of, bit-zero}
-use Rattle.wired_rules.specs.Rules.{sourceZeroRule}
+use Rattle.wired_rules.specs.Rules.{source_zero_rule}
 use Rattle.wired_rules.specs.Bits.{bits_at}
 
 at_zero : (p e s m w : Bool)
@@ -40,23 +40,23 @@ at_zero false false false false w = refl
 
 module _ (c : Bool) (ws : List ℕ) (d : Domain) (g : Gathered) (so : SoFar c d 64 g) (p e w : ℕ) where
   abbrev M : Bool
-  M = byMessages d
+  M = by_messages d
 
   abbrev unused : ℕ → Bool
-  unused j = hasBit g.active j || (not (hasBit p j) && not (hasBit e j))
+  unused j = has_bit g.active j || (not (has_bit p j) && not (has_bit e j))
 
   abbrev unsent : ℕ → Bool
-  unsent j = not (sends d && hasBit p j && hasBit e j)
+  unsent j = not (sends d && has_bit p j && has_bit e j)
 
   abbrev low : ℕ → Bool
   low j =
-      not (hasBit p j
-      && ((hasBit g.straight j && not (hasBit w j)) || (hasBit g.inverted j && hasBit w j)))
+      not (has_bit p j
+      && ((has_bit g.straight j && not (has_bit w j)) || (has_bit g.inverted j && has_bit w j)))
 
   abbrev missing : ℕ → Bool
   missing j =
-      M || not (((hasBit g.straight j && hasBit w j) || (hasBit g.inverted j && not (hasBit w j)))
-      && not (hasBit p j))
+      M || not (((has_bit g.straight j && has_bit w j) || (has_bit g.inverted j && not (has_bit w j)))
+      && not (has_bit p j))
 
   abbrev each : ℕ → Bool
   each j = unused j && unsent j && low j && missing j
@@ -68,28 +68,28 @@ module _ (c : Bool) (ws : List ℕ) (d : Domain) (g : Gathered) (so : SoFar c d 
       ∙ ap (λ (b : Bool). b && every missing 0 64) (every-both (λ j. unused j && unsent j) low 0 64)
       ∙ every-both (λ j. unused j && unsent j && low j) missing 0 64
 
-  module _ (hp : (j : ℕ) → j < 64 → hasBit p j ≡ member d.pending j)
-      (he : (j : ℕ) → j < 64 → hasBit e j ≡ member d.enable j)
-      (hw : (j : ℕ) → j < 64 → hasBit w j ≡ member ws j) where
-    each-zero : each 0 ≡ (sourceZeroRule d.pending && sourceZeroRule d.enable)
-    unfolding sourceZeroRule
+  module _ (hp : (j : ℕ) → j < 64 → has_bit p j ≡ member d.pending j)
+      (he : (j : ℕ) → j < 64 → has_bit e j ≡ member d.enable j)
+      (hw : (j : ℕ) → j < 64 → has_bit w j ≡ member ws j) where
+    each-zero : each 0 ≡ (source_zero_rule d.pending && source_zero_rule d.enable)
+    unfolding source_zero_rule
     each-zero =
         let a = bit-zero (occupied c) d g.active so.active in
-        let s = bit-zero straightWord d g.straight so.straight in
-        let v = bit-zero invertedWord d g.inverted so.inverted in
+        let s = bit-zero straight_word d g.straight so.straight in
+        let v = bit-zero inverted_word d g.inverted so.inverted in
         let x = hp 0 (omega arith) in
         let y = he 0 (omega arith) in
         (λ k. (a k || (not (x k) && not (y k))) && not (sends d && x k && y k)
-        && not (x k && ((s k && not (hasBit w 0)) || (v k && hasBit w 0)))
-        && (M || not (((s k && hasBit w 0) || (v k && not (hasBit w 0))) && not (x k))))
-        ∙ at_zero (member d.pending 0) (member d.enable 0) (sends d) M (hasBit w 0)
+        && not (x k && ((s k && not (has_bit w 0)) || (v k && has_bit w 0)))
+        && (M || not (((s k && has_bit w 0) || (v k && not (has_bit w 0))) && not (x k))))
+        ∙ at_zero (member d.pending 0) (member d.enable 0) (sends d) M (has_bit w 0)
 
     each-source : (j : ℕ) → 1 ≤ j → j < 64 → each j ≡ bits_at c ws d j
     unfolding bits_at
     each-source j l h =
         let a = bit-of (occupied c) d g.active so.active j l h in
-        let s = bit-of straightWord d g.straight so.straight j l h in
-        let v = bit-of invertedWord d g.inverted so.inverted j l h in
+        let s = bit-of straight_word d g.straight so.straight j l h in
+        let v = bit-of inverted_word d g.inverted so.inverted j l h in
         let x = hp j h ∙ sym (member-word d.pending j) ∙ pending-word d j in
         let y = he j h ∙ sym (member-word d.enable j) ∙ enable-word d j in
         let z = hw j h in
@@ -97,14 +97,14 @@ module _ (c : Bool) (ws : List ℕ) (d : Domain) (g : Gathered) (so : SoFar c d 
         ∙ (λ k. (a k || (not (x k) && not (y k))) && not (sends d && x k && y k)
         && (not (x k && ((s k && not (z k)) || (v k && z k)))
         && (M || not (((s k && z k) || (v k && not (z k))) && not (x k)))))
-        ∙ ap (λ (b : Bool). (occupied c (sourceAt d j).mode
-        || (not (sourceAt d j).pending && not (sourceAt d j).enabled))
-        && not (sends d && (sourceAt d j).pending && (sourceAt d j).enabled) && b)
-        (level-words M (member ws j) (sourceAt d j))
-        ∙ sym (bits_are c M (sends d) (member ws j) (sourceAt d j))
+        ∙ ap (λ (b : Bool). (occupied c (source_at d j).mode
+        || (not (source_at d j).pending && not (source_at d j).enabled))
+        && not (sends d && (source_at d j).pending && (source_at d j).enabled) && b)
+        (level-words M (member ws j) (source_at d j))
+        ∙ sym (bits_are c M (sends d) (member ws j) (source_at d j))
 
     pub bits-joined : (every unused 0 64 && every unsent 0 64 && every low 0 64 && every missing 0 64)
-        ≡ (sourceZeroRule d.pending && sourceZeroRule d.enable && every (bits_at c ws d) 1 63)
+        ≡ (source_zero_rule d.pending && source_zero_rule d.enable && every (bits_at c ws d) 1 63)
     bits-joined =
         gathered-each ∙ every_first each 63
         ∙ (λ k. each-zero k
@@ -112,31 +112,31 @@ module _ (c : Bool) (ws : List ℕ) (d : Domain) (g : Gathered) (so : SoFar c d 
 
 -- the same of what the code read
 module _ (c : Bool) (ws : List ℕ) (d : Domain) (g : Gathered) (so : SoFar c d 64 g) where
-  pub bits-read : (p e w : ℕ) {m i u s l x : Bool} → m ≡ byMessages d → i ≡ isEnabled d
-      → u ≡ every (λ j. hasBit g.active j || (not (hasBit p j) && not (hasBit e j))) 0 64
-      → s ≡ every (λ j. not ((i && m) && hasBit p j && hasBit e j)) 0 64
-      → l ≡ every (λ j. not (hasBit p j
-      && ((hasBit g.straight j && not (hasBit w j)) || (hasBit g.inverted j && hasBit w j)))) 0 64
-      → x ≡ every (λ j. m || not (((hasBit g.straight j && hasBit w j)
-      || (hasBit g.inverted j && not (hasBit w j))) && not (hasBit p j))) 0 64
-      → ((j : ℕ) → j < 64 → hasBit p j ≡ member d.pending j)
-      → ((j : ℕ) → j < 64 → hasBit e j ≡ member d.enable j)
-      → ((j : ℕ) → j < 64 → hasBit w j ≡ member ws j)
+  pub bits-read : (p e w : ℕ) {m i u s l x : Bool} → m ≡ by_messages d → i ≡ is_enabled d
+      → u ≡ every (λ j. has_bit g.active j || (not (has_bit p j) && not (has_bit e j))) 0 64
+      → s ≡ every (λ j. not ((i && m) && has_bit p j && has_bit e j)) 0 64
+      → l ≡ every (λ j. not (has_bit p j
+      && ((has_bit g.straight j && not (has_bit w j)) || (has_bit g.inverted j && has_bit w j)))) 0 64
+      → x ≡ every (λ j. m || not (((has_bit g.straight j && has_bit w j)
+      || (has_bit g.inverted j && not (has_bit w j))) && not (has_bit p j))) 0 64
+      → ((j : ℕ) → j < 64 → has_bit p j ≡ member d.pending j)
+      → ((j : ℕ) → j < 64 → has_bit e j ≡ member d.enable j)
+      → ((j : ℕ) → j < 64 → has_bit w j ≡ member ws j)
       → (u && s && l && x)
-      ≡ (sourceZeroRule d.pending && sourceZeroRule d.enable && every (bits_at c ws d) 1 63)
+      ≡ (source_zero_rule d.pending && source_zero_rule d.enable && every (bits_at c ws d) 1 63)
   bits-read p e w m i u s l x hp he hw =
       (λ k. u k && s k && l k && x k)
-      ∙ (λ k. every (λ j. hasBit g.active j || (not (hasBit p j) && not (hasBit e j))) 0 64
-      && every (λ j. not ((i k && m k) && hasBit p j && hasBit e j)) 0 64
-      && every (λ j. not (hasBit p j
-      && ((hasBit g.straight j && not (hasBit w j)) || (hasBit g.inverted j && hasBit w j)))) 0 64
-      && every (λ j. m k || not (((hasBit g.straight j && hasBit w j)
-      || (hasBit g.inverted j && not (hasBit w j))) && not (hasBit p j))) 0 64)
+      ∙ (λ k. every (λ j. has_bit g.active j || (not (has_bit p j) && not (has_bit e j))) 0 64
+      && every (λ j. not ((i k && m k) && has_bit p j && has_bit e j)) 0 64
+      && every (λ j. not (has_bit p j
+      && ((has_bit g.straight j && not (has_bit w j)) || (has_bit g.inverted j && has_bit w j)))) 0 64
+      && every (λ j. m k || not (((has_bit g.straight j && has_bit w j)
+      || (has_bit g.inverted j && not (has_bit w j))) && not (has_bit p j))) 0 64)
       ∙ bits-joined c ws d g so p e w hp he hw
 
 -- the bits of two words that were read as one
 pub set-read : (ws : List ℕ) {x lo hi : ℕ} → lo ≡ get_or ws 0 0 → hi ≡ get_or ws 1 0
-    → (x ≡ joined lo hi) × (lo < 2 ^ 32) → (j : ℕ) → j < 64 → hasBit x j ≡ member ws j
+    → (x ≡ joined lo hi) × (lo < 2 ^ 32) → (j : ℕ) → j < 64 → has_bit x j ≡ member ws j
 set-read ws a b e j h =
-    (λ k. hasBit (e.0 k) j) ∙ (λ k. hasBit (joined (a k) (b k)) j)
-    ∙ hasBit-set ws j (transport (λ k. a k < 2 ^ 32) e.1) h
+    (λ k. has_bit (e.0 k) j) ∙ (λ k. has_bit (joined (a k) (b k)) j)
+    ∙ has_bit-set ws j (transport (λ k. a k < 2 ^ 32) e.1) h

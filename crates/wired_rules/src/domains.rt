@@ -1,13 +1,13 @@
 // The rules of a domain, those that concern both, and all of them.
 ghost use Rattle.std.specs.Prelude.{◌≡◌, ◌&&◌, length};
-ghost use Rattle.sizes.specs.Sizes.{sourceCount, slotCount, domainSize, wiredSize};
+ghost use Rattle.sizes.specs.Sizes.{source_count, slot_count, domain_size, wired_size};
 ghost use Rattle.words_masks.specs.Masks.{gathered};
-ghost use Rattle.domain.specs.Domain.{domainOf};
-ghost use Rattle.wired_state.specs.Wires.{wiredOf};
+ghost use Rattle.domain.specs.Domain.{domain_of};
+ghost use Rattle.wired_state.specs.Wires.{wired_of};
 ghost use Rattle.words.specs.Every.{every};
-ghost use Rattle.wired_rules.specs.Rules.{domaincfgRange, genmsiRange, genmsiRule, sourceZeroRule};
-ghost use Rattle.wired_rules.specs.Rules.{domainSound, wiredSound};
-ghost use Rattle.source_rules.specs.SourceParts.{heldBack, occupied};
+ghost use Rattle.wired_rules.specs.Rules.{domaincfg_range, genmsi_range, genmsi_rule, source_zero_rule};
+ghost use Rattle.wired_rules.specs.Rules.{domain_sound, wired_sound};
+ghost use Rattle.source_rules.specs.SourceParts.{held_back, occupied};
 ghost use Rattle.domain_slots.specs.Slots.{has, SoFar};
 ghost use Rattle.wired_rules.specs.Bits.{bits_at};
 
@@ -18,17 +18,17 @@ use sizes::{CHILD_PLACE, MACHINE_PLACE, SOURCE_SET_SIZE, WIRED_SIZE};
 use source_bits::{none_low, none_missing, none_unsent, none_unused, one_word};
 
 fn domaincfg_rule(part: &[u32]) -> bool
-    requires { length part.now ≡ domainSize }
-    ensures { result ≡ domaincfgRange (domainOf part.now) }
+    requires { length part.now ≡ domain_size }
+    ensures { result ≡ domaincfg_range (domain_of part.now) }
 {
     let word = domain::domaincfg(part);
     word == domain_domaincfg::kept_domaincfg(word)
 }
 
 fn genmsi_rules(part: &[u32]) -> bool
-    requires { length part.now ≡ domainSize }
-    ensures { result ≡ (genmsiRange (domainOf part.now)
-        && genmsiRule (domainOf part.now)) }
+    requires { length part.now ≡ domain_size }
+    ensures { result ≡ (genmsi_range (domain_of part.now)
+        && genmsi_rule (domain_of part.now)) }
 {
     let word = domain::genmsi(part);
     (word == domain_genmsi::kept_genmsi(word)) & (domain::by_messages(part) | (word == 0))
@@ -36,10 +36,10 @@ fn genmsi_rules(part: &[u32]) -> bool
 
 // The bits of all sources; source 0, which is none, has no bits.
 fn bits_rules(part: &[u32], child: bool, wires: [u32; SOURCE_SET_SIZE], g: Gathered) -> bool
-    requires { (length part.now ≡ domainSize) × SoFar child (domainOf part.now) slotCount g }
-    ensures { result ≡ (sourceZeroRule (domainOf part.now).pending
-        && sourceZeroRule (domainOf part.now).enable
-        && every (bits_at child wires (domainOf part.now)) 1 sourceCount) }
+    requires { (length part.now ≡ domain_size) × SoFar child (domain_of part.now) slot_count g }
+    ensures { result ≡ (source_zero_rule (domain_of part.now).pending
+        && source_zero_rule (domain_of part.now).enable
+        && every (bits_at child wires (domain_of part.now)) 1 source_count) }
 {
     let messages = domain::by_messages(part);
     let sends = domain::enabled(part) & messages;
@@ -53,10 +53,10 @@ fn bits_rules(part: &[u32], child: bool, wires: [u32; SOURCE_SET_SIZE], g: Gathe
 }
 
 fn domain_rules(part: &[u32], child: bool, wires: [u32; SOURCE_SET_SIZE]) -> Tested
-    requires { length part.now ≡ domainSize }
-    ensures { (result.sound ≡ domainSound child wires (domainOf part.now))
-        × (result.active ≡ gathered (has (occupied child) (domainOf part.now)) slotCount)
-        × (result.delegated ≡ gathered (has (heldBack child) (domainOf part.now)) slotCount) }
+    requires { length part.now ≡ domain_size }
+    ensures { (result.sound ≡ domain_sound child wires (domain_of part.now))
+        × (result.active ≡ gathered (has (occupied child) (domain_of part.now)) slot_count)
+        × (result.delegated ≡ gathered (has (held_back child) (domain_of part.now)) slot_count) }
 {
     let g = gather(part, child);
     let sound = domaincfg_rule(part)
@@ -74,8 +74,8 @@ fn domain_rules(part: &[u32], child: bool, wires: [u32; SOURCE_SET_SIZE]) -> Tes
 // Whether the 290 words of the wired controller keep every rule. The child has a source only where it is
 // delegated.
 pub fn sound(w: &[u32]) -> bool
-    requires { length w.now ≡ wiredSize }
-    ensures { result ≡ wiredSound (wiredOf w.now) }
+    requires { length w.now ≡ wired_size }
+    ensures { result ≡ wired_sound (wired_of w.now) }
 {
     let wires = wired_state::wires(w);
     let machine = domain_rules(&w[MACHINE_PLACE..CHILD_PLACE], false, wires);

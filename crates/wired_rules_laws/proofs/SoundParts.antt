@@ -8,15 +8,15 @@ use native.Mathlib.Omega.{arith}
 use lib.ListN.{length}
 use Rattle.words.specs.Sets.{member}
 use Rattle.words.proofs.TestsLaws.{and_first, and_second, and_both}
-use Rattle.domain.specs.Domain.{Domain, byMessages, sends}
-use Rattle.domain.specs.Slot.{sourceAt}
+use Rattle.domain.specs.Domain.{Domain, by_messages, sends}
+use Rattle.domain.specs.Slot.{source_at}
 use Rattle.domain_laws.specs.Shape.{DomainShaped}
 use Rattle.wired_state.specs.Wires.{Wired}
-use Rattle.source_rules.specs.SourceRules.{sourceSteady, sentRule, sourceSound}
+use Rattle.source_rules.specs.SourceRules.{source_steady, sent_rule, source_sound}
 use Rattle.words.specs.Every.{every}
-use Rattle.wired_rules.specs.Rules.{domaincfgRange, genmsiRange, structureRange, sourceZeroRule}
-use Rattle.wired_rules.specs.Rules.{genmsiRule}
-use Rattle.wired_rules.specs.Rules.{sourceRule, domainSound, delegatedRule, wiredSound}
+use Rattle.wired_rules.specs.Rules.{domaincfg_range, genmsi_range, structure_range, source_zero_rule}
+use Rattle.wired_rules.specs.Rules.{genmsi_rule}
+use Rattle.wired_rules.specs.Rules.{source_rule, domain_sound, delegated_rule, wired_sound}
 use Rattle.words.proofs.EveryLaws.{every-each, every_of}
 use Rattle.wired_rules_laws.specs.Steady.{Steady, Quiet, WiredSteady, WiredQuiet}
 
@@ -33,34 +33,34 @@ four a b c d e =
 module _ (c : Bool) (ws : List ℕ) (d : Domain) where
   -- the rules of source i
   abbrev rule-steady : ℕ → Bool
-  rule-steady i = sourceSteady c (byMessages d) (member ws i) (sourceAt d i)
+  rule-steady i = source_steady c (by_messages d) (member ws i) (source_at d i)
 
   abbrev rule-sent : ℕ → Bool
-  rule-sent i = sentRule (sends d) (sourceAt d i)
+  rule-sent i = sent_rule (sends d) (source_at d i)
 
-  rule-joined : (i : ℕ) → rule-steady i ≡ true → rule-sent i ≡ true → sourceRule c ws d i ≡ true
-  unfolding sourceRule sourceSound
+  rule-joined : (i : ℕ) → rule-steady i ≡ true → rule-sent i ≡ true → source_rule c ws d i ≡ true
+  unfolding source_rule source_sound
   rule-joined i = and_both (rule-steady i) (rule-sent i)
 
   -- the rules of a domain in two groups
   abbrev own : Bool
-  own = domaincfgRange d && genmsiRange d && genmsiRule d && sourceZeroRule d.pending
+  own = domaincfg_range d && genmsi_range d && genmsi_rule d && source_zero_rule d.pending
 
-  module _ (e : domainSound c ws d ≡ true) where
-    later : (own ≡ true) × (sourceZeroRule d.enable ≡ true) × (every (structureRange d) 0 4 ≡ true)
-        × (every (sourceRule c ws d) 1 63 ≡ true)
-    unfolding domainSound
+  module _ (e : domain_sound c ws d ≡ true) where
+    later : (own ≡ true) × (source_zero_rule d.enable ≡ true) × (every (structure_range d) 0 4 ≡ true)
+        × (every (source_rule c ws d) 1 63 ≡ true)
+    unfolding domain_sound
     later =
-        four own (sourceZeroRule d.enable) (every (structureRange d) 0 4) (every (sourceRule c ws d) 1 63)
+        four own (source_zero_rule d.enable) (every (structure_range d) 0 4) (every (source_rule c ws d) 1 63)
         e
 
-    first : (domaincfgRange d ≡ true) × (genmsiRange d ≡ true) × (genmsiRule d ≡ true)
-        × (sourceZeroRule d.pending ≡ true)
-    first = four (domaincfgRange d) (genmsiRange d) (genmsiRule d) (sourceZeroRule d.pending) later.0
+    first : (domaincfg_range d ≡ true) × (genmsi_range d ≡ true) × (genmsi_rule d ≡ true)
+        × (source_zero_rule d.pending ≡ true)
+    first = four (domaincfg_range d) (genmsi_range d) (genmsi_rule d) (source_zero_rule d.pending) later.0
 
     rule : (i : ℕ) → 1 ≤ i → i < 64 → (rule-steady i && rule-sent i) ≡ true
-    unfolding sourceRule sourceSound
-    rule = every-each (sourceRule c ws d) 1 63 later.3
+    unfolding source_rule source_sound
+    rule = every-each (source_rule c ws d) 1 63 later.3
 
     pub sound-steady : DomainShaped d → Steady c ws d
     sound-steady shaped =
@@ -69,7 +69,7 @@ module _ (c : Bool) (ws : List ℕ) (d : Domain) where
           domaincfg = first.0;
           genmsi-range = first.1;
           genmsi = first.2;
-          structures = λ h q. every-each (structureRange d) 0 4 later.2 h (omega arith) q;
+          structures = λ h q. every-each (structure_range d) 0 4 later.2 h (omega arith) q;
           pending-zero = first.3;
           enable-zero = later.1;
           source = λ i l h. and_first (rule-steady i) (rule-sent i) (rule i l h);
@@ -78,24 +78,24 @@ module _ (c : Bool) (ws : List ℕ) (d : Domain) where
     pub sound-quiet : Quiet d
     sound-quiet i l h = and_second (rule-steady i) (rule-sent i) (rule i l h)
 
-  pub sound-joined : Steady c ws d → Quiet d → domainSound c ws d ≡ true
-  unfolding domainSound
+  pub sound-joined : Steady c ws d → Quiet d → domain_sound c ws d ≡ true
+  unfolding domain_sound
   sound-joined s q =
-      let structures = every_of (structureRange d) 0 4 (λ h l u. s.structures h u) in
+      let structures = every_of (structure_range d) 0 4 (λ h l u. s.structures h u) in
       let sources =
-      every_of (sourceRule c ws d) 1 63 (λ i l h. rule-joined i (s.source i l h) (q i l h)) in
+      every_of (source_rule c ws d) 1 63 (λ i l h. rule-joined i (s.source i l h) (q i l h)) in
       rw (s.domaincfg, s.genmsi-range, s.genmsi, s.pending-zero, s.enable-zero, structures, sources)
 
 -- ---- the controller
 
 module _ (w : Wired) where
-  module _ (e : wiredSound w ≡ true) where
-    parts : (sourceZeroRule w.wires ≡ true) × (domainSound false w.wires w.machine ≡ true)
-        × (domainSound true w.wires w.child ≡ true) × (every (delegatedRule w) 1 63 ≡ true)
-    unfolding wiredSound
+  module _ (e : wired_sound w ≡ true) where
+    parts : (source_zero_rule w.wires ≡ true) × (domain_sound false w.wires w.machine ≡ true)
+        × (domain_sound true w.wires w.child ≡ true) × (every (delegated_rule w) 1 63 ≡ true)
+    unfolding wired_sound
     parts =
-        four (sourceZeroRule w.wires) (domainSound false w.wires w.machine)
-        (domainSound true w.wires w.child) (every (delegatedRule w) 1 63) e
+        four (source_zero_rule w.wires) (domain_sound false w.wires w.machine)
+        (domain_sound true w.wires w.child) (every (delegated_rule w) 1 63) e
 
     pub wired-sound-steady : length w.wires ≡ 2 → DomainShaped w.machine → DomainShaped w.child
         → WiredSteady w
@@ -105,7 +105,7 @@ module _ (w : Wired) where
           zero = parts.0;
           machine = sound-steady false w.wires w.machine parts.1 r;
           child = sound-steady true w.wires w.child parts.2 c;
-          delegated = every-each (delegatedRule w) 1 63 parts.3;
+          delegated = every-each (delegated_rule w) 1 63 parts.3;
         }
 
     pub wired-sound-quiet : WiredQuiet w
@@ -115,9 +115,9 @@ module _ (w : Wired) where
           child = sound-quiet true w.wires w.child parts.2;
         }
 
-  pub wired-sound-joined : WiredSteady w → WiredQuiet w → wiredSound w ≡ true
-  unfolding wiredSound
+  pub wired-sound-joined : WiredSteady w → WiredQuiet w → wired_sound w ≡ true
+  unfolding wired_sound
   wired-sound-joined s q =
       let machine = sound-joined false w.wires w.machine s.machine q.machine in
       let child = sound-joined true w.wires w.child s.child q.child in
-      rw (s.zero, machine, child) (every_of (delegatedRule w) 1 63 s.delegated)
+      rw (s.zero, machine, child) (every_of (delegated_rule w) 1 63 s.delegated)

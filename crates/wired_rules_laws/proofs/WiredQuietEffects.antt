@@ -16,109 +16,109 @@ use Rattle.domain_region.specs.declared.Word.{Word}
 use Rattle.domain_region.specs.declared.Word.TheVariants.{Genmsi, Target}
 use Rattle.source.specs.Pending.{retargeted}
 use Rattle.source_laws.proofs.SentEffects.{sent-retargeted}
-use Rattle.domain.specs.Domain.{Domain, byMessages, sends}
-use Rattle.domain.specs.Slot.{sourceAt}
-use Rattle.domain_writes.specs.Writes.{targetWritten}
-use Rattle.domain_registers.specs.Read.{claimedBy}
-use Rattle.domain_registers.specs.Write.{registerWritten}
-use Rattle.wired_state.specs.Wires.{Wired, domainIn, withDomain, wireSet, isDelegated}
-use Rattle.wired_registers.specs.Wired.{claimed_in, partWritten}
-use Rattle.wired_sourcecfg.specs.Delegation.{childWritten, machineWritten, sourceWritten}
-use Rattle.wired_registers.specs.Wired.{writtenAs, writtenIn}
+use Rattle.domain.specs.Domain.{Domain, by_messages, sends}
+use Rattle.domain.specs.Slot.{source_at}
+use Rattle.domain_writes.specs.Writes.{target_written}
+use Rattle.domain_registers.specs.Read.{claimed_by}
+use Rattle.domain_registers.specs.Write.{register_written}
+use Rattle.wired_state.specs.Wires.{Wired, domain_in, with_domain, wire_set, is_delegated}
+use Rattle.wired_registers.specs.Wired.{claimed_in, part_written}
+use Rattle.wired_sourcecfg.specs.Delegation.{child_written, machine_written, source_written}
+use Rattle.wired_registers.specs.Wired.{written_as, written_in}
 use Rattle.wired_sourcecfg.proofs.DelegationLaws.{machine-stays, machine-moves}
 use Rattle.wired_registers.proofs.WiredLaws.{written-cases}
-use Rattle.wired_rules.specs.Rules.{delegatedRule}
+use Rattle.wired_rules.specs.Rules.{delegated_rule}
 use Rattle.wired_rules_laws.specs.Steady.{Quiet, WiredSteady, WiredQuiet}
-use Rattle.wired_rules_laws.proofs.QuietEffects.{quiet-started, quiet-withSource}
-use Rattle.wired_rules_laws.proofs.DomaincfgEffects.{quiet-genmsiWritten}
-use Rattle.wired_rules_laws.proofs.ReadEffects.{quiet-claimedBy}
-use Rattle.wired_rules_laws.proofs.SourceEffects.{active-high, sourceWired-inactive}
-use Rattle.wired_rules_laws.proofs.WiredEffects.{steady-domainIn}
+use Rattle.wired_rules_laws.proofs.QuietEffects.{quiet-started, quiet-with_source}
+use Rattle.wired_rules_laws.proofs.DomaincfgEffects.{quiet-genmsi_written}
+use Rattle.wired_rules_laws.proofs.ReadEffects.{quiet-claimed_by}
+use Rattle.wired_rules_laws.proofs.SourceEffects.{active-high, source_wired-inactive}
+use Rattle.wired_rules_laws.proofs.WiredEffects.{steady-domain_in}
 
 -- ---- a wire: a source is active in one domain at most
 
 module _ (w : Wired) (i : ℕ) (level : Bool) where
-  wire-delegated : isDelegated w i ≡ true → (wireSet w i level).machine ≡ w.machine
-  unfolding wireSet isDelegated
+  wire-delegated : is_delegated w i ≡ true → (wire_set w i level).machine ≡ w.machine
+  unfolding wire_set is_delegated
   wire-delegated t =
-      sourceWired-inactive w.machine i (member w.wires i) level
-      (active-high (sourceAt w.machine i).mode (leb-true 1024 (sourceAt w.machine i).mode t))
+      source_wired-inactive w.machine i (member w.wires i) level
+      (active-high (source_at w.machine i).mode (leb-true 1024 (source_at w.machine i).mode t))
 
-  wire-own : eqb (sourceAt w.child i).mode 0 ≡ true → (wireSet w i level).child ≡ w.child
-  unfolding wireSet
+  wire-own : eqb (source_at w.child i).mode 0 ≡ true → (wire_set w i level).child ≡ w.child
+  unfolding wire_set
   wire-own t =
-      sourceWired-inactive w.child i (member w.wires i) level
-      (active-zero (sourceAt w.child i).mode (eqb-true (sourceAt w.child i).mode 0 t))
+      source_wired-inactive w.child i (member w.wires i) level
+      (active-zero (source_at w.child i).mode (eqb-true (source_at w.child i).mode 0 t))
 
-  pub wireSet-one : WiredSteady w → 1 ≤ i → i < 64
-      → ((wireSet w i level).machine ≡ w.machine) ⊎ ((wireSet w i level).child ≡ w.child)
-  unfolding delegatedRule
-  wireSet-one s l h =
+  pub wire_set-one : WiredSteady w → 1 ≤ i → i < 64
+      → ((wire_set w i level).machine ≡ w.machine) ⊎ ((wire_set w i level).child ≡ w.child)
+  unfolding delegated_rule
+  wire_set-one s l h =
       ⊎_elim (λ t. inl (wire-delegated t)) (λ t. inr (wire-own t))
-      (or_cases (isDelegated w i) (eqb (sourceAt w.child i).mode 0) (s.delegated i l h))
+      (or_cases (is_delegated w i) (eqb (source_at w.child i).mode 0) (s.delegated i l h))
 
 -- ---- one domain replaced
 
-pub other-withDomain : (w : Wired) (c : Bool) (d : Domain)
-    → domainIn (withDomain w c d) (not c) ≡ domainIn w (not c)
-unfolding domainIn withDomain
-other-withDomain w true d = refl
-other-withDomain w false d = refl
+pub other-with_domain : (w : Wired) (c : Bool) (d : Domain)
+    → domain_in (with_domain w c d) (not c) ≡ domain_in w (not c)
+unfolding domain_in with_domain
+other-with_domain w true d = refl
+other-with_domain w false d = refl
 
 module _ (w : Wired) (q : WiredQuiet w) where
-  pub quiet-domainIn : (c : Bool) → Quiet (domainIn w c)
-  unfolding domainIn
-  quiet-domainIn true = q.child
-  quiet-domainIn false = q.machine
+  pub quiet-domain_in : (c : Bool) → Quiet (domain_in w c)
+  unfolding domain_in
+  quiet-domain_in true = q.child
+  quiet-domain_in false = q.machine
 
-  quiet-withDomain : (c : Bool) (d : Domain) → Quiet d → WiredQuiet (withDomain w c d)
-  unfolding withDomain
-  quiet-withDomain true d e = record { machine = q.machine; child = e }
-  quiet-withDomain false d e = record { machine = e; child = q.child }
+  quiet-with_domain : (c : Bool) (d : Domain) → Quiet d → WiredQuiet (with_domain w c d)
+  unfolding with_domain
+  quiet-with_domain true d e = record { machine = q.machine; child = e }
+  quiet-with_domain false d e = record { machine = e; child = q.child }
 
-  pub quiet-claimedIn : (c : Bool) (r : Word) → WiredQuiet (claimed_in w c r)
-  quiet-claimedIn c r =
-      quiet-withDomain c (claimedBy (domainIn w c) r) (quiet-claimedBy (domainIn w c) (quiet-domainIn c) r)
+  pub quiet-claimed_in : (c : Bool) (r : Word) → WiredQuiet (claimed_in w c r)
+  quiet-claimed_in c r =
+      quiet-with_domain c (claimed_by (domain_in w c) r) (quiet-claimed_by (domain_in w c) (quiet-domain_in c) r)
 
   module _ (s : WiredSteady w) where
-    pub quiet-genmsi : (c : Bool) (v : ℕ) → WiredQuiet (partWritten w c Genmsi v)
-    unfolding registerWritten
+    pub quiet-genmsi : (c : Bool) (v : ℕ) → WiredQuiet (part_written w c Genmsi v)
+    unfolding register_written
     quiet-genmsi c v =
-        quiet-withDomain c (registerWritten c (domainIn w c) w.wires Genmsi v)
-        (quiet-genmsiWritten c w.wires (domainIn w c) (steady-domainIn w s c) v (quiet-domainIn c))
+        quiet-with_domain c (register_written c (domain_in w c) w.wires Genmsi v)
+        (quiet-genmsi_written c w.wires (domain_in w c) (steady-domain_in w s c) v (quiet-domain_in c))
 
-    pub quiet-writtenIn-genmsi : (c : Bool) (v : ℕ) → WiredQuiet (writtenIn w c Genmsi v)
-    unfolding writtenIn writtenAs
-    quiet-writtenIn-genmsi c v = quiet-genmsi c v
+    pub quiet-written_in-genmsi : (c : Bool) (v : ℕ) → WiredQuiet (written_in w c Genmsi v)
+    unfolding written_in written_as
+    quiet-written_in-genmsi c v = quiet-genmsi c v
 
     -- a target: what is pending and enabled stays
-    pub quiet-target : (c : Bool) (i : ℕ) → 1 ≤ i → i < 64 → (v : ℕ) → WiredQuiet (writtenIn w c (Target i) v)
-    unfolding writtenIn writtenAs registerWritten targetWritten
+    pub quiet-target : (c : Bool) (i : ℕ) → 1 ≤ i → i < 64 → (v : ℕ) → WiredQuiet (written_in w c (Target i) v)
+    unfolding written_in written_as register_written target_written
     quiet-target c i l h v =
-        let d = domainIn w c in
-        let q' = quiet-domainIn c in
-        let x = retargeted (sourceAt d i) c (byMessages d) v in
-        let e = sent-retargeted (sends d) (sourceAt d i) (q' i l h) c (byMessages d) v in
-        quiet-withDomain c (targetWritten c d i v)
-        (quiet-withSource d q' i x e (steady-domainIn w s c).shaped l h)
+        let d = domain_in w c in
+        let q' = quiet-domain_in c in
+        let x = retargeted (source_at d i) c (by_messages d) v in
+        let e = sent-retargeted (sends d) (source_at d i) (q' i l h) c (by_messages d) v in
+        quiet-with_domain c (target_written c d i v)
+        (quiet-with_source d q' i x e (steady-domain_in w s c).shaped l h)
 
     -- ---- a write: the other domain
 
     module _ (i : ℕ) (l : 1 ≤ i) (h : i < 64) (v : ℕ) where
-      other-machineWritten : Quiet (machineWritten w i v).child
-      other-machineWritten =
-          tested (beq (isDelegated w i) (leb 1024 (source_word false false v)))
+      other-machine_written : Quiet (machine_written w i v).child
+      other-machine_written =
+          tested (beq (is_delegated w i) (leb 1024 (source_word false false v)))
           (λ t. rw (machine-stays w i v t) q.child)
           (λ f. rw (machine-moves w i v f) (quiet-started w.child q.child i s.child.shaped l h))
 
-      other-sourceWritten : (c : Bool) → Quiet (domainIn (sourceWritten w c i v) (not c))
-      unfolding domainIn sourceWritten childWritten
-      other-sourceWritten true = q.machine
-      other-sourceWritten false = other-machineWritten
+      other-source_written : (c : Bool) → Quiet (domain_in (source_written w c i v) (not c))
+      unfolding domain_in source_written child_written
+      other-source_written true = q.machine
+      other-source_written false = other-machine_written
 
     pub quiet-other : (c : Bool) (r : Word) → Within r → (v : ℕ)
-        → Quiet (domainIn (writtenIn w c r v) (not c))
+        → Quiet (domain_in (written_in w c r v) (not c))
     quiet-other c r b v =
-        written-cases w c r v (λ (x : Wired). Quiet (domainIn x (not c))) b
-        (rw (other-withDomain w c (registerWritten c (domainIn w c) w.wires r v)) (quiet-domainIn (not c)))
-        (λ i l h. other-sourceWritten i l h v c)
+        written-cases w c r v (λ (x : Wired). Quiet (domain_in x (not c))) b
+        (rw (other-with_domain w c (register_written c (domain_in w c) w.wires r v)) (quiet-domain_in (not c)))
+        (λ i l h. other-source_written i l h v c)

@@ -7,39 +7,39 @@ use lib.Dec.{leb}
 use Rattle.words.specs.Sets.{member}
 use Rattle.source_mode.specs.Mode.{source_word}
 use Rattle.source.specs.Pending.{inactive}
-use Rattle.domain.specs.Slot.{withSource}
+use Rattle.domain.specs.Slot.{with_source}
 use Rattle.wired_state.specs.Wires.{Wired}
-use Rattle.wired_state.specs.Wires.{isDelegated}
-use Rattle.wired_sourcecfg.specs.Delegation.{sourceModed, childWritten, machineWritten, sourceWritten}
+use Rattle.wired_state.specs.Wires.{is_delegated}
+use Rattle.wired_sourcecfg.specs.Delegation.{source_moded, child_written, machine_written, source_written}
 
 module _ (w : Wired) (i v : ℕ) where
   abbrev moves : Bool
-  moves = beq (isDelegated w i) (leb 1024 (source_word false false v))
+  moves = beq (is_delegated w i) (leb 1024 (source_word false false v))
 
   pub machine-stays : moves ≡ true
-      → machineWritten w i v
+      → machine_written w i v
       ≡ record {
         wires = w.wires;
-        machine = sourceModed w.machine i (source_word false false v) (member w.wires i);
+        machine = source_moded w.machine i (source_word false false v) (member w.wires i);
         child = w.child;
       }
-  unfolding machineWritten
+  unfolding machine_written
   machine-stays e = simp e
 
   pub machine-moves : moves ≡ false
-      → machineWritten w i v
+      → machine_written w i v
       ≡ record {
         wires = w.wires;
-        machine = sourceModed w.machine i (source_word false false v) (member w.wires i);
-        child = withSource w.child i (inactive 0);
+        machine = source_moded w.machine i (source_word false false v) (member w.wires i);
+        child = with_source w.child i (inactive 0);
       }
-  unfolding machineWritten
+  unfolding machine_written
   machine-moves e = simp e
 
-  pub written-child : (c : Bool) → c ≡ true → sourceWritten w c i v ≡ childWritten w i v
-  unfolding sourceWritten
+  pub written-child : (c : Bool) → c ≡ true → source_written w c i v ≡ child_written w i v
+  unfolding source_written
   written-child c e = simp e
 
-  pub written-machine : (c : Bool) → c ≡ false → sourceWritten w c i v ≡ machineWritten w i v
-  unfolding sourceWritten
+  pub written-machine : (c : Bool) → c ≡ false → source_written w c i v ≡ machine_written w i v
+  unfolding source_written
   written-machine c e = simp e

@@ -1,13 +1,13 @@
 // A sourcecfg that is written, with delegation and taking back. Nothing is sent here. The machine domain's
 // word says who has the source.
 ghost use Rattle.std.specs.Prelude.{◌≡◌, ◌≤◌, ◌<◌, true, false, length};
-ghost use Rattle.sizes.specs.Sizes.{slotCount, domainSize, wiredSize};
+ghost use Rattle.sizes.specs.Sizes.{slot_count, domain_size, wired_size};
 ghost use Rattle.source.specs.Pending.{inactive};
-ghost use Rattle.domain.specs.Domain.{domainOf};
-ghost use Rattle.domain.specs.Slot.{withSource};
-ghost use Rattle.wired_state.specs.Wires.{wiredOf};
-ghost use Rattle.wired_sourcecfg.specs.Delegation.{sourceModed, childWritten, machineWritten};
-ghost use Rattle.wired_sourcecfg.specs.Delegation.{sourceWritten};
+ghost use Rattle.domain.specs.Domain.{domain_of};
+ghost use Rattle.domain.specs.Slot.{with_source};
+ghost use Rattle.wired_state.specs.Wires.{wired_of};
+ghost use Rattle.wired_sourcecfg.specs.Delegation.{source_moded, child_written, machine_written};
+ghost use Rattle.wired_sourcecfg.specs.Delegation.{source_written};
 
 use sizes::{CHILD_PLACE, MACHINE_PLACE, WIRED_SIZE};
 use source::Source;
@@ -15,8 +15,8 @@ use source_mode::DELEGATED_WORD;
 use wired_state::{delegated, wires};
 
 fn mode_source(part: &mut [u32], i: usize, mode: u32, wire: bool)
-    requires { (length part.old ≡ domainSize) × (i < slotCount) }
-    ensures { domainOf part.new ≡ sourceModed (domainOf part.old) i mode wire }
+    requires { (length part.old ≡ domain_size) × (i < slot_count) }
+    ensures { domain_of part.new ≡ source_moded (domain_of part.old) i mode wire }
 {
     let messages = domain::by_messages(part);
     let s = domain::load(part, i);
@@ -24,9 +24,9 @@ fn mode_source(part: &mut [u32], i: usize, mode: u32, wire: bool)
 }
 
 fn clear_source(part: &mut [u32], i: usize)
-    requires { (length part.old ≡ domainSize) × (i < slotCount) }
-    ensures { domainOf part.new
-        ≡ withSource (domainOf part.old) i (inactive 0) }
+    requires { (length part.old ≡ domain_size) × (i < slot_count) }
+    ensures { domain_of part.new
+        ≡ with_source (domain_of part.old) i (inactive 0) }
 {
     let none = Source {
         mode: 0,
@@ -38,8 +38,8 @@ fn clear_source(part: &mut [u32], i: usize)
 }
 
 fn write_child(w: &mut [u32], i: usize, value: u32)
-    requires { (length w.old ≡ wiredSize) × (i < slotCount) }
-    ensures { wiredOf w.new ≡ childWritten (wiredOf w.old) i value }
+    requires { (length w.old ≡ wired_size) × (i < slot_count) }
+    ensures { wired_of w.new ≡ child_written (wired_of w.old) i value }
 {
     let wire = source_wire::wire_at(wires(w), i);
     let has = delegated(w, i);
@@ -52,8 +52,8 @@ fn write_child(w: &mut [u32], i: usize, value: u32)
 }
 
 fn write_machine(w: &mut [u32], i: usize, value: u32)
-    requires { (length w.old ≡ wiredSize) × (i < slotCount) }
-    ensures { wiredOf w.new ≡ machineWritten (wiredOf w.old) i value }
+    requires { (length w.old ≡ wired_size) × (i < slot_count) }
+    ensures { wired_of w.new ≡ machine_written (wired_of w.old) i value }
 {
     let wire = source_wire::wire_at(wires(w), i);
     let had = delegated(w, i);
@@ -67,8 +67,8 @@ fn write_machine(w: &mut [u32], i: usize, value: u32)
 }
 
 pub fn write_source(w: &mut [u32], child: bool, i: usize, value: u32)
-    requires { (length w.old ≡ wiredSize) × (1 ≤ i) × (i < slotCount) }
-    ensures { wiredOf w.new ≡ sourceWritten (wiredOf w.old) child i value }
+    requires { (length w.old ≡ wired_size) × (1 ≤ i) × (i < slot_count) }
+    ensures { wired_of w.new ≡ source_written (wired_of w.old) child i value }
 {
     if child {
         write_child(w, i, value);

@@ -7,8 +7,8 @@ use Rattle.wired_state.specs.Wires.{Wired}
 use Rattle.wired_state.specs.Pass.{Out, flushed}
 
 -- both passes together
-abbrev pub bothSent : Wired → Out
-bothSent w =
+abbrev pub both_sent : Wired → Out
+both_sent w =
     record {
       wired =
           record {
@@ -19,6 +19,6 @@ bothSent w =
       messages = (sent false w.machine).messages ++ (sent true w.child).messages;
     }
 
-pub flushed-both : (w : Wired) → flushed w ≡ bothSent w
+pub flushed-both : (w : Wired) → flushed w ≡ both_sent w
 unfolding flushed
 flushed-both w = refl

@@ -1,16 +1,16 @@
 // A wire that is set: both domains see the change.
 ghost use Rattle.std.specs.Prelude.{◌≡◌, ◌≤◌, ◌<◌, length};
-ghost use Rattle.sizes.specs.Sizes.{slotCount, domainSize, wiredSize};
+ghost use Rattle.sizes.specs.Sizes.{slot_count, domain_size, wired_size};
 ghost use Rattle.words.specs.Sets.{put};
-ghost use Rattle.domain.specs.Domain.{domainOf};
-ghost use Rattle.wired_state.specs.Wires.{wiredOf, withWires, sourceWired, wireSet};
+ghost use Rattle.domain.specs.Domain.{domain_of};
+ghost use Rattle.wired_state.specs.Wires.{wired_of, with_wires, source_wired, wire_set};
 
 use super::state::wires;
 use sizes::{CHILD_PLACE, MACHINE_PLACE, WIRED_SIZE};
 
 fn wire_source(part: &mut [u32], i: usize, was: bool, is: bool)
-    requires { (length part.old ≡ domainSize) × (i < slotCount) }
-    ensures { domainOf part.new ≡ sourceWired (domainOf part.old) i was is }
+    requires { (length part.old ≡ domain_size) × (i < slot_count) }
+    ensures { domain_of part.new ≡ source_wired (domain_of part.old) i was is }
 {
     let messages = domain::by_messages(part);
     let s = domain::load(part, i);
@@ -18,16 +18,16 @@ fn wire_source(part: &mut [u32], i: usize, was: bool, is: bool)
 }
 
 fn put_wire(w: &mut [u32], i: usize, level: bool)
-    requires { (length w.old ≡ wiredSize) × (i < slotCount) }
-    ensures { wiredOf w.new
-        ≡ withWires (wiredOf w.old) (put (wiredOf w.old).wires i level) }
+    requires { (length w.old ≡ wired_size) × (i < slot_count) }
+    ensures { wired_of w.new
+        ≡ with_wires (wired_of w.old) (put (wired_of w.old).wires i level) }
 {
     w[i / 32] = words::put_bit(w[i / 32], (i % 32) as u32, level);
 }
 
 pub fn set_wire(w: &mut [u32], i: usize, level: bool)
-    requires { (length w.old ≡ wiredSize) × (1 ≤ i) × (i < slotCount) }
-    ensures { wiredOf w.new ≡ wireSet (wiredOf w.old) i level }
+    requires { (length w.old ≡ wired_size) × (1 ≤ i) × (i < slot_count) }
+    ensures { wired_of w.new ≡ wire_set (wired_of w.old) i level }
 {
     let was = source_wire::wire_at(wires(w), i);
     put_wire(w, i, level);

@@ -1,7 +1,7 @@
 -- Laws of specs/Bits.antt: what each bit of a changed word is, and that a word is its bits. No contract cites
 -- this file. Assumes nothing.
---   bitOf-..           a bit as a number, for each definition
---   hasBit-..          the same as a truth value: -same the bit that was changed, -other any other
+--   bit_of-..           a bit as a number, for each definition
+--   has_bit-..          the same as a truth value: -same the bit that was changed, -other any other
 --   bits-ext           two words of n bits are equal if their bits are
 --   ..-or, ..-and      what the code's `|`, `&` and `!` give
 use Prim.Native.Nat.{ℕ, zero, suc, ◌+◌, ◌-◌, ◌*◌, ◌/◌, ◌%◌, ◌^◌, ◌≤◌, ◌<◌, min, max}
@@ -17,21 +17,21 @@ use lib.Pow.{pow_pos, pow-lt, shr-shr}
 use lib.Bits.{bit_and, bit_or, and_step, or_step, or_shr, or_mod, and_shr, and_mod, and_le_l, or_lt, or_zero_r}
 use lib.Bits.{and_zero_r}
 use borrow.Author.Tests.{eq-eqb, ne_eqb}
-use Rattle.words.specs.Bits.{bit_of, hasBit, withBit, withoutBit, put_bit, union, without}
+use Rattle.words.specs.Bits.{bit_of, has_bit, with_bit, without_bit, put_bit, union, without}
 
 -- ---- a bit as a number
 
-pub bitOf-lt : (w k : ℕ) → bit_of w k < 2
+pub bit_of-lt : (w k : ℕ) → bit_of w k < 2
 unfolding bit_of
-bitOf-lt w k = mod-lt (w / 2 ^ k) (zero-lt-suc 1)
+bit_of-lt w k = mod-lt (w / 2 ^ k) (zero-lt-suc 1)
 
-pub bitOf-zero : (w : ℕ) → bit_of w 0 ≡ w % 2
+pub bit_of-zero : (w : ℕ) → bit_of w 0 ≡ w % 2
 unfolding bit_of
-bitOf-zero w = ap (λ (x : ℕ). x % 2) (simp native.Mathlib.Nat.div-one)
+bit_of-zero w = ap (λ (x : ℕ). x % 2) (simp native.Mathlib.Nat.div-one)
 
-pub bitOf-suc : (w k : ℕ) → bit_of w (suc k) ≡ bit_of (w / 2) k
+pub bit_of-suc : (w k : ℕ) → bit_of w (suc k) ≡ bit_of (w / 2) k
 unfolding bit_of
-bitOf-suc w k =
+bit_of-suc w k =
     ap
     (λ (x : ℕ). x % 2) (sym (shr-shr w 1 k ∙ ap (λ (n : ℕ). w / 2 ^ n) (native.Mathlib.Numerals.one-add k)))
 
@@ -42,8 +42,8 @@ bits-ext (suc n) w v hw hv h =
     let hw' : w < 2 * 2 ^ n = omega (arith, pow-suc 2 n) in
     let hv' : v < 2 * 2 ^ n = omega (arith, pow-suc 2 n) in
     let halves : w / 2 ≡ v / 2 = bits-ext n (w / 2) (v / 2) (omega arith) (omega arith)
-    (λ k l. sym (bitOf-suc w k) ∙ h (suc k) (omega arith) ∙ bitOf-suc v k) in
-    let odd : w % 2 ≡ v % 2 = sym (bitOf-zero w) ∙ h 0 (omega arith) ∙ bitOf-zero v in
+    (λ k l. sym (bit_of-suc w k) ∙ h (suc k) (omega arith) ∙ bit_of-suc v k) in
+    let odd : w % 2 ≡ v % 2 = sym (bit_of-zero w) ∙ h 0 (omega arith) ∙ bit_of-zero v in
     omega arith
 
 -- ---- all bits at once
@@ -54,9 +54,9 @@ bit-max x y hx hy =
     ∙ ap₂ (λ (a b : ℕ). bit_or a b * 2 + max (x % 2) (y % 2)) (div-eq_of_lt hx) (div-eq_of_lt hy)
     ∙ zero-add (max (x % 2) (y % 2)) ∙ ap₂ max (mod-eq_of_lt hx) (mod-eq_of_lt hy)
 
-pub bitOf-union : (w v k : ℕ) → bit_of (union w v) k ≡ max (bit_of w k) (bit_of v k)
+pub bit_of-union : (w v k : ℕ) → bit_of (union w v) k ≡ max (bit_of w k) (bit_of v k)
 unfolding bit_of union
-bitOf-union w v k =
+bit_of-union w v k =
     ap (λ (x : ℕ). x % 2) (or_shr w v k)
     ∙ or_mod (w / 2 ^ k) (v / 2 ^ k) 1
     ∙ bit-max (w / 2 ^ k % 2) (v / 2 ^ k % 2) (mod-lt (w / 2 ^ k) (zero-lt-suc 1))
@@ -68,9 +68,9 @@ bit-min x y hx hy =
     ∙ ap₂ (λ (a b : ℕ). bit_and a b * 2 + min (x % 2) (y % 2)) (div-eq_of_lt hx) (div-eq_of_lt hy)
     ∙ zero-add (min (x % 2) (y % 2)) ∙ ap₂ min (mod-eq_of_lt hx) (mod-eq_of_lt hy)
 
-pub bitOf-and : (w v k : ℕ) → bit_of (bit_and w v) k ≡ min (bit_of w k) (bit_of v k)
+pub bit_of-and : (w v k : ℕ) → bit_of (bit_and w v) k ≡ min (bit_of w k) (bit_of v k)
 unfolding bit_of
-bitOf-and w v k =
+bit_of-and w v k =
     ap (λ (x : ℕ). x % 2) (and_shr w v k)
     ∙ and_mod (w / 2 ^ k) (v / 2 ^ k) 1
     ∙ bit-min (w / 2 ^ k % 2) (v / 2 ^ k % 2) (mod-lt (w / 2 ^ k) (zero-lt-suc 1))
@@ -80,12 +80,12 @@ without-step : (w v : ℕ) → without w v ≡ without (w / 2) (v / 2) * 2 + (w 
 unfolding without
 without-step w v = omega (arith, and_step w v, and_le_l (w / 2) (v / 2), div-add-mod' w 2)
 
-pub bitOf-without : (w v k : ℕ) → bit_of (without w v) k ≡ bit_of w k - bit_of v k
-bitOf-without w v zero =
-    bitOf-zero (without w v) ∙ omega (arith, without-step w v, bitOf-zero w, bitOf-zero v)
-bitOf-without w v (suc k) =
-    bitOf-suc (without w v) k ∙ ap (λ (x : ℕ). bit_of x k) (omega (arith, without-step w v))
-    ∙ bitOf-without (w / 2) (v / 2) k ∙ ap₂ ◌-◌ (sym (bitOf-suc w k)) (sym (bitOf-suc v k))
+pub bit_of-without : (w v k : ℕ) → bit_of (without w v) k ≡ bit_of w k - bit_of v k
+bit_of-without w v zero =
+    bit_of-zero (without w v) ∙ omega (arith, without-step w v, bit_of-zero w, bit_of-zero v)
+bit_of-without w v (suc k) =
+    bit_of-suc (without w v) k ∙ ap (λ (x : ℕ). bit_of x k) (omega (arith, without-step w v))
+    ∙ bit_of-without (w / 2) (v / 2) k ∙ ap₂ ◌-◌ (sym (bit_of-suc w k)) (sym (bit_of-suc v k))
 
 and_last : (w v : ℕ)
     → without (w / 2) (v / 2) * 2 + min (w % 2) (1 - v % 2) ≡ without (w / 2) (v / 2) * 2 + (w % 2 - v % 2)
@@ -104,9 +104,9 @@ without-and (suc n) w v hw hv =
 
 -- ---- one bit
 
-bitOf-nothing : (k : ℕ) → bit_of 0 k ≡ 0
+bit_of-nothing : (k : ℕ) → bit_of 0 k ≡ 0
 unfolding bit_of
-bitOf-nothing k = ap (λ (x : ℕ). x % 2) (native.Mathlib.Nat.zero-div (2 ^ k))
+bit_of-nothing k = ap (λ (x : ℕ). x % 2) (native.Mathlib.Nat.zero-div (2 ^ k))
 
 half_pow : (k : ℕ) → 2 ^ suc k / 2 ≡ 2 ^ k
 half_pow k = omega (arith, pow-suc 2 k)
@@ -117,10 +117,10 @@ pow-bit-same k = ap (λ (x : ℕ). x % 2) (native.Mathlib.Nat.div_self (pow_pos 
 
 pow-bit-other : (k j : ℕ) → j ≢ k → bit_of (2 ^ k) j ≡ 0
 pow-bit-other zero zero h = absurd (h refl)
-pow-bit-other zero (suc j) h = bitOf-suc 1 j ∙ bitOf-nothing j
-pow-bit-other (suc k) zero h = bitOf-zero (2 ^ suc k) ∙ omega (arith, pow-suc 2 k)
+pow-bit-other zero (suc j) h = bit_of-suc 1 j ∙ bit_of-nothing j
+pow-bit-other (suc k) zero h = bit_of-zero (2 ^ suc k) ∙ omega (arith, pow-suc 2 k)
 pow-bit-other (suc k) (suc j) h =
-    bitOf-suc (2 ^ suc k) j ∙ ap (λ (x : ℕ). bit_of x j) (half_pow k) ∙ pow-bit-other k j (λ e. h (ap suc e))
+    bit_of-suc (2 ^ suc k) j ∙ ap (λ (x : ℕ). bit_of x j) (half_pow k) ∙ pow-bit-other k j (λ e. h (ap suc e))
 
 or_digits : (w b p : ℕ) → (w / 2 + b * p) * 2 + max (w % 2) (p * 2 % 2) ≡ w + b * (p * 2)
 or_digits w b p = omega arith
@@ -129,76 +129,76 @@ and-digits : (w b p : ℕ) → b * p * 2 + min (w % 2) (p * 2 % 2) ≡ b * (p * 
 and-digits w b p = omega arith
 
 -- what `w | (1 << k)` gives
-pub withBit-or : (w k : ℕ) → bit_or w (2 ^ k) ≡ withBit w k
-unfolding withBit
-withBit-or w zero = or_step w 1 ∙ omega (arith, or_zero_r (w / 2), bitOf-zero w)
-withBit-or w (suc k) =
+pub with_bit-or : (w k : ℕ) → bit_or w (2 ^ k) ≡ with_bit w k
+unfolding with_bit
+with_bit-or w zero = or_step w 1 ∙ omega (arith, or_zero_r (w / 2), bit_of-zero w)
+with_bit-or w (suc k) =
     or_step w (2 ^ suc k) ∙ ap (λ (x : ℕ). bit_or (w / 2) x * 2 + max (w % 2) (2 ^ suc k % 2)) (half_pow k)
-    ∙ rw (withBit-or (w / 2) k, bitOf-suc, pow-suc) (or_digits w (1 - bit_of (w / 2) k) (2 ^ k))
+    ∙ rw (with_bit-or (w / 2) k, bit_of-suc, pow-suc) (or_digits w (1 - bit_of (w / 2) k) (2 ^ k))
 
 -- what `w & (1 << k)` gives
 and_pow : (w k : ℕ) → bit_and w (2 ^ k) ≡ bit_of w k * 2 ^ k
-and_pow w zero = and_step w 1 ∙ omega (arith, and_zero_r (w / 2), bitOf-zero w)
+and_pow w zero = and_step w 1 ∙ omega (arith, and_zero_r (w / 2), bit_of-zero w)
 and_pow w (suc k) =
     and_step w (2 ^ suc k) ∙ ap (λ (x : ℕ). bit_and (w / 2) x * 2 + min (w % 2) (2 ^ suc k % 2)) (half_pow k)
-    ∙ rw (and_pow (w / 2) k, bitOf-suc, pow-suc) (and-digits w (bit_of (w / 2) k) (2 ^ k))
+    ∙ rw (and_pow (w / 2) k, bit_of-suc, pow-suc) (and-digits w (bit_of (w / 2) k) (2 ^ k))
 
-pub withBit-union : (w k : ℕ) → withBit w k ≡ union w (2 ^ k)
+pub with_bit-union : (w k : ℕ) → with_bit w k ≡ union w (2 ^ k)
 unfolding union
-withBit-union w k = sym (withBit-or w k)
+with_bit-union w k = sym (with_bit-or w k)
 
-pub withoutBit-without : (w k : ℕ) → withoutBit w k ≡ without w (2 ^ k)
-unfolding withoutBit without
-withoutBit-without w k = ap (λ (x : ℕ). w - x) (sym (and_pow w k))
+pub without_bit-without : (w k : ℕ) → without_bit w k ≡ without w (2 ^ k)
+unfolding without_bit without
+without_bit-without w k = ap (λ (x : ℕ). w - x) (sym (and_pow w k))
 
-pub bitOf-withBit-same : (w k : ℕ) → bit_of (withBit w k) k ≡ 1
-bitOf-withBit-same w k =
-    ap (λ (x : ℕ). bit_of x k) (withBit-union w k) ∙ bitOf-union w (2 ^ k) k
-    ∙ omega (arith, pow-bit-same k, bitOf-lt w k)
+pub bit_of-with_bit-same : (w k : ℕ) → bit_of (with_bit w k) k ≡ 1
+bit_of-with_bit-same w k =
+    ap (λ (x : ℕ). bit_of x k) (with_bit-union w k) ∙ bit_of-union w (2 ^ k) k
+    ∙ omega (arith, pow-bit-same k, bit_of-lt w k)
 
-pub bitOf-withBit-other : (w k j : ℕ) → j ≢ k → bit_of (withBit w k) j ≡ bit_of w j
-bitOf-withBit-other w k j h =
-    ap (λ (x : ℕ). bit_of x j) (withBit-union w k) ∙ bitOf-union w (2 ^ k) j
+pub bit_of-with_bit-other : (w k j : ℕ) → j ≢ k → bit_of (with_bit w k) j ≡ bit_of w j
+bit_of-with_bit-other w k j h =
+    ap (λ (x : ℕ). bit_of x j) (with_bit-union w k) ∙ bit_of-union w (2 ^ k) j
     ∙ omega (arith, pow-bit-other k j h)
 
-pub bitOf-withoutBit-same : (w k : ℕ) → bit_of (withoutBit w k) k ≡ 0
-bitOf-withoutBit-same w k =
-    ap (λ (x : ℕ). bit_of x k) (withoutBit-without w k) ∙ bitOf-without w (2 ^ k) k
-    ∙ omega (arith, pow-bit-same k, bitOf-lt w k)
+pub bit_of-without_bit-same : (w k : ℕ) → bit_of (without_bit w k) k ≡ 0
+bit_of-without_bit-same w k =
+    ap (λ (x : ℕ). bit_of x k) (without_bit-without w k) ∙ bit_of-without w (2 ^ k) k
+    ∙ omega (arith, pow-bit-same k, bit_of-lt w k)
 
-pub bitOf-withoutBit-other : (w k j : ℕ) → j ≢ k → bit_of (withoutBit w k) j ≡ bit_of w j
-bitOf-withoutBit-other w k j h =
-    ap (λ (x : ℕ). bit_of x j) (withoutBit-without w k) ∙ bitOf-without w (2 ^ k) j
+pub bit_of-without_bit-other : (w k j : ℕ) → j ≢ k → bit_of (without_bit w k) j ≡ bit_of w j
+bit_of-without_bit-other w k j h =
+    ap (λ (x : ℕ). bit_of x j) (without_bit-without w k) ∙ bit_of-without w (2 ^ k) j
     ∙ omega (arith, pow-bit-other k j h)
 
 -- ---- as truth values
 
-pub hasBit-one : (w k : ℕ) → bit_of w k ≡ 1 → hasBit w k ≡ true
-unfolding hasBit
-hasBit-one w k e = eq-eqb (bit_of w k) 1 e
+pub has_bit-one : (w k : ℕ) → bit_of w k ≡ 1 → has_bit w k ≡ true
+unfolding has_bit
+has_bit-one w k e = eq-eqb (bit_of w k) 1 e
 
-pub hasBit-none : (w k : ℕ) → bit_of w k ≡ 0 → hasBit w k ≡ false
-unfolding hasBit
-hasBit-none w k e = ne_eqb (bit_of w k) 1 (λ q. omega arith)
+pub has_bit-none : (w k : ℕ) → bit_of w k ≡ 0 → has_bit w k ≡ false
+unfolding has_bit
+has_bit-none w k e = ne_eqb (bit_of w k) 1 (λ q. omega arith)
 
-pub hasBit-bitOf : (w k v j : ℕ) → bit_of w k ≡ bit_of v j → hasBit w k ≡ hasBit v j
-unfolding hasBit
-hasBit-bitOf w k v j e = ap (λ (x : ℕ). eqb x 1) e
+pub has_bit-bit_of : (w k v j : ℕ) → bit_of w k ≡ bit_of v j → has_bit w k ≡ has_bit v j
+unfolding has_bit
+has_bit-bit_of w k v j e = ap (λ (x : ℕ). eqb x 1) e
 
-pub hasBit-nothing : (k : ℕ) → hasBit 0 k ≡ false
-hasBit-nothing k = hasBit-none 0 k (bitOf-nothing k)
+pub has_bit-nothing : (k : ℕ) → has_bit 0 k ≡ false
+has_bit-nothing k = has_bit-none 0 k (bit_of-nothing k)
 
-pub hasBit-withBit-same : (w k : ℕ) → hasBit (withBit w k) k ≡ true
-hasBit-withBit-same w k = hasBit-one (withBit w k) k (bitOf-withBit-same w k)
+pub has_bit-with_bit-same : (w k : ℕ) → has_bit (with_bit w k) k ≡ true
+has_bit-with_bit-same w k = has_bit-one (with_bit w k) k (bit_of-with_bit-same w k)
 
-pub hasBit-withBit-other : (w k j : ℕ) → j ≢ k → hasBit (withBit w k) j ≡ hasBit w j
-hasBit-withBit-other w k j h = hasBit-bitOf (withBit w k) j w j (bitOf-withBit-other w k j h)
+pub has_bit-with_bit-other : (w k j : ℕ) → j ≢ k → has_bit (with_bit w k) j ≡ has_bit w j
+has_bit-with_bit-other w k j h = has_bit-bit_of (with_bit w k) j w j (bit_of-with_bit-other w k j h)
 
-pub hasBit-withoutBit-same : (w k : ℕ) → hasBit (withoutBit w k) k ≡ false
-hasBit-withoutBit-same w k = hasBit-none (withoutBit w k) k (bitOf-withoutBit-same w k)
+pub has_bit-without_bit-same : (w k : ℕ) → has_bit (without_bit w k) k ≡ false
+has_bit-without_bit-same w k = has_bit-none (without_bit w k) k (bit_of-without_bit-same w k)
 
-pub hasBit-withoutBit-other : (w k j : ℕ) → j ≢ k → hasBit (withoutBit w k) j ≡ hasBit w j
-hasBit-withoutBit-other w k j h = hasBit-bitOf (withoutBit w k) j w j (bitOf-withoutBit-other w k j h)
+pub has_bit-without_bit-other : (w k j : ℕ) → j ≢ k → has_bit (without_bit w k) j ≡ has_bit w j
+has_bit-without_bit-other w k j h = has_bit-bit_of (without_bit w k) j w j (bit_of-without_bit-other w k j h)
 
 -- a bit is 0 or 1
 pub bit-cases : (P : ℕ → Type 0) → P 0 → P 1 → (x : ℕ) → x < 2 → P x
@@ -227,23 +227,23 @@ bool-sub x y hx hy =
     (bit-cases (λ (b : ℕ). eqb (1 - b) 1 ≡ (eqb 1 1 && not (eqb b 1))) refl refl y hy)
     x hx
 
-pub hasBit-union : (w v k : ℕ) → hasBit (union w v) k ≡ (hasBit w k || hasBit v k)
-unfolding hasBit
-hasBit-union w v k =
-    ap (λ (x : ℕ). eqb x 1) (bitOf-union w v k)
-    ∙ bool-max (bit_of w k) (bit_of v k) (bitOf-lt w k) (bitOf-lt v k)
+pub has_bit-union : (w v k : ℕ) → has_bit (union w v) k ≡ (has_bit w k || has_bit v k)
+unfolding has_bit
+has_bit-union w v k =
+    ap (λ (x : ℕ). eqb x 1) (bit_of-union w v k)
+    ∙ bool-max (bit_of w k) (bit_of v k) (bit_of-lt w k) (bit_of-lt v k)
 
-pub hasBit-and : (w v k : ℕ) → hasBit (bit_and w v) k ≡ (hasBit w k && hasBit v k)
-unfolding hasBit
-hasBit-and w v k =
-    ap (λ (x : ℕ). eqb x 1) (bitOf-and w v k)
-    ∙ bool-min (bit_of w k) (bit_of v k) (bitOf-lt w k) (bitOf-lt v k)
+pub has_bit-and : (w v k : ℕ) → has_bit (bit_and w v) k ≡ (has_bit w k && has_bit v k)
+unfolding has_bit
+has_bit-and w v k =
+    ap (λ (x : ℕ). eqb x 1) (bit_of-and w v k)
+    ∙ bool-min (bit_of w k) (bit_of v k) (bit_of-lt w k) (bit_of-lt v k)
 
-pub hasBit-without : (w v k : ℕ) → hasBit (without w v) k ≡ (hasBit w k && not (hasBit v k))
-unfolding hasBit
-hasBit-without w v k =
-    ap (λ (x : ℕ). eqb x 1) (bitOf-without w v k)
-    ∙ bool-sub (bit_of w k) (bit_of v k) (bitOf-lt w k) (bitOf-lt v k)
+pub has_bit-without : (w v k : ℕ) → has_bit (without w v) k ≡ (has_bit w k && not (has_bit v k))
+unfolding has_bit
+has_bit-without w v k =
+    ap (λ (x : ℕ). eqb x 1) (bit_of-without w v k)
+    ∙ bool-sub (bit_of w k) (bit_of v k) (bit_of-lt w k) (bit_of-lt v k)
 
 bool-bit : (x y : ℕ) → x < 2 → y < 2 → eqb x 1 ≡ eqb y 1 → x ≡ y
 bool-bit x y hx hy =
@@ -252,11 +252,11 @@ bool-bit x y hx hy =
     (bit-cases (λ (b : ℕ). eqb 1 1 ≡ eqb b 1 → 1 ≡ b) (λ e. absurd (true≢false e)) (λ e. refl) y hy)
     x hx
 
-pub hasBit-ext : (n : ℕ) (w v : ℕ) → w < 2 ^ n → v < 2 ^ n → ((k : ℕ) → k < n → hasBit w k ≡ hasBit v k)
+pub has_bit-ext : (n : ℕ) (w v : ℕ) → w < 2 ^ n → v < 2 ^ n → ((k : ℕ) → k < n → has_bit w k ≡ has_bit v k)
     → w ≡ v
-unfolding hasBit
-hasBit-ext n w v hw hv h =
-    bits-ext n w v hw hv (λ k l. bool-bit (bit_of w k) (bit_of v k) (bitOf-lt w k) (bitOf-lt v k) (h k l))
+unfolding has_bit
+has_bit-ext n w v hw hv h =
+    bits-ext n w v hw hv (λ k l. bool-bit (bit_of w k) (bit_of v k) (bit_of-lt w k) (bit_of-lt v k) (h k l))
 
 -- ---- how large
 
@@ -268,30 +268,30 @@ pub without-le : (w v : ℕ) → without w v ≤ w
 unfolding without
 without-le w v = omega arith
 
-pub withBit-lt : (n w k : ℕ) → w < 2 ^ n → k < n → withBit w k < 2 ^ n
-withBit-lt n w k hw hk = rw withBit-union (union-lt n w (2 ^ k) hw (pow-lt hk))
+pub with_bit-lt : (n w k : ℕ) → w < 2 ^ n → k < n → with_bit w k < 2 ^ n
+with_bit-lt n w k hw hk = rw with_bit-union (union-lt n w (2 ^ k) hw (pow-lt hk))
 
-pub withoutBit-le : (w k : ℕ) → withoutBit w k ≤ w
-unfolding withoutBit
-withoutBit-le w k = omega arith
+pub without_bit-le : (w k : ℕ) → without_bit w k ≤ w
+unfolding without_bit
+without_bit-le w k = omega arith
 
 -- ---- a bit put as a test says
 
-pub putBit-on : (w k : ℕ) (b : Bool) → b ≡ true → put_bit w k b ≡ withBit w k
+pub put_bit-on : (w k : ℕ) (b : Bool) → b ≡ true → put_bit w k b ≡ with_bit w k
 unfolding put_bit
-putBit-on w k b e = simp e
+put_bit-on w k b e = simp e
 
-pub putBit-off : (w k : ℕ) (b : Bool) → b ≡ false → put_bit w k b ≡ withoutBit w k
+pub put_bit-off : (w k : ℕ) (b : Bool) → b ≡ false → put_bit w k b ≡ without_bit w k
 unfolding put_bit
-putBit-off w k b e = simp e
+put_bit-off w k b e = simp e
 
-pub hasBit-putBit-same : (w k : ℕ) (b : Bool) → hasBit (put_bit w k b) k ≡ b
-hasBit-putBit-same w k true = ap (λ (x : ℕ). hasBit x k) (putBit-on w k true refl) ∙ hasBit-withBit-same w k
-hasBit-putBit-same w k false =
-    ap (λ (x : ℕ). hasBit x k) (putBit-off w k false refl) ∙ hasBit-withoutBit-same w k
+pub has_bit-put_bit-same : (w k : ℕ) (b : Bool) → has_bit (put_bit w k b) k ≡ b
+has_bit-put_bit-same w k true = ap (λ (x : ℕ). has_bit x k) (put_bit-on w k true refl) ∙ has_bit-with_bit-same w k
+has_bit-put_bit-same w k false =
+    ap (λ (x : ℕ). has_bit x k) (put_bit-off w k false refl) ∙ has_bit-without_bit-same w k
 
-pub hasBit-putBit-other : (w k : ℕ) (b : Bool) (j : ℕ) → j ≢ k → hasBit (put_bit w k b) j ≡ hasBit w j
-hasBit-putBit-other w k true j n =
-    ap (λ (x : ℕ). hasBit x j) (putBit-on w k true refl) ∙ hasBit-withBit-other w k j n
-hasBit-putBit-other w k false j n =
-    ap (λ (x : ℕ). hasBit x j) (putBit-off w k false refl) ∙ hasBit-withoutBit-other w k j n
+pub has_bit-put_bit-other : (w k : ℕ) (b : Bool) (j : ℕ) → j ≢ k → has_bit (put_bit w k b) j ≡ has_bit w j
+has_bit-put_bit-other w k true j n =
+    ap (λ (x : ℕ). has_bit x j) (put_bit-on w k true refl) ∙ has_bit-with_bit-other w k j n
+has_bit-put_bit-other w k false j n =
+    ap (λ (x : ℕ). has_bit x j) (put_bit-off w k false refl) ∙ has_bit-without_bit-other w k j n

@@ -10,9 +10,9 @@ use lib.Dec.{lit<, lit≤}
 use lib.Arith.{digits_mod}
 use lib.Pow.{pow_pos, shl_exact, mod-mod-pow, shr-shr}
 use lib.Bits.{bit_and, bit_or, and_mask, or_shifted}
-use Rattle.words.specs.Bits.{bit_of, hasBit}
+use Rattle.words.specs.Bits.{bit_of, has_bit}
 use Rattle.words.specs.Parts.{reversed, low, high, joined, field_of, packed}
-use Rattle.words.proofs.BitsLaws.{hasBit-bitOf}
+use Rattle.words.proofs.BitsLaws.{has_bit-bit_of}
 
 -- ---- what the code's shifts and masks give
 
@@ -21,10 +21,10 @@ pub one_shl : (n k : ℕ) → k < n → 1 * 2 ^ k % 2 ^ n ≡ 2 ^ k
 one_shl n k h = shl_exact 1 k n (lit< tt) (omega arith) ∙ one-mul (2 ^ k)
 
 -- `(w >> at) & ((1 << size) - 1)` at n bits
-pub fieldOf-and : (n w at size : ℕ) → size < n
+pub field_of-and : (n w at size : ℕ) → size < n
     → bit_and (w / 2 ^ at) (1 * 2 ^ size % 2 ^ n - 1) ≡ field_of w at size
 unfolding field_of
-fieldOf-and n w at size h =
+field_of-and n w at size h =
     ap (λ (x : ℕ). bit_and (w / 2 ^ at) (x - 1)) (one_shl n size h) ∙ and_mask (w / 2 ^ at) size
 
 -- `(hi << at) | lo` at n bits
@@ -117,23 +117,23 @@ reversed-back w h =
     ∙ ap reversed (reversed-bytes (w / 2 ^ 24) (w / 2 ^ 16 % 256) (w / 2 ^ 8 % 256) (w % 256) top b c d)
     ∙ reversed-bytes (w % 256) (w / 2 ^ 8 % 256) (w / 2 ^ 16 % 256) (w / 2 ^ 24) d c b top ∙ sym bytes
 
-pub fieldOf-lt : (w at size : ℕ) → field_of w at size < 2 ^ size
+pub field_of-lt : (w at size : ℕ) → field_of w at size < 2 ^ size
 unfolding field_of
-fieldOf-lt w at size = mod-lt (w / 2 ^ at) (pow_pos size)
+field_of-lt w at size = mod-lt (w / 2 ^ at) (pow_pos size)
 
-pub fieldOf-is : (w at size : ℕ) → field_of w at size ≡ w / 2 ^ at % 2 ^ size
+pub field_of-is : (w at size : ℕ) → field_of w at size ≡ w / 2 ^ at % 2 ^ size
 unfolding field_of
-fieldOf-is w at size = refl
+field_of-is w at size = refl
 
 pub packed-is : (hi at lo : ℕ) → packed hi at lo ≡ hi * 2 ^ at + lo
 unfolding packed
 packed-is hi at lo = refl
 
 -- the field that was put above is read there, and what lies below stays
-pub fieldOf-packed : (hi at lo size : ℕ) → lo < 2 ^ at → hi < 2 ^ size
+pub field_of-packed : (hi at lo size : ℕ) → lo < 2 ^ at → hi < 2 ^ size
     → field_of (packed hi at lo) at size ≡ hi
 unfolding field_of packed
-fieldOf-packed hi at lo size hlo hhi = ap (λ (x : ℕ). x % 2 ^ size) (lib.Pow.high hi at hlo)
+field_of-packed hi at lo size hlo hhi = ap (λ (x : ℕ). x % 2 ^ size) (lib.Pow.high hi at hlo)
     ∙ mod-eq_of_lt hhi
 
 pub packed-low : (hi at lo : ℕ) → lo < 2 ^ at → packed hi at lo % 2 ^ at ≡ lo
@@ -142,40 +142,40 @@ packed-low hi at lo h = lib.Pow.low hi at h
 
 -- ---- the bits of halves
 
-bitOf-mod : (w n k : ℕ) → k < n → bit_of (w % 2 ^ n) k ≡ bit_of w k
+bit_of-mod : (w n k : ℕ) → k < n → bit_of (w % 2 ^ n) k ≡ bit_of w k
 unfolding bit_of
-bitOf-mod w n k h =
+bit_of-mod w n k h =
     let above : n ≡ (n - k) + k = omega arith in
     let one : n - k ≡ (n - k - 1) + 1 = omega arith in
     ap (λ (m : ℕ). w % 2 ^ m / 2 ^ k % 2) above ∙ ap (λ (x : ℕ). x % 2) (lib.Pow.field w (n - k) k)
     ∙ ap (λ (m : ℕ). w / 2 ^ k % 2 ^ m % 2) one ∙ mod-mod-pow (w / 2 ^ k) (n - k - 1) 1
 
-pub hasBit-low : (w k : ℕ) → k < 32 → hasBit (low w) k ≡ hasBit w k
+pub has_bit-low : (w k : ℕ) → k < 32 → has_bit (low w) k ≡ has_bit w k
 unfolding low
-hasBit-low w k h = hasBit-bitOf (w % 2 ^ 32) k w k (bitOf-mod w 32 k h)
+has_bit-low w k h = has_bit-bit_of (w % 2 ^ 32) k w k (bit_of-mod w 32 k h)
 
-pub hasBit-high : (w k : ℕ) → hasBit (high w) k ≡ hasBit w (32 + k)
+pub has_bit-high : (w k : ℕ) → has_bit (high w) k ≡ has_bit w (32 + k)
 unfolding high bit_of
-hasBit-high w k = hasBit-bitOf (w / 2 ^ 32) k w (32 + k) (ap (λ (x : ℕ). x % 2) (shr-shr w 32 k))
+has_bit-high w k = has_bit-bit_of (w / 2 ^ 32) k w (32 + k) (ap (λ (x : ℕ). x % 2) (shr-shr w 32 k))
 
-pub hasBit-joined-low : (lo hi k : ℕ) → lo < 2 ^ 32 → k < 32 → hasBit (joined lo hi) k ≡ hasBit lo k
-hasBit-joined-low lo hi k hlo hk =
-    sym (hasBit-low (joined lo hi) k hk) ∙ ap (λ (x : ℕ). hasBit x k) (low-joined lo hi hlo)
+pub has_bit-joined-low : (lo hi k : ℕ) → lo < 2 ^ 32 → k < 32 → has_bit (joined lo hi) k ≡ has_bit lo k
+has_bit-joined-low lo hi k hlo hk =
+    sym (has_bit-low (joined lo hi) k hk) ∙ ap (λ (x : ℕ). has_bit x k) (low-joined lo hi hlo)
 
-pub hasBit-joined-high : (lo hi k : ℕ) → lo < 2 ^ 32 → hasBit (joined lo hi) (32 + k) ≡ hasBit hi k
-hasBit-joined-high lo hi k hlo =
-    sym (hasBit-high (joined lo hi) k) ∙ ap (λ (x : ℕ). hasBit x k) (high-joined lo hi hlo)
+pub has_bit-joined-high : (lo hi k : ℕ) → lo < 2 ^ 32 → has_bit (joined lo hi) (32 + k) ≡ has_bit hi k
+has_bit-joined-high lo hi k hlo =
+    sym (has_bit-high (joined lo hi) k) ∙ ap (λ (x : ℕ). has_bit x k) (high-joined lo hi hlo)
 
 -- two words as one, each of them by its number
-pub hasBit-joined : (word : ℕ → ℕ) → word 0 < 2 ^ 32 → (i : ℕ) → i < 64
-    → hasBit (joined (word 0) (word 1)) i ≡ hasBit (word (i / 32)) (i % 32)
-hasBit-joined word low i h = at (dec_lt i 32)
+pub has_bit-joined : (word : ℕ → ℕ) → word 0 < 2 ^ 32 → (i : ℕ) → i < 64
+    → has_bit (joined (word 0) (word 1)) i ≡ has_bit (word (i / 32)) (i % 32)
+has_bit-joined word low i h = at (dec_lt i 32)
   where
-    at : Dec (i < 32) → hasBit (joined (word 0) (word 1)) i ≡ hasBit (word (i / 32)) (i % 32)
+    at : Dec (i < 32) → has_bit (joined (word 0) (word 1)) i ≡ has_bit (word (i / 32)) (i % 32)
     at (yes l) =
-        hasBit-joined-low (word 0) (word 1) i low l
-        ∙ ap₂ (λ (k b : ℕ). hasBit (word k) b) (omega arith) (omega arith)
+        has_bit-joined-low (word 0) (word 1) i low l
+        ∙ ap₂ (λ (k b : ℕ). has_bit (word k) b) (omega arith) (omega arith)
     at (no l) =
-        ap (hasBit (joined (word 0) (word 1))) (omega arith)
-        ∙ hasBit-joined-high (word 0) (word 1) (i - 32) low
-        ∙ ap₂ (λ (k b : ℕ). hasBit (word k) b) (omega arith) (omega arith)
+        ap (has_bit (joined (word 0) (word 1))) (omega arith)
+        ∙ has_bit-joined-high (word 0) (word 1) (i - 32) low
+        ∙ ap₂ (λ (k b : ℕ). has_bit (word k) b) (omega arith) (omega arith)

@@ -6,17 +6,17 @@
 --   put ws i b      the set with i or without it, as b says
 --   WordsFit ws     each word has 32 bits
 use Rattle.std.specs.Prelude.{ℕ, ◌/◌, ◌%◌, ◌^◌, ◌<◌, Bool, cond, List, get_or, set}
-use Rattle.words.specs.Bits.{hasBit, withBit, withoutBit}
+use Rattle.words.specs.Bits.{has_bit, with_bit, without_bit}
 
 -- [01 X11]
 unfoldable pub member : List ℕ → ℕ → Bool
-member ws i = hasBit (get_or ws (i / 32) 0) (i % 32)
+member ws i = has_bit (get_or ws (i / 32) 0) (i % 32)
 
 unfoldable pub insert : List ℕ → ℕ → List ℕ
-insert ws i = set ws (i / 32) (withBit (get_or ws (i / 32) 0) (i % 32))
+insert ws i = set ws (i / 32) (with_bit (get_or ws (i / 32) 0) (i % 32))
 
 unfoldable pub remove : List ℕ → ℕ → List ℕ
-remove ws i = set ws (i / 32) (withoutBit (get_or ws (i / 32) 0) (i % 32))
+remove ws i = set ws (i / 32) (without_bit (get_or ws (i / 32) 0) (i % 32))
 
 unfoldable pub put : List ℕ → ℕ → Bool → List ℕ
 put ws i b = cond b (insert ws i) (remove ws i)

@@ -1,24 +1,24 @@
 // One bit of a 32-bit word, and all bits of a 64-bit one.
 ghost use Rattle.std.specs.Prelude.{◌≡◌, ◌<◌};
-ghost use Rattle.words.specs.Bits.{hasBit, withBit, withoutBit, put_bit, union, without};
+ghost use Rattle.words.specs.Bits.{has_bit, with_bit, without_bit, put_bit, union, without};
 
 pub fn has_bit(w: u32, k: u32) -> bool
     requires { k < 32 }
-    ensures { result ≡ hasBit w k }
+    ensures { result ≡ has_bit w k }
 {
     (w >> k) & 1 == 1
 }
 
 pub fn with_bit(w: u32, k: u32) -> u32
     requires { k < 32 }
-    ensures { result ≡ withBit w k }
+    ensures { result ≡ with_bit w k }
 {
     w | (1 << k)
 }
 
 pub fn without_bit(w: u32, k: u32) -> u32
     requires { k < 32 }
-    ensures { result ≡ withoutBit w k }
+    ensures { result ≡ without_bit w k }
 {
     w & !(1 << k)
 }

@@ -13,22 +13,22 @@ use lib.Dec.{eqb, lit<}
 use lib.ListN.{get_or}
 use lib.Pow.{pow_pos}
 use borrow.Author.Tests.{eq-eqb, eqb-true, not-true}
-use Rattle.words.specs.Bits.{hasBit, withBit}
+use Rattle.words.specs.Bits.{has_bit, with_bit}
 use Rattle.words.specs.Parts.{joined}
 use Rattle.words.specs.Sets.{member}
 use Rattle.words.specs.Every.{every}
-use Rattle.words.proofs.BitsLaws.{hasBit-and, hasBit-nothing, hasBit-withBit-same, hasBit-withBit-other}
-use Rattle.words.proofs.BitsLaws.{hasBit-ext, hasBit-none, withBit-lt}
-use Rattle.words.proofs.ZerosLaws.{bitOf-high}
-use Rattle.words.proofs.PartsLaws.{hasBit-joined}
+use Rattle.words.proofs.BitsLaws.{has_bit-and, has_bit-nothing, has_bit-with_bit-same, has_bit-with_bit-other}
+use Rattle.words.proofs.BitsLaws.{has_bit-ext, has_bit-none, with_bit-lt}
+use Rattle.words.proofs.ZerosLaws.{bit_of-high}
+use Rattle.words.proofs.PartsLaws.{has_bit-joined}
 use Rattle.words.proofs.SetsLaws.{member-word}
 use Rattle.words.proofs.EveryLaws.{every-each, every_of}
 use Rattle.words.proofs.TestsLaws.{tested, same_truth, and_first, and_second, and_both}
 use Rattle.words_masks.specs.Masks.{common, gathered}
 
-pub hasBit-common : (w v k : ℕ) → hasBit (common w v) k ≡ (hasBit w k && hasBit v k)
+pub has_bit-common : (w v k : ℕ) → has_bit (common w v) k ≡ (has_bit w k && has_bit v k)
 unfolding common
-hasBit-common w v k = hasBit-and w v k
+has_bit-common w v k = has_bit-and w v k
 
 pub common-lt : (n w v : ℕ) → w < 2 ^ n → common w v < 2 ^ n
 unfolding common
@@ -37,7 +37,7 @@ common-lt n w v h = lt_of_le_of_lt (and_le_l w v) h
 -- ---- what is gathered
 
 module _ (p : ℕ → Bool) where
-  pub gathered-more : (n : ℕ) → gathered p (n + 1) ≡ cond (p n) (withBit (gathered p n) n) (gathered p n)
+  pub gathered-more : (n : ℕ) → gathered p (n + 1) ≡ cond (p n) (with_bit (gathered p n) n) (gathered p n)
   unfolding gathered
   gathered-more n = let e : n + 1 ≡ suc n = omega arith in rw e
 
@@ -50,39 +50,39 @@ module _ (p : ℕ → Bool) where
   gathered-lt zero = lit< tt
   gathered-lt (suc n) =
       let less : gathered p n < 2 ^ suc n = omega (arith, gathered-lt n, pow-suc 2 n) in
-      tested (p n) (λ t. simp t (withBit-lt (suc n) (gathered p n) n less (omega arith))) (λ f. simp f less)
+      tested (p n) (λ t. simp t (with_bit-lt (suc n) (gathered p n) n less (omega arith))) (λ f. simp f less)
 
-  hasBit-gathered-next : (n : ℕ) → hasBit (gathered p (suc n)) n ≡ p n
+  has_bit-gathered-next : (n : ℕ) → has_bit (gathered p (suc n)) n ≡ p n
   unfolding gathered
-  hasBit-gathered-next n =
-      tested (p n) (λ t. simp t (hasBit-withBit-same (gathered p n) n))
-      (λ f. simp f (hasBit-none (gathered p n) n
-      (bitOf-high n (gathered p n) n (gathered-lt n) (omega arith))))
+  has_bit-gathered-next n =
+      tested (p n) (λ t. simp t (has_bit-with_bit-same (gathered p n) n))
+      (λ f. simp f (has_bit-none (gathered p n) n
+      (bit_of-high n (gathered p n) n (gathered-lt n) (omega arith))))
 
-  hasBit-gathered-rest : (n j : ℕ) → j ≢ n → hasBit (gathered p (suc n)) j ≡ hasBit (gathered p n) j
+  has_bit-gathered-rest : (n j : ℕ) → j ≢ n → has_bit (gathered p (suc n)) j ≡ has_bit (gathered p n) j
   unfolding gathered
-  hasBit-gathered-rest n j h =
-      tested (p n) (λ t. simp t (hasBit-withBit-other (gathered p n) n j h)) (λ f. simp f)
+  has_bit-gathered-rest n j h =
+      tested (p n) (λ t. simp t (has_bit-with_bit-other (gathered p n) n j h)) (λ f. simp f)
 
-  pub hasBit-gathered : (n j : ℕ) → j < n → hasBit (gathered p n) j ≡ p j
-  hasBit-gathered zero j h = absurd (omega arith)
-  hasBit-gathered (suc n) j h = at (ℕ_discrete j n) (λ l. hasBit-gathered n j l)
+  pub has_bit-gathered : (n j : ℕ) → j < n → has_bit (gathered p n) j ≡ p j
+  has_bit-gathered zero j h = absurd (omega arith)
+  has_bit-gathered (suc n) j h = at (ℕ_discrete j n) (λ l. has_bit-gathered n j l)
     where
-      at : Dec (j ≡ n) → (j < n → hasBit (gathered p n) j ≡ p j) → hasBit (gathered p (suc n)) j ≡ p j
-      at (yes e) below = rw e (hasBit-gathered-next n)
-      at (no d) below = hasBit-gathered-rest n j d ∙ below (omega arith)
+      at : Dec (j ≡ n) → (j < n → has_bit (gathered p n) j ≡ p j) → has_bit (gathered p (suc n)) j ≡ p j
+      at (yes e) below = rw e (has_bit-gathered-next n)
+      at (no d) below = has_bit-gathered-rest n j d ∙ below (omega arith)
 
 -- ---- a word with no bits
 
 -- a word is 0 exactly if it has no bit
-pub none-every : (n w : ℕ) → w < 2 ^ n → eqb w 0 ≡ every (λ j. not (hasBit w j)) 0 n
+pub none-every : (n w : ℕ) → w < 2 ^ n → eqb w 0 ≡ every (λ j. not (has_bit w j)) 0 n
 none-every n w h =
-    same_truth (eqb w 0) (every (λ j. not (hasBit w j)) 0 n)
-    (λ e. every_of (λ j. not (hasBit w j)) 0 n
-    (λ j l m. rw (eqb-true w 0 e, hasBit-nothing j)))
-    (λ e. eq-eqb w 0 (hasBit-ext n w 0 h (pow_pos n)
-    (λ k l. not-true (hasBit w k) (every-each (λ j. not (hasBit w j)) 0 n e k (omega arith) (omega arith))
-    ∙ sym (hasBit-nothing k))))
+    same_truth (eqb w 0) (every (λ j. not (has_bit w j)) 0 n)
+    (λ e. every_of (λ j. not (has_bit w j)) 0 n
+    (λ j l m. rw (eqb-true w 0 e, has_bit-nothing j)))
+    (λ e. eq-eqb w 0 (has_bit-ext n w 0 h (pow_pos n)
+    (λ k l. not-true (has_bit w k) (every-each (λ j. not (has_bit w j)) 0 n e k (omega arith) (omega arith))
+    ∙ sym (has_bit-nothing k))))
 
 -- two words together are 0 exactly if each is
 pub or-none : (w v : ℕ) → eqb (bit_or w v) 0 ≡ (eqb w 0 && eqb v 0)
@@ -102,6 +102,6 @@ or-none w v =
 
 -- ---- two words of a set in one
 
-pub hasBit-set : (ws : List ℕ) (j : ℕ) → get_or ws 0 0 < 2 ^ 32 → j < 64
-    → hasBit (joined (get_or ws 0 0) (get_or ws 1 0)) j ≡ member ws j
-hasBit-set ws j h l = hasBit-joined (λ (k : ℕ). get_or ws k 0) h j l ∙ member-word ws j
+pub has_bit-set : (ws : List ℕ) (j : ℕ) → get_or ws 0 0 < 2 ^ 32 → j < 64
+    → has_bit (joined (get_or ws 0 0) (get_or ws 1 0)) j ≡ member ws j
+has_bit-set ws j h l = has_bit-joined (λ (k : ℕ). get_or ws k 0) h j l ∙ member-word ws j

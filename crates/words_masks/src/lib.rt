@@ -1,11 +1,11 @@
 // Sets of numbers below 64, each as one word: a test of all members at once takes an operation or two.
 ghost use Rattle.std.specs.Prelude.{◌≡◌, ◌<◌};
-ghost use Rattle.words.specs.Bits.{withBit};
+ghost use Rattle.words.specs.Bits.{with_bit};
 ghost use Rattle.words_masks.specs.Masks.{common};
 
 pub fn with_bit64(w: u64, k: u32) -> u64
     requires { k < 64 }
-    ensures { result ≡ withBit w k }
+    ensures { result ≡ with_bit w k }
 {
     w | (1 << k)
 }

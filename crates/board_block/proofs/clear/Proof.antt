@@ -10,14 +10,14 @@ use borrow.Author.Rules.{rules}
 use Rattle.board_block.proofs.StartLaws.{all-filled}
 use Rattle.board_block.proofs.clear.Statement.{statement}
 use Rattle.board_block.proofs.clear.Tie as tie
-use Rattle.sizes.specs.Sizes.{blockSize}
+use Rattle.sizes.specs.Sizes.{block_size}
 
 abbrev invariant-loop : tie.invariant-loop
 invariant-loop state₀ i₀ state i =
-    (i ≤ blockSize) × (length state ≡ blockSize) × (state ≡ replicate i 0 ++ drop i state₀)
+    (i ≤ block_size) × (length state ≡ block_size) × (state ≡ replicate i 0 ++ drop i state₀)
 
 abbrev decreases-loop : tie.decreases-loop
-decreases-loop state₀ i₀ state i = blockSize - i
+decreases-loop state₀ i₀ state i = block_size - i
 
 loop-holds : tie.Need-loop-init invariant-loop decreases-loop
 loop-holds c = (omega arith, search rules, refl)
@@ -51,7 +51,7 @@ returns : tie.Need-returns invariant-loop decreases-loop
 returns c =
     let at-loop = c.before.loop in
     at-loop.invariant.2
-    ∙ all-filled c.before.before.args.state.now at-loop.i blockSize (omega arith) (omega arith)
+    ∙ all-filled c.before.before.args.state.now at-loop.i block_size (omega arith) (omega arith)
 
 pub clear_spec : {M : Type 1} → statement M
 clear_spec =

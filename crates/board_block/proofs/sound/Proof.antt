@@ -1,8 +1,8 @@
 -- `board_block::sound` meets its contract: the files, and the wired controller. Assumes nothing.
 use mathlib.Core.Path.{ap, ◌∙◌}
-use Rattle.files.specs.Files.{filesSound}
-use Rattle.wired_rules.specs.Rules.{wiredSound}
-use Rattle.board_block.specs.Block.{boardOf}
+use Rattle.files.specs.Files.{files_sound}
+use Rattle.wired_rules.specs.Rules.{wired_sound}
+use Rattle.board_block.specs.Block.{board_of}
 use Rattle.board_block.proofs.BlockLaws.{files-part, wired-part, board-sound-read}
 use borrow.Author.Rules.{rules}
 use Rattle.board_block.proofs.sound.Statement.{statement}
@@ -37,9 +37,9 @@ returns c =
     let at-wired = c.before.before in
     let start = at-wired.before.before.before in
     let l = start.args.state.now in
-    board-sound-read (boardOf l) c.sound2.result at-wired.sound.result
-    (c.sound2.ensures ∙ ap filesSound (files-part l start.requires))
-    (at-wired.sound.ensures ∙ ap wiredSound (wired-part l start.requires))
+    board-sound-read (board_of l) c.sound2.result at-wired.sound.result
+    (c.sound2.ensures ∙ ap files_sound (files-part l start.requires))
+    (at-wired.sound.ensures ∙ ap wired_sound (wired-part l start.requires))
 
 pub sound-spec : {M : Type 1} → statement M
 sound-spec =

@@ -1,13 +1,13 @@
 -- `board_block::start` meets its contract: every word 0, then the files. Assumes nothing.
 use mathlib.Core.Path.{sym, ap, ◌∙◌}
 use lib.ListN.{length, take}
-use Rattle.board_block.specs.Start.{startBoard}
+use Rattle.board_block.specs.Start.{start_board}
 use Rattle.board_block.proofs.BlockLaws.{board-path, files-long, wired-part, put-files}
 use Rattle.board_block.proofs.StartLaws.{start-wired}
 use borrow.Author.Rules.{rules}
 use Rattle.board_block.proofs.start.Statement.{statement}
 use Rattle.board_block.proofs.start.Tie as tie
-use Rattle.sizes.specs.Sizes.{filesSize}
+use Rattle.sizes.specs.Sizes.{files_size}
 
 clear-requires : tie.Need-clear-requires
 clear-requires c κs = search rules
@@ -22,13 +22,13 @@ part-start-files-end : tie.Need-slice-bounds-start-files-end
 part-start-files-end c = search rules
 
 start-files-requires : tie.Need-start-files-requires
-start-files-requires c κs = ap (take filesSize) c.before.before.before.clear.ensures
+start-files-requires c κs = ap (take files_size) c.before.before.before.clear.ensures
 
 same_length : tie.Need-same-length
 same_length c = search rules
 
 returns : tie.Need-returns
-unfolding startBoard
+unfolding start_board
 returns c =
     let at-files = c.before.before in
     let at_clear = at-files.before.before.before.before in

@@ -5,20 +5,20 @@ use mathlib.Core.Path.{◌≡◌, ap}
 use native.Mathlib.Omega.{arith}
 use lib.ListN.{length}
 use Rattle.files.specs.Files.{files_of}
-use Rattle.files.proofs.FilesLaws.{length-filesOf}
+use Rattle.files.proofs.FilesLaws.{length-files_of}
 use Rattle.board_block.proofs.StartLaws.{Started, started-zeros, started-signal, started-guests}
 use Rattle.board_block.proofs.StartLaws.{start-files}
 use borrow.Author.Rules.{rules}
 use Rattle.board_block.proofs.start_files.Statement.{statement}
 use Rattle.board_block.proofs.start_files.Tie as tie
-use Rattle.sizes.specs.Sizes.{filesSize, fileCount}
+use Rattle.sizes.specs.Sizes.{files_size, file_count}
 
 abbrev invariant-loop : tie.invariant-loop
 invariant-loop files₀ k₀ files k =
-    (k ≤ fileCount) × (k % 5 ≡ 0) × (length files ≡ filesSize) × Started k (files_of files)
+    (k ≤ file_count) × (k % 5 ≡ 0) × (length files ≡ files_size) × Started k (files_of files)
 
 abbrev decreases-loop : tie.decreases-loop
-decreases-loop files₀ k₀ files k = fileCount - k
+decreases-loop files₀ k₀ files k = file_count - k
 
 loop-holds : tie.Need-loop-init invariant-loop decreases-loop
 loop-holds c =
@@ -47,9 +47,9 @@ loop-again c =
     let at-loop = at_first.before.before.before.loop in
     let k = at-loop.k in
     let l = at_first.put-signal.new.0 in
-    let first = started-signal (files_of at-loop.files) (files_of l) k (length-filesOf at-loop.files)
+    let first = started-signal (files_of at-loop.files) (files_of l) k (length-files_of at-loop.files)
     (omega arith) (omega arith) at_first.put-signal.ensures at-loop.invariant.3 in
-    let second = started-signal (files_of l) _ (k + 1) (length-filesOf l) (omega arith) (omega arith)
+    let second = started-signal (files_of l) _ (k + 1) (length-files_of l) (omega arith) (omega arith)
     at_second.put-signal2.ensures first in (
       omega arith,
       omega arith,

@@ -5,14 +5,14 @@ use native.Mathlib.Omega.{arith}
 use lib.ListN.{length, length-take}
 use borrow.Author.Rules.{rules}
 use Rattle.io.specs.Counts.{IsPrefixLen}
-use Rattle.record_lines.specs.Lines.{lineRoom}
+use Rattle.record_lines.specs.Lines.{line_room}
 use Rattle.cases.specs.Lendable.{Lendable}
 use Rattle.cases.proofs.main.Statement.{statement}
 use Rattle.cases.proofs.main.Tie as tie
 
 abbrev invariant-loop : tie.invariant-loop
 invariant-loop state₀ log₀ saved₀ chunk₀ line₀ lent₀ place₀ number₀ state log saved chunk line lent place number =
-    (length chunk ≡ 4096) × IsPrefixLen place.size chunk × (place.at ≤ place.size) × (place.held ≤ lineRoom)
+    (length chunk ≡ 4096) × IsPrefixLen place.size chunk × (place.at ≤ place.size) × (place.held ≤ line_room)
     × (number + place.left < 2 ^ 64) × Lendable lent.state lent.log
 
 abbrev decreases-loop : tie.decreases-loop

@@ -4,19 +4,19 @@ use Prim.Native.Nat.{◌-◌, ◌≤◌, ◌+◌}
 use mathlib.Core.Path.{◌≡◌, refl, sym, ap, ◌∙◌}
 use native.Mathlib.Omega.{arith}
 use lib.ListN.{length}
-use Rattle.domain.specs.Domain.{domainOf, Domain, byMessages}
-use Rattle.domain_domaincfg.specs.Domaincfg.{redeliveredFrom}
+use Rattle.domain.specs.Domain.{domain_of, Domain, by_messages}
+use Rattle.domain_domaincfg.specs.Domaincfg.{redelivered_from}
 use Rattle.domain_domaincfg.proofs.DomaincfgLaws.{redelivered-messages, redelivered-next}
 use Rattle.domain_domaincfg.proofs.DomaincfgLaws.{redelivered-end}
 use borrow.Author.Rules.{rules}
 use Rattle.domain_domaincfg.proofs.redeliver.Statement.{statement}
 use Rattle.domain_domaincfg.proofs.redeliver.Tie as tie
-use Rattle.sizes.specs.Sizes.{domainSize}
+use Rattle.sizes.specs.Sizes.{domain_size}
 
 abbrev invariant-loop : tie.invariant-loop
-invariant-loop part₀ wires messages i₀ part i = (length part ≡ domainSize) × (1 ≤ i) × (i ≤ 64)
-    × (messages ≡ byMessages (domainOf part))
-    × (redeliveredFrom (domainOf part₀) wires 1 63 ≡ redeliveredFrom (domainOf part) wires i (64 - i))
+invariant-loop part₀ wires messages i₀ part i = (length part ≡ domain_size) × (1 ≤ i) × (i ≤ 64)
+    × (messages ≡ by_messages (domain_of part))
+    × (redelivered_from (domain_of part₀) wires 1 63 ≡ redelivered_from (domain_of part) wires i (64 - i))
 
 abbrev decreases-loop : tie.decreases-loop
 decreases-loop part₀ wires messages i₀ part i = 64 - i
@@ -49,9 +49,9 @@ loop-again c =
       omega arith,
       omega arith,
       at-loop.invariant.3 ∙ sym (redelivered-messages _ wires at-loop.i at-loop.invariant.1)
-          ∙ ap byMessages (sym at_call.redeliver-source.ensures),
+          ∙ ap by_messages (sym at_call.redeliver-source.ensures),
       at-loop.invariant.4 ∙ redelivered-next _ wires at-loop.i 64 (omega arith)
-          ∙ ap (λ (d : Domain). redeliveredFrom d wires (at-loop.i + 1) (64 - (at-loop.i + 1)))
+          ∙ ap (λ (d : Domain). redelivered_from d wires (at-loop.i + 1) (64 - (at-loop.i + 1)))
           (sym at_call.redeliver-source.ensures),
     )
 

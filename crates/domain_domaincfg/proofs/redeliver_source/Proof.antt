@@ -2,10 +2,10 @@
 -- Assumes nothing.
 use mathlib.Core.Path.{ap, sym, ◌∙◌}
 use borrow.Author.Tests.{not-true, not-false}
-use Rattle.source_mode.specs.Mode.{isActive, isLevel}
-use Rattle.source_target.specs.Target.{startTarget}
+use Rattle.source_mode.specs.Mode.{is_active, is_level}
+use Rattle.source_target.specs.Target.{start_target}
 use Rattle.source.specs.declared.Source.{Source}
-use Rattle.domain.specs.Domain.{domainOf}
+use Rattle.domain.specs.Domain.{domain_of}
 use Rattle.domain_domaincfg.proofs.DomaincfgLaws.{source-inactive, source-level, source-other}
 use borrow.Author.Rules.{rules}
 use Rattle.domain_domaincfg.proofs.redeliver_source.Statement.{statement}
@@ -24,9 +24,9 @@ returns : tie.Need-returns
 returns c =
     let at_load = c.before.before in
     let args = at_load.before.before.before.args in
-    let active = ap (λ (s : Source). isActive s.mode) (sym at_load.load.ensures)
+    let active = ap (λ (s : Source). is_active s.mode) (sym at_load.load.ensures)
     ∙ sym c.before.active.ensures ∙ not-true _ c.if1.true in
-    source-inactive (domainOf args.part.now) args.wires args.i active
+    source-inactive (domain_of args.part.now) args.wires args.i active
 
 level-requires : tie.Need-level-requires
 level-requires c κs = search rules
@@ -55,11 +55,11 @@ returns-2 c =
     let at_load = at_level.before.before.before in
     let args = at_load.before.before.before.args in
     let read = sym at_load.load.ensures in
-    let active = ap (λ (s : Source). isActive s.mode) read
+    let active = ap (λ (s : Source). is_active s.mode) read
     ∙ sym at_level.before.before.active.ensures ∙ not-false _ at_level.before.if1.false in
-    let level = ap (λ (s : Source). isLevel s.mode) read ∙ sym at_level.level.ensures
+    let level = ap (λ (s : Source). is_level s.mode) read ∙ sym at_level.level.ensures
     ∙ at_value.before.before.if2.true in
-    source-level (domainOf args.part.now) args.wires args.i active level
+    source-level (domain_of args.part.now) args.wires args.i active level
     at_value.redelivered.result (at_value.redelivered.ensures ∙ cc) _ _
     at_Target.put-target.ensures at-pending.put-pending.ensures
 
@@ -80,13 +80,13 @@ returns-3 c =
     let start = at_load.before.before.before in
     let args = start.args in
     let read = sym at_load.load.ensures in
-    let active = ap (λ (s : Source). isActive s.mode) read
+    let active = ap (λ (s : Source). is_active s.mode) read
     ∙ sym at_level.before.before.active.ensures ∙ not-false _ at_level.before.if1.false in
-    let level = ap (λ (s : Source). isLevel s.mode) read ∙ sym at_level.level.ensures
+    let level = ap (λ (s : Source). is_level s.mode) read ∙ sym at_level.level.ensures
     ∙ at-put.before.before.before.if2.false in
     at-put.put-target2.ensures
-    ∙ source-other (domainOf args.part.now) args.wires args.i active level _
-    (at-put.before.start-target.ensures ∙ ap startTarget start.requires.2)
+    ∙ source-other (domain_of args.part.now) args.wires args.i active level _
+    (at-put.before.start-target.ensures ∙ ap start_target start.requires.2)
 
 pub redeliver-source-spec : {M : Type 1} → statement M
 redeliver-source-spec =

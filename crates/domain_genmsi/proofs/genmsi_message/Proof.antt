@@ -2,7 +2,7 @@
 -- of the machine domain. Assumes nothing.
 use Prim.Native.Nat.{ℕ}
 use mathlib.Core.Path.{ap₂, sym, ◌∙◌}
-use Rattle.file_message.specs.Message.{logWord}
+use Rattle.file_message.specs.Message.{log_word}
 use Rattle.domain_genmsi.proofs.GenmsiLaws.{genmsi-child, genmsi-machine}
 use borrow.Author.Rules.{rules}
 use Rattle.domain_genmsi.proofs.genmsi_message.Statement.{statement}
@@ -20,7 +20,7 @@ log-word-requires c κs = search rules
 returns : tie.Need-returns
 returns c =
     c.log-word.ensures
-    ∙ ap₂ (λ (h i : ℕ). logWord h 1 i) c.before.before.hart-of.ensures.0
+    ∙ ap₂ (λ (h i : ℕ). log_word h 1 i) c.before.before.hart-of.ensures.0
     c.before.number_of_lem.ensures.0
     ∙ sym (genmsi-child _ _ c.before.before.before.if1.true)
 
@@ -36,7 +36,7 @@ log-word-requires-2 c κs = search rules
 returns-2 : tie.Need-returns-2
 returns-2 c =
     c.log-word2.ensures
-    ∙ ap₂ (λ (h i : ℕ). logWord h 0 i) c.before.before.hart-of2.ensures.0
+    ∙ ap₂ (λ (h i : ℕ). log_word h 0 i) c.before.before.hart-of2.ensures.0
     c.before.number-of2.ensures.0
     ∙ sym (genmsi-machine _ _ c.before.before.before.if1.false)
 

@@ -2,7 +2,7 @@
 use Prim.Native.Nat.{ℕ}
 use mathlib.Core.Path.{ap₂, ◌∙◌}
 use Rattle.words.specs.Parts.{packed}
-use Rattle.domain_genmsi.specs.Genmsi.{keptGenmsi}
+use Rattle.domain_genmsi.specs.Genmsi.{kept_genmsi}
 use borrow.Author.Rules.{rules}
 use Rattle.domain_genmsi.proofs.kept_genmsi.Statement.{statement}
 use Rattle.domain_genmsi.proofs.kept_genmsi.Tie as tie
@@ -17,7 +17,7 @@ under-hart-requires : tie.Need-under-hart-requires
 under-hart-requires c κs = search rules
 
 returns : tie.Need-returns
-unfolding keptGenmsi
+unfolding kept_genmsi
 returns c = c.under-hart.ensures
     ∙ ap₂ (λ (h n : ℕ). packed h 18 n) c.before.before.hart-of.ensures.0
     c.before.number_of_lem.ensures.0

@@ -2,7 +2,7 @@
 -- nothing.
 use mathlib.Core.Path.{sym, ◌∙◌}
 use borrow.Author.Tests.{not-true, not-false}
-use Rattle.domain.specs.Domain.{domainOf}
+use Rattle.domain.specs.Domain.{domain_of}
 use Rattle.domain_genmsi.proofs.GenmsiLaws.{answered-on, answered-off}
 use borrow.Author.Rules.{rules}
 use Rattle.domain_genmsi.proofs.send_genmsi.Statement.{statement}
@@ -14,7 +14,7 @@ by-messages-requires c κs = search rules
 returns : tie.Need-returns
 returns c =
     let args = c.before.before.before.before.args in
-    answered-off args.child (domainOf args.part.now) args.value
+    answered-off args.child (domain_of args.part.now) args.value
     (sym c.before.by-messages.ensures ∙ not-true _ c.if1.true) args.log.now
 
 genmsi-message-requires : tie.Need-genmsi-message-requires
@@ -30,7 +30,7 @@ returns-2 : tie.Need-returns-2
 returns-2 c =
     let tried = c.before in
     let args = tried.before.before.before.before.args in
-    answered-on args.child (domainOf args.part.now) args.value
+    answered-on args.child (domain_of args.part.now) args.value
     (sym tried.before.by-messages.ensures ∙ not-false _ tried.if1.false) args.log.now
     (search rules) c.genmsi-message.result c.genmsi-message.ensures
 

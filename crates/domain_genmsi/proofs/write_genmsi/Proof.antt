@@ -1,6 +1,6 @@
 -- `domain_genmsi::write_genmsi` meets its contract: only by messages. Assumes nothing.
 use mathlib.Core.Path.{ap, sym, ◌∙◌}
-use Rattle.domain.specs.Domain.{withGenmsi}
+use Rattle.domain.specs.Domain.{with_genmsi}
 use Rattle.domain_genmsi.proofs.GenmsiLaws.{genmsi-messages, genmsi-direct}
 use borrow.Author.Rules.{rules}
 use Rattle.domain_genmsi.proofs.write_genmsi.Statement.{statement}
@@ -21,7 +21,7 @@ same_length c = search rules
 returns : tie.Need-returns
 returns c =
     let at-put = c.before.before in
-    at-put.put-genmsi.ensures ∙ ap (withGenmsi _) at-put.before.kept-genmsi.ensures
+    at-put.put-genmsi.ensures ∙ ap (with_genmsi _) at-put.before.kept-genmsi.ensures
     ∙ sym
     (genmsi-messages _ _ (sym at-put.before.before.before.before.by-messages.ensures
     ∙ at-put.before.before.before.if1.true))

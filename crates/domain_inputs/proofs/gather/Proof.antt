@@ -2,7 +2,7 @@
 use Prim.Native.Nat.{◌-◌, ◌%◌, ◌≤◌}
 use mathlib.Core.Path.{◌≡◌, refl}
 use native.Mathlib.Omega.{arith}
-use Rattle.domain.specs.Domain.{domainOf}
+use Rattle.domain.specs.Domain.{domain_of}
 use Rattle.domain_inputs.specs.Gathering.{RectifiedTo}
 use Rattle.domain_inputs.proofs.GatheringLaws.{rectified-none, rectified-at}
 use borrow.Author.Rules.{rules}
@@ -10,7 +10,7 @@ use Rattle.domain_inputs.proofs.gather.Statement.{statement}
 use Rattle.domain_inputs.proofs.gather.Tie as tie
 
 abbrev invariant-loop : tie.invariant-loop
-invariant-loop part k x₀ b₀ x b = (b ≤ 32) × (b % 8 ≡ 0) × RectifiedTo (domainOf part) k b x
+invariant-loop part k x₀ b₀ x b = (b ≤ 32) × (b % 8 ≡ 0) × RectifiedTo (domain_of part) k b x
 
 abbrev decreases-loop : tie.decreases-loop
 decreases-loop part k x₀ b₀ x b = 32 - b

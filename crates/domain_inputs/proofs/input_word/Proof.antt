@@ -3,7 +3,7 @@
 use Prim.Native.Nat.{ℕ}
 use mathlib.Core.Path.{ap, ap₂, ◌∙◌}
 use native.Mathlib.Omega.{arith}
-use Rattle.words.specs.Bits.{withoutBit, union}
+use Rattle.words.specs.Bits.{without_bit, union}
 use Rattle.words.specs.Parts.{low}
 use Rattle.domain_inputs.proofs.GatheringLaws.{first_word, later-word}
 use borrow.Author.Rules.{rules}
@@ -51,7 +51,7 @@ returns c =
     let at-gather = at-common.before.before in
     let args = at-gather.before.before.args in
     c.without-bit.ensures
-    ∙ ap (λ (w : ℕ). withoutBit w 0)
+    ∙ ap (λ (w : ℕ). without_bit w 0)
     (at_low.low32.ensures
     ∙ ap low (at_low.before.union64.ensures
     ∙ ap₂ union at-common.common64.ensures at-without.without64.ensures))

@@ -1,7 +1,7 @@
 -- `domain_inputs::with_eight` meets its contract: j sources more are in. Assumes nothing.
 use Prim.Native.Nat.{◌+◌, ◌-◌, ◌≤◌}
 use native.Mathlib.Omega.{arith}
-use Rattle.domain.specs.Domain.{domainOf}
+use Rattle.domain.specs.Domain.{domain_of}
 use Rattle.domain_inputs.specs.Gathering.{RectifiedTo}
 use Rattle.domain_inputs.proofs.GatheringLaws.{rectified-at}
 use borrow.Author.Rules.{rules}
@@ -9,7 +9,7 @@ use Rattle.domain_inputs.proofs.with_eight.Statement.{statement}
 use Rattle.domain_inputs.proofs.with_eight.Tie as tie
 
 abbrev invariant-loop : tie.invariant-loop
-invariant-loop x₀ part k b j₀ x j = (j ≤ 8) × RectifiedTo (domainOf part) k (b + j) x
+invariant-loop x₀ part k b j₀ x j = (j ≤ 8) × RectifiedTo (domain_of part) k (b + j) x
 
 abbrev decreases-loop : tie.decreases-loop
 decreases-loop x₀ part k b j₀ x j = 8 - j

@@ -2,7 +2,7 @@
 -- `with_iforce`; what the method answers is what the contract says is left. Assumes nothing.
 use base.Logic.{emp}
 use contract.Monad.{fact_i}
-use Rattle.domain_delivery.specs.Delivery.{withIforce}
+use Rattle.domain_delivery.specs.Delivery.{with_iforce}
 use Rattle.domain_delivery.proofs.Delivery.with_iforce.Symbol as method
 use Rattle.domain_delivery.proofs.Delivery.with_iforce.Met as method-met
 use Rattle.domain_record.proofs.LentWalk.{lent-meets}
@@ -15,7 +15,7 @@ pub set-iforce-spec : {M : Type 1} → stated.statement M
 unfolding code.routine
 set-iforce-spec 𝓤 𝓛 𝓜 𝓡 =
     let contract = setter.clauses 𝓛 𝓜.mem 𝓡.run in
-    lent-meets 𝓛 𝓜 𝓡 withIforce code.env method.name key.name method.routine
+    lent-meets 𝓛 𝓜 𝓡 with_iforce code.env method.name key.name method.routine
     code.calls-domain-delivery::Delivery::with-iforce (code.unfolded 𝓤 𝓛.H 𝓜 𝓡) (method-met.met 𝓤 𝓛 𝓜 𝓡)
     (λ κs r r' v. (contract κs (r, (v, tt))).ensures tt tt (r', (v, tt)))
     (λ κs r v d e. fact_i 𝓤 _ (emp 𝓤) e)

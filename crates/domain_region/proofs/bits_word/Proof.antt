@@ -5,7 +5,7 @@ use mathlib.Core.Path.{ap, sym, ◌∙◌}
 use borrow.Author.Rules.{rules}
 use native.Mathlib.Omega.{arith}
 use Rattle.domain_region.proofs.RegionLaws.{config-unused, bits-unused}
-use Rattle.domain_region.specs.Region.{wordAt}
+use Rattle.domain_region.specs.Region.{word_at}
 use Rattle.domain_region.proofs.bits_word.Statement.{statement}
 use Rattle.domain_region.proofs.bits_word.Tie as tie
 
@@ -16,13 +16,13 @@ bits-of-requires : tie.Need-bits-of-requires
 bits-of-requires c κs = search rules
 
 returns-2 : tie.Need-returns-2
-returns-2 c = c.bits_of.ensures ∙ ap wordAt (omega arith)
+returns-2 c = c.bits_of.ensures ∙ ap word_at (omega arith)
 
 number-of-requires : tie.Need-number-of-requires
 number-of-requires c κs = search rules
 
 returns-3 : tie.Need-returns-3
-returns-3 c = c.number_of_lem.ensures ∙ ap wordAt (omega arith)
+returns-3 c = c.number_of_lem.ensures ∙ ap word_at (omega arith)
 
 returns-4 : tie.Need-returns-4
 returns-4 c = sym (bits-unused _ (omega arith) (omega arith) (omega arith) (omega arith))

@@ -2,15 +2,15 @@
 use mathlib.Core.Path.{ap, sym, ◌∙◌}
 use native.Mathlib.Omega.{arith}
 use Rattle.domain_region.proofs.RegionLaws.{numbers-unused, setipnum-le-at, setipnum-be-at}
-use Rattle.domain_region.specs.Region.{wordAt}
+use Rattle.domain_region.specs.Region.{word_at}
 use Rattle.domain_region.proofs.number_word.Statement.{statement}
 use Rattle.domain_region.proofs.number_word.Tie as tie
 
 returns : tie.Need-returns
-returns c = sym (ap wordAt (omega arith) ∙ setipnum-le-at)
+returns c = sym (ap word_at (omega arith) ∙ setipnum-le-at)
 
 returns-2 : tie.Need-returns-2
-returns-2 c = sym (ap wordAt (omega arith) ∙ setipnum-be-at)
+returns-2 c = sym (ap word_at (omega arith) ∙ setipnum-be-at)
 
 returns-3 : tie.Need-returns-3
 returns-3 c = sym (numbers-unused _ (omega arith) (omega arith))

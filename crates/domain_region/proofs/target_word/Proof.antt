@@ -5,18 +5,18 @@ use mathlib.Core.Path.{ap, sym, ◌∙◌}
 use borrow.Author.Rules.{rules}
 use native.Mathlib.Omega.{arith}
 use Rattle.domain_region.proofs.RegionLaws.{targets-unused, genmsi-at, target_at}
-use Rattle.domain_region.specs.Region.{wordAt}
+use Rattle.domain_region.specs.Region.{word_at}
 use Rattle.domain_region.proofs.target_word.Statement.{statement}
 use Rattle.domain_region.proofs.target_word.Tie as tie
 
 returns : tie.Need-returns
-returns c = sym (ap wordAt (omega arith) ∙ genmsi-at)
+returns c = sym (ap word_at (omega arith) ∙ genmsi-at)
 
 sub-source : tie.Need-overflow-sub-source
 sub-source c = search rules
 
 returns-2 : tie.Need-returns-2
-returns-2 c = sym (ap wordAt (omega arith) ∙ target_at _ (omega arith) (omega arith))
+returns-2 c = sym (ap word_at (omega arith) ∙ target_at _ (omega arith) (omega arith))
 
 returns-3 : tie.Need-returns-3
 returns-3 c = sym (targets-unused _ (omega arith) (omega arith))

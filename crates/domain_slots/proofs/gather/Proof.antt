@@ -3,7 +3,7 @@ use Prim.Native.Nat.{◌+◌, ◌-◌, ◌%◌, ◌≤◌}
 use mathlib.Core.Path.{◌≡◌, refl}
 use native.Mathlib.Omega.{arith}
 use borrow.Author.Rules.{rules}
-use Rattle.domain.specs.Domain.{domainOf, byMessages}
+use Rattle.domain.specs.Domain.{domain_of, by_messages}
 use Rattle.domain_slots.specs.Slots.{SoFar}
 use Rattle.domain_slots.proofs.SlotsLaws.{so-far-none, so-far-next, so-far-end}
 use Rattle.domain_slots.proofs.gather.Statement.{statement}
@@ -11,7 +11,7 @@ use Rattle.domain_slots.proofs.gather.Tie as tie
 
 abbrev invariant-loop : tie.invariant-loop
 invariant-loop part child messages g₀ i₀ g i =
-    (i ≤ 64) × (i % 7 ≡ 1) × (messages ≡ byMessages (domainOf part)) × SoFar child (domainOf part) i g
+    (i ≤ 64) × (i % 7 ≡ 1) × (messages ≡ by_messages (domain_of part)) × SoFar child (domain_of part) i g
 
 abbrev decreases-loop : tie.decreases-loop
 decreases-loop part child messages g₀ i₀ g i = 64 - i
@@ -41,7 +41,7 @@ slot-at-requires-3 : tie.Need-slot-at-requires-3 invariant-loop decreases-loop
 slot-at-requires-3 c κs =
     let at-loop = c.before.before.before in
     let inv = at-loop.loop.invariant in
-    let d = domainOf at-loop.before.before.before.args.part.now in
+    let d = domain_of at-loop.before.before.before.args.part.now in
     (search rules, omega arith, omega arith, inv.2, so-far-next _ d _ 1 c.slot-at2.ensures)
 
 add-slot-at-3 : tie.Need-overflow-add-slot-at-3 invariant-loop decreases-loop
@@ -51,7 +51,7 @@ slot-at-requires-4 : tie.Need-slot-at-requires-4 invariant-loop decreases-loop
 slot-at-requires-4 c κs =
     let at-loop = c.before.before.before.before in
     let inv = at-loop.loop.invariant in
-    let d = domainOf at-loop.before.before.before.args.part.now in
+    let d = domain_of at-loop.before.before.before.args.part.now in
     (search rules, omega arith, omega arith, inv.2, so-far-next _ d _ 2 c.slot-at3.ensures)
 
 add-slot-at-4 : tie.Need-overflow-add-slot-at-4 invariant-loop decreases-loop
@@ -61,7 +61,7 @@ slot-at-requires-5 : tie.Need-slot-at-requires-5 invariant-loop decreases-loop
 slot-at-requires-5 c κs =
     let at-loop = c.before.before.before.before.before in
     let inv = at-loop.loop.invariant in
-    let d = domainOf at-loop.before.before.before.args.part.now in
+    let d = domain_of at-loop.before.before.before.args.part.now in
     (search rules, omega arith, omega arith, inv.2, so-far-next _ d _ 3 c.slot-at4.ensures)
 
 add-slot-at-5 : tie.Need-overflow-add-slot-at-5 invariant-loop decreases-loop
@@ -71,7 +71,7 @@ slot-at-requires-6 : tie.Need-slot-at-requires-6 invariant-loop decreases-loop
 slot-at-requires-6 c κs =
     let at-loop = c.before.before.before.before.before.before in
     let inv = at-loop.loop.invariant in
-    let d = domainOf at-loop.before.before.before.args.part.now in
+    let d = domain_of at-loop.before.before.before.args.part.now in
     (search rules, omega arith, omega arith, inv.2, so-far-next _ d _ 4 c.slot-at5.ensures)
 
 add-slot-at-6 : tie.Need-overflow-add-slot-at-6 invariant-loop decreases-loop
@@ -81,7 +81,7 @@ slot-at-requires-7 : tie.Need-slot-at-requires-7 invariant-loop decreases-loop
 slot-at-requires-7 c κs =
     let at-loop = c.before.before.before.before.before.before.before in
     let inv = at-loop.loop.invariant in
-    let d = domainOf at-loop.before.before.before.args.part.now in
+    let d = domain_of at-loop.before.before.before.args.part.now in
     (search rules, omega arith, omega arith, inv.2, so-far-next _ d _ 5 c.slot-at6.ensures)
 
 add-i : tie.Need-overflow-add-i invariant-loop decreases-loop
@@ -95,7 +95,7 @@ loop-again c =
     let in-loop = c.before.before.before.before.before.before.before in
     let at-loop = in-loop.before in
     let inv = at-loop.loop.invariant in
-    let d = domainOf at-loop.before.before.before.args.part.now in
+    let d = domain_of at-loop.before.before.before.args.part.now in
     let more = in-loop.loop-test.true in
     (omega (arith, more, inv.1), omega (arith, inv.1), inv.2, so-far-next _ d _ 6 c.slot-at7.ensures)
 

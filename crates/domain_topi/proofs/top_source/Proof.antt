@@ -4,14 +4,14 @@ use Prim.Native.Nat.{◌-◌}
 use mathlib.Core.Path.{sym}
 use native.Mathlib.Omega.{arith}
 use Rattle.words.proofs.WalkLaws.{walk-lt, walk-on}
-use Rattle.domain.specs.Domain.{domainOf}
+use Rattle.domain.specs.Domain.{domain_of}
 use Rattle.domain_topi.proofs.StandingLaws.{Left, left-start, left-next, left_end}
 use borrow.Author.Rules.{rules}
 use Rattle.domain_topi.proofs.top_source.Statement.{statement}
 use Rattle.domain_topi.proofs.top_source.Tie as tie
 
 abbrev invariant-loop : tie.invariant-loop
-invariant-loop part h x all rest₀ i₀ best₀ rest i best = Left (domainOf part) h all rest i best
+invariant-loop part h x all rest₀ i₀ best₀ rest i best = Left (domain_of part) h all rest i best
 
 abbrev decreases-loop : tie.decreases-loop
 decreases-loop part h x all rest₀ i₀ best₀ rest i best = 64 - i

@@ -2,7 +2,7 @@
 use mathlib.Core.Path.{ap, sym, subst, ◌∙◌}
 use native.Mathlib.Omega.{arith}
 use Rattle.domain_region.specs.Region.{Within}
-use Rattle.domain_values.specs.Values.{registerValue}
+use Rattle.domain_values.specs.Values.{register_value}
 use borrow.Author.Rules.{rules}
 use Rattle.domain_values.proofs.value_of.Statement.{statement}
 use Rattle.domain_values.proofs.value_of.Tie as tie
@@ -124,84 +124,84 @@ enum-told-10 : tie.Need-enum-told-10
 enum-told-10 c = search rules
 
 returns : tie.Need-returns
-unfolding registerValue
-returns c = c.domaincfg-word.ensures ∙ sym (ap (registerValue _ _) c.before.enum_told.given.1)
+unfolding register_value
+returns c = c.domaincfg-word.ensures ∙ sym (ap (register_value _ _) c.before.enum_told.given.1)
 
 returns-2 : tie.Need-returns-2
-unfolding registerValue
-returns-2 c = c.source-word.ensures ∙ sym (ap (registerValue _ _) c.before.before.word.given.1)
+unfolding register_value
+returns-2 c = c.source-word.ensures ∙ sym (ap (register_value _ _) c.before.before.word.given.1)
 
 returns-3 : tie.Need-returns-3
-unfolding registerValue
-returns-3 c = c.pending-word.ensures ∙ sym (ap (registerValue _ _) c.before.before.word2.given.1)
+unfolding register_value
+returns-3 c = c.pending-word.ensures ∙ sym (ap (register_value _ _) c.before.before.word2.given.1)
 
 returns-4 : tie.Need-returns-4
-unfolding registerValue
-returns-4 c = sym (ap (registerValue _ _) c.enum-told2.given.1)
+unfolding register_value
+returns-4 c = sym (ap (register_value _ _) c.enum-told2.given.1)
 
 returns-5 : tie.Need-returns-5
-unfolding registerValue
-returns-5 c = c.input-word.ensures ∙ sym (ap (registerValue _ _) c.before.before.word3.given.1)
+unfolding register_value
+returns-5 c = c.input-word.ensures ∙ sym (ap (register_value _ _) c.before.before.word3.given.1)
 
 returns-6 : tie.Need-returns-6
-unfolding registerValue
-returns-6 c = sym (ap (registerValue _ _) c.enum-told3.given.1)
+unfolding register_value
+returns-6 c = sym (ap (register_value _ _) c.enum-told3.given.1)
 
 returns-7 : tie.Need-returns-7
-unfolding registerValue
-returns-7 c = c.enable-word.ensures ∙ sym (ap (registerValue _ _) c.before.before.word4.given.1)
+unfolding register_value
+returns-7 c = c.enable-word.ensures ∙ sym (ap (register_value _ _) c.before.before.word4.given.1)
 
 returns-8 : tie.Need-returns-8
-unfolding registerValue
-returns-8 c = sym (ap (registerValue _ _) c.enum-told4.given.1)
+unfolding register_value
+returns-8 c = sym (ap (register_value _ _) c.enum-told4.given.1)
 
 returns-9 : tie.Need-returns-9
-unfolding registerValue
-returns-9 c = sym (ap (registerValue _ _) c.enum-told5.given.1)
+unfolding register_value
+returns-9 c = sym (ap (register_value _ _) c.enum-told5.given.1)
 
 returns-10 : tie.Need-returns-10
-unfolding registerValue
-returns-10 c = sym (ap (registerValue _ _) c.enum-told6.given.1)
+unfolding register_value
+returns-10 c = sym (ap (register_value _ _) c.enum-told6.given.1)
 
 returns-11 : tie.Need-returns-11
-unfolding registerValue
-returns-11 c = sym (ap (registerValue _ _) c.enum-told7.given.1)
+unfolding register_value
+returns-11 c = sym (ap (register_value _ _) c.enum-told7.given.1)
 
 returns-12 : tie.Need-returns-12
-unfolding registerValue
-returns-12 c = sym (ap (registerValue _ _) c.enum-told8.given.1)
+unfolding register_value
+returns-12 c = sym (ap (register_value _ _) c.enum-told8.given.1)
 
 returns-13 : tie.Need-returns-13
-unfolding registerValue
-returns-13 c = c.read-genmsi.ensures ∙ sym (ap (registerValue _ _) c.before.enum-told9.given.1)
+unfolding register_value
+returns-13 c = c.read-genmsi.ensures ∙ sym (ap (register_value _ _) c.before.enum-told9.given.1)
 
 returns-14 : tie.Need-returns-14
-unfolding registerValue
-returns-14 c = c.target-word.ensures ∙ sym (ap (registerValue _ _) c.before.before.word5.given.1)
+unfolding register_value
+returns-14 c = c.target-word.ensures ∙ sym (ap (register_value _ _) c.before.before.word5.given.1)
 
 returns-15 : tie.Need-returns-15
-unfolding registerValue
-returns-15 c = c.setting-of.ensures ∙ sym (ap (registerValue _ _) c.before.before.word6.given.1)
+unfolding register_value
+returns-15 c = c.setting-of.ensures ∙ sym (ap (register_value _ _) c.before.before.word6.given.1)
 
 returns-16 : tie.Need-returns-16
-unfolding registerValue
-returns-16 c = c.setting-of2.ensures ∙ sym (ap (registerValue _ _) c.before.before.word7.given.1)
+unfolding register_value
+returns-16 c = c.setting-of2.ensures ∙ sym (ap (register_value _ _) c.before.before.word7.given.1)
 
 returns-17 : tie.Need-returns-17
-unfolding registerValue
-returns-17 c = c.setting-of3.ensures ∙ sym (ap (registerValue _ _) c.before.before.word8.given.1)
+unfolding register_value
+returns-17 c = c.setting-of3.ensures ∙ sym (ap (register_value _ _) c.before.before.word8.given.1)
 
 returns-18 : tie.Need-returns-18
-unfolding registerValue
-returns-18 c = c.topi.ensures ∙ sym (ap (registerValue _ _) c.before.before.word9.given.1)
+unfolding register_value
+returns-18 c = c.topi.ensures ∙ sym (ap (register_value _ _) c.before.before.word9.given.1)
 
 returns-19 : tie.Need-returns-19
-unfolding registerValue
-returns-19 c = c.topi2.ensures ∙ sym (ap (registerValue _ _) c.before.before.word10.given.1)
+unfolding register_value
+returns-19 c = c.topi2.ensures ∙ sym (ap (register_value _ _) c.before.before.word10.given.1)
 
 returns-20 : tie.Need-returns-20
-unfolding registerValue
-returns-20 c = sym (ap (registerValue _ _) c.enum-told10.given.1)
+unfolding register_value
+returns-20 c = sym (ap (register_value _ _) c.enum-told10.given.1)
 
 pub value-of-spec : {M : Type 1} → statement M
 value-of-spec =

@@ -4,10 +4,10 @@ use Prim.Native.Nat.{ℕ}
 use mathlib.Core.Path.{ap, sym, ◌∙◌}
 use native.Mathlib.Omega.{arith}
 use lib.ListN.{set}
-use Rattle.file.specs.Page.{heldAnswer}
+use Rattle.file.specs.Page.{held_answer}
 use Rattle.file.proofs.PageLaws.{arrived-below, arrived-above, arrived-within}
 use Rattle.file.proofs.PageLaws.{answer-below, answer-above, answer-within}
-use Rattle.file_words.specs.Stored.{putFile}
+use Rattle.file_words.specs.Stored.{put_file}
 use Rattle.file_laws.proofs.Stored.{block_back}
 use Rattle.file_arrival.proofs.ArrivalLaws.{member-placed, insert-placed}
 use borrow.Author.Rules.{rules}
@@ -19,7 +19,7 @@ returns c =
     let start = c.before.before in
     let l = start.args.block.now in (
       sym (answer-below _ _ _ c.if1.true),
-      sym (ap (putFile l start.args.at) (arrived-below _ _ _ c.if1.true)
+      sym (ap (put_file l start.args.at) (arrived-below _ _ _ c.if1.true)
           ∙ block_back l start.args.at start.requires),
     )
 
@@ -28,7 +28,7 @@ returns-2 c =
     let start = c.before.before.before in
     let l = start.args.block.now in (
       sym (answer-above _ _ _ c.if2.true),
-      sym (ap (putFile l start.args.at) (arrived-above _ _ _ c.if2.true)
+      sym (ap (put_file l start.args.at) (arrived-above _ _ _ c.if2.true)
           ∙ block_back l start.args.at start.requires),
     )
 
@@ -73,10 +73,10 @@ returns-3 c =
     let i = start.args.identity in
     let low = else1.if1.false in
     let high = known.before.if2.false in (
-      c.held-answer.ensures ∙ ap heldAnswer (member-placed l at i (omega arith) (omega arith))
+      c.held-answer.ensures ∙ ap held_answer (member-placed l at i (omega arith) (omega arith))
           ∙ sym (answer-within _ _ _ low high),
       ap (set l _) at-bit.with-bit.ensures ∙ insert-placed l at i (omega arith) (omega arith)
-          ∙ sym (ap (putFile l at) (arrived-within _ _ _ low high)),
+          ∙ sym (ap (put_file l at) (arrived-within _ _ _ low high)),
     )
 
 pub arrive-spec : {M : Type 1} → statement M

@@ -1,6 +1,6 @@
 -- `file_message::hart_in` meets its contract: a field of its size. Assumes nothing.
 use mathlib.Core.Path.{◌∙◌}
-use Rattle.file_message.proofs.MessageLaws.{hartIn-lt, hartIn-field}
+use Rattle.file_message.proofs.MessageLaws.{hart_in-lt, hart_in-field}
 use borrow.Author.Rules.{rules}
 use Rattle.file_message.proofs.hart_in.Statement.{statement}
 use Rattle.file_message.proofs.hart_in.Tie as tie
@@ -11,8 +11,8 @@ field32-requires c κs = search rules
 returns : tie.Need-returns
 returns c =
     let m = c.before.args.word in
-    let is = c.field32.ensures ∙ hartIn-field m in
-    (is, rw is (hartIn-lt m))
+    let is = c.field32.ensures ∙ hart_in-field m in
+    (is, rw is (hart_in-lt m))
 
 pub hart-in-spec : {M : Type 1} → statement M
 hart-in-spec = tie.close (tie.spec field32-requires returns)

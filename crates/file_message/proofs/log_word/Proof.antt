@@ -3,7 +3,7 @@ use mathlib.Core.Path.{ap, ◌∙◌}
 use native.Mathlib.Omega.{arith}
 use Rattle.words.specs.Parts.{packed}
 use Rattle.words.proofs.PartsLaws.{packed-is}
-use Rattle.file_message.proofs.MessageLaws.{logWord-packed}
+use Rattle.file_message.proofs.MessageLaws.{log_word-packed}
 use Rattle.file_message.proofs.log_word.Statement.{statement}
 use Rattle.file_message.proofs.log_word.Tie as tie
 
@@ -18,7 +18,7 @@ packed32-requires-2 c κs = (
 )
 
 returns : tie.Need-returns
-returns c = c.packed322.ensures ∙ ap (packed _ 11) c.before.packed32.ensures ∙ logWord-packed _ _ _
+returns c = c.packed322.ensures ∙ ap (packed _ 11) c.before.packed32.ensures ∙ log_word-packed _ _ _
 
 pub log-word-spec : {M : Type 1} → statement M
 log-word-spec = tie.close (tie.spec packed32-requires packed32-requires-2 returns)

@@ -3,7 +3,7 @@ use mathlib.Core.Path.{ap, ◌∙◌}
 use native.Mathlib.Omega.{arith}
 use Rattle.words.specs.Parts.{packed}
 use Rattle.words.proofs.PartsLaws.{packed-is}
-use Rattle.file_message.proofs.MessageLaws.{messageTo-packed}
+use Rattle.file_message.proofs.MessageLaws.{message_to-packed}
 use Rattle.file_message.proofs.message_to.Statement.{statement}
 use Rattle.file_message.proofs.message_to.Tie as tie
 
@@ -18,7 +18,7 @@ packed32-requires-2 c κs = (
 )
 
 returns : tie.Need-returns
-returns c = c.packed322.ensures ∙ ap (packed _ 11) c.before.packed32.ensures ∙ messageTo-packed _ _ _
+returns c = c.packed322.ensures ∙ ap (packed _ 11) c.before.packed32.ensures ∙ message_to-packed _ _ _
 
 pub message-to-spec : {M : Type 1} → statement M
 message-to-spec = tie.close (tie.spec packed32-requires packed32-requires-2 returns)

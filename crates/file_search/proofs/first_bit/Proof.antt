@@ -4,15 +4,15 @@ use Prim.Native.Nat.{◌-◌, ◌/◌, ◌^◌, ◌≤◌}
 use mathlib.Core.Path.{◌≡◌, refl, sym, ◌∙◌}
 use native.Mathlib.Omega.{arith}
 use borrow.Author.Rules.{rules}
-use Rattle.file_search.specs.Search.{firstBit}
-use Rattle.file_search.proofs.SearchLaws.{firstBit-hit-to, firstBit-miss-to, firstBit-none, rest-bit}
+use Rattle.file_search.specs.Search.{first_bit}
+use Rattle.file_search.proofs.SearchLaws.{first_bit-hit-to, first_bit-miss-to, first_bit-none, rest-bit}
 use Rattle.file_search.proofs.SearchLaws.{rest-next, rest_lt}
 use Rattle.file_search.proofs.first_bit.Statement.{statement}
 use Rattle.file_search.proofs.first_bit.Tie as tie
 
 abbrev invariant-loop : tie.invariant-loop
 invariant-loop word from rest₀ k₀ rest k =
-    (k ≤ 32) × (rest ≡ word / 2 ^ k) × (firstBit word from (32 - from) ≡ firstBit word k (32 - k))
+    (k ≤ 32) × (rest ≡ word / 2 ^ k) × (first_bit word from (32 - from) ≡ first_bit word k (32 - k))
 
 abbrev decreases-loop : tie.decreases-loop
 decreases-loop word from rest₀ k₀ rest k = 32 - k
@@ -31,7 +31,7 @@ returns c =
     let left = c.before.before.before.loop in
     let low = rest_lt _ _ _ left.invariant.1 (omega arith) c.before.before.loop-test.true in
     let hit = sym (c.before.has-bit.ensures ∙ rest-bit _ _ _ left.invariant.1) ∙ c.if1.true in
-    sym (left.invariant.2 ∙ firstBit-hit-to _ left.k 32 low hit)
+    sym (left.invariant.2 ∙ first_bit-hit-to _ left.k 32 low hit)
 
 add-k : tie.Need-overflow-add-k invariant-loop decreases-loop
 add-k c = search rules
@@ -47,12 +47,12 @@ loop-again c =
     let left = c.before.before.before.loop in
     let low = rest_lt _ _ _ left.invariant.1 (omega arith) c.before.before.loop-test.true in
     let miss = sym (c.before.has-bit.ensures ∙ rest-bit _ _ _ left.invariant.1) ∙ c.if1.false in
-    (omega arith, rest-next _ _ _ left.invariant.1, left.invariant.2 ∙ firstBit-miss-to _ left.k 32 low miss)
+    (omega arith, rest-next _ _ _ left.invariant.1, left.invariant.2 ∙ first_bit-miss-to _ left.k 32 low miss)
 
 returns-2 : tie.Need-returns-2 invariant-loop decreases-loop
 returns-2 c =
     let left = c.before.loop in
-    let none = firstBit-none _ left.k (32 - left.k) (sym left.invariant.1 ∙ omega arith) in
+    let none = first_bit-none _ left.k (32 - left.k) (sym left.invariant.1 ∙ omega arith) in
     sym (left.invariant.2 ∙ none ∙ omega arith)
 
 pub first-bit-spec : {M : Type 1} → statement M

@@ -4,15 +4,15 @@ use Prim.Native.Nat.{◌+◌, ◌-◌, ◌*◌, ◌≤◌, ◌<◌}
 use mathlib.Core.Path.{◌≡◌, sym, ◌∙◌}
 use native.Mathlib.Omega.{arith}
 use borrow.Author.Rules.{rules}
-use Rattle.file_search.specs.Search.{lowestShared}
-use Rattle.file_search.proofs.SearchLaws.{sharedFrom, shared_start, shared-hit, shared-miss}
+use Rattle.file_search.specs.Search.{lowest_shared}
+use Rattle.file_search.proofs.SearchLaws.{shared_from, shared_start, shared-hit, shared-miss}
 use Rattle.file_search.proofs.SearchLaws.{shared-end}
 use Rattle.file_search.proofs.lowest_shared.Statement.{statement}
 use Rattle.file_search.proofs.lowest_shared.Tie as tie
 
 abbrev invariant-loop : tie.invariant-loop
 invariant-loop pending enable from₀ at₀ from at =
-    (at ≤ 8) × (from < 32) × (lowestShared pending enable ≡ sharedFrom pending enable (32 * at + from))
+    (at ≤ 8) × (from < 32) × (lowest_shared pending enable ≡ shared_from pending enable (32 * at + from))
 
 abbrev decreases-loop : tie.decreases-loop
 decreases-loop pending enable from₀ at₀ from at = 8 - at

@@ -3,11 +3,11 @@ use Prim.Native.Nat.{ℕ, ◌+◌}
 use mathlib.Core.Path.{ap₂}
 use mathlib.Core.List.{List}
 use lib.ListN.{get_or}
-use Rattle.file_words.specs.Stored.{fileAt}
+use Rattle.file_words.specs.Stored.{file_at}
 use borrow.Author.Rules.{rules}
 use Rattle.file_words.proofs.load.Statement.{statement}
 use Rattle.file_words.proofs.load.Tie as tie
-use Rattle.sizes.specs.Sizes.{thresholdPlace}
+use Rattle.sizes.specs.Sizes.{threshold_place}
 
 add_eight : tie.Need-overflow-add-eight
 add_eight c = search rules
@@ -37,14 +37,14 @@ shared-slice-read-t11 : tie.Need-shared-slice-read-t11
 shared-slice-read-t11 c = search rules
 
 returns : tie.Need-returns
-unfolding fileAt
+unfolding file_at
 returns c =
     let args = c.before.before.before.before.before.args in
     ap₂
     (λ (p e : List ℕ). record {
       delivery = get_or args.block.now args.at 0;
       threshold =
-          get_or args.block.now (args.at + thresholdPlace) 0;
+          get_or args.block.now (args.at + threshold_place) 0;
       pending = p;
       enable = e;
     })

@@ -9,7 +9,7 @@ use Rattle.file_words.proofs.StoredLaws.{file-written}
 use borrow.Author.Rules.{rules}
 use Rattle.file_words.proofs.store.Statement.{statement}
 use Rattle.file_words.proofs.store.Tie as tie
-use Rattle.sizes.specs.Sizes.{enablePlace}
+use Rattle.sizes.specs.Sizes.{enable_place}
 
 mul-block : tie.Need-overflow-mul-block
 mul-block c = search rules
@@ -50,7 +50,7 @@ returns c =
     let f = start.args.f in
     let at = start.args.at in
     c.before.before.put-eight2.ensures
-    ∙ ap (λ (l : List ℕ). sets l (at + enablePlace) f.enable) first.put-eight.ensures
+    ∙ ap (λ (l : List ℕ). sets l (at + enable_place) f.enable) first.put-eight.ensures
     ∙ file-written start.args.block.now at f (search rules)
 
 pub store_spec : {M : Type 1} → statement M

@@ -4,7 +4,7 @@ use mathlib.Core.Path.{◌∙◌}
 use native.Mathlib.Omega.{arith}
 use borrow.Author.Rules.{rules}
 use lib.ListN.{take, length-set}
-use Rattle.record_lines.specs.Lines.{lineFeed}
+use Rattle.record_lines.specs.Lines.{line_feed}
 use Rattle.record_answer.proofs.ShownLaws.{put_byte, answer-then, words-least}
 use Rattle.record_answer.proofs.put_answer.Statement.{statement}
 use Rattle.record_answer.proofs.put_answer.Tie as tie
@@ -57,7 +57,7 @@ returns c =
     let log = args.log.now in
     let few = words-least args.count log measured.least.result measured.least.ensures in
     let there = slice-write-out c in
-    let end = put_byte worded.put-words.new.0 worded.put-words.result lineFeed there in (
+    let end = put_byte worded.put-words.new.0 worded.put-words.result line_feed there in (
       answer-then xs args.number args.refusal args.value args.count (take args.count log)
           numbered.put-decimal.ensures.0 refused.put-field.ensures.0
           valued.put-field2.ensures.0 counted.put-field3.ensures.0

@@ -5,7 +5,7 @@ use native.Mathlib.Omega.{arith}
 use borrow.Author.Rules.{rules}
 use lib.ListN.{take}
 use Rattle.record_numbers.specs.Decimal.{text_of}
-use Rattle.record_lines.specs.Lines.{lineFeed}
+use Rattle.record_lines.specs.Lines.{line_feed}
 use Rattle.record_answer.proofs.ShownLaws.{line-one, put_byte, put_then}
 use Rattle.record_answer.proofs.put_number.Statement.{statement}
 use Rattle.record_answer.proofs.put_number.Tie as tie
@@ -28,8 +28,8 @@ returns c =
     let args = put.before.before.before.args in
     let xs = take args.at args.out.now in
     let text = put.put-decimal.ensures.0 in
-    let byte = put_byte put.put-decimal.new.0 put.put-decimal.result lineFeed (omega arith) in
-    let line = put_then xs (text_of args.number) (lineFeed ∷ []) text byte in
+    let byte = put_byte put.put-decimal.new.0 put.put-decimal.result line_feed (omega arith) in
+    let line = put_then xs (text_of args.number) (line_feed ∷ []) text byte in
     (rw (line-one args.number) line, omega arith)
 
 pub put-number-spec : {M : Type 1} → statement M

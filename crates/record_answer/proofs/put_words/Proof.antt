@@ -6,15 +6,15 @@ use native.Mathlib.Omega.{arith}
 use borrow.Author.Rules.{rules}
 use mir.Facts.{Fits-widen}
 use lib.ListN.{length, take}
-use Rattle.record_answer.specs.Shown.{fieldsShown, fieldRoom}
+use Rattle.record_answer.specs.Shown.{fields_shown, field_room}
 use Rattle.record_answer.proofs.ShownLaws.{words-none, words_more}
 use Rattle.record_answer.proofs.put_words.Statement.{statement}
 use Rattle.record_answer.proofs.put_words.Tie as tie
 
 abbrev invariant-loop : tie.invariant-loop
 invariant-loop out₀ at words count end₀ i₀ out end i =
-    (length out ≡ length out₀) × (i ≤ count) × (end ≤ at + i * fieldRoom)
-    × (take end out ≡ take at out₀ ++ fieldsShown (take i words))
+    (length out ≡ length out₀) × (i ≤ count) × (end ≤ at + i * field_room)
+    × (take end out ≡ take at out₀ ++ fields_shown (take i words))
 
 abbrev decreases-loop : tie.decreases-loop
 decreases-loop out₀ at words count end₀ i₀ out end i = count - i

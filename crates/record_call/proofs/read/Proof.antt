@@ -3,7 +3,7 @@ use Prim.Native.Nat.{◌≤◌}
 use mathlib.Core.Path.{sym, ap, subst, ◌∙◌}
 use lib.ListN.{length}
 use lib.Seq.{length-take-le}
-use Rattle.record_fields.specs.Fields.{textsOf, mostNumbers}
+use Rattle.record_fields.specs.Fields.{texts_of, most_numbers}
 use Rattle.record_fields.proofs.CountLaws.{count-length}
 use Rattle.record_call.proofs.TableLaws.{long-line, line_read}
 use borrow.Author.Rules.{rules}
@@ -26,8 +26,8 @@ slice-aggregate-of-fields c =
 of-fields-requires : tie.Need-of-fields-requires
 of-fields-requires c κs =
     let read = c.before.numbers.ensures in
-    let texts = textsOf c.before.before.before.before.before.args.line.now in
-    (λ h. ap length (read.1 h) ∙ count-length texts (subst (λ n. n ≤ mostNumbers) read.0 h)
+    let texts = texts_of c.before.before.before.before.before.args.line.now in
+    (λ h. ap length (read.1 h) ∙ count-length texts (subst (λ n. n ≤ most_numbers) read.0 h)
     ∙ sym read.0)
 
 returns-2 : tie.Need-returns-2

@@ -4,10 +4,10 @@ use Prim.Native.Nat.{◌-◌, ◌<◌, ◌≤◌}
 use mathlib.Core.Path.{sym, ap, subst, ◌∙◌}
 use native.Mathlib.Omega.{arith}
 use lib.ListN.{length}
-use Rattle.record_fields.proofs.NumbersLaws.{NumbersTo, textAt, numbers-start, numbers_more}
+use Rattle.record_fields.proofs.NumbersLaws.{NumbersTo, text_at, numbers-start, numbers_more}
 use Rattle.record_fields.proofs.NumbersLaws.{numbers-many, numbers-bad, numbers-count, numbers-all}
 use Rattle.record_fields.proofs.FieldsLaws.{next-found, text-found}
-use Rattle.record_fields.specs.Fields.{mostNumbers}
+use Rattle.record_fields.specs.Fields.{most_numbers}
 use Rattle.record_numbers.specs.Decimal.{number_in}
 use Rattle.record_numbers.proofs.NumberLaws.{value-number, value_same, no_number}
 use borrow.Author.Rules.{rules}
@@ -83,7 +83,7 @@ returns-2 c =
     let six = c.unreadable2.ensures in (
       six
           ∙ sym (numbers-bad l at-loop.loop.numbers at-loop.loop.count k at-loop.loop.invariant
-          look.before.before.loop-test.true (no_number (textAt l k) none)),
+          look.before.before.loop-test.true (no_number (text_at l k) none)),
       (λ h. absurd (omega (arith, six, h))),
     )
 
@@ -120,12 +120,12 @@ loop-again c =
     let text = text-found l k look.find.result look.find.ensures.0 in
     let value = sym (ap number_in text) ∙ sym read.decimal.ensures ∙ c.before.value.given.1 in
     let left = at-loop.loop in
-    let room : left.count < mostNumbers = omega (arith, left.invariant.few, look.before.if1.false) in
+    let room : left.count < most_numbers = omega (arith, left.invariant.few, look.before.if1.false) in
     let next = next-found l k look.find.result look.find.ensures.0 in
     subst (NumbersTo l _ _) (sym next)
     (numbers_more l left.numbers left.count k left.invariant look.before.before.loop-test.true _
     room (subst (λ n. n ≤ length l) next look.find.ensures.1)
-    (value-number (textAt l k) _ value) (value_same (textAt l k) _ value))
+    (value-number (text_at l k) _ value) (value_same (text_at l k) _ value))
 
 returns-3 : tie.Need-returns-3 invariant-loop decreases-loop
 returns-3 c =

@@ -2,7 +2,7 @@
 -- machine domain to file 0. Assumes nothing.
 use Prim.Native.Nat.{ℕ, ◌+◌}
 use mathlib.Core.Path.{ap, ap₂, sym, ◌∙◌}
-use Rattle.file_message.specs.Message.{logWord}
+use Rattle.file_message.specs.Message.{log_word}
 use Rattle.source_target.proofs.TargetLaws.{message-child, message-machine}
 use borrow.Author.Rules.{rules}
 use Rattle.source_target.proofs.message.Statement.{statement}
@@ -27,9 +27,9 @@ returns : tie.Need-returns
 returns c =
     let at-hart = c.before.before.before in
     c.log-word.ensures
-    ∙ ap₂ (λ (h g : ℕ). logWord h (g + 1) c.before.number_of_lem.result) at-hart.hart-of.ensures.0
+    ∙ ap₂ (λ (h g : ℕ). log_word h (g + 1) c.before.number_of_lem.result) at-hart.hart-of.ensures.0
     c.before.before.guest-of.ensures.0
-    ∙ ap (logWord _ _) c.before.number_of_lem.ensures.0
+    ∙ ap (log_word _ _) c.before.number_of_lem.ensures.0
     ∙ sym (message-child _ _ at-hart.before.if1.true)
 
 hart-of-requires-2 : tie.Need-hart-of-requires-2
@@ -44,7 +44,7 @@ log-word-requires-2 c κs = search rules
 returns-2 : tie.Need-returns-2
 returns-2 c =
     c.log-word2.ensures
-    ∙ ap₂ (λ (h i : ℕ). logWord h 0 i) c.before.before.hart-of2.ensures.0
+    ∙ ap₂ (λ (h i : ℕ). log_word h 0 i) c.before.before.hart-of2.ensures.0
     c.before.number-of2.ensures.0
     ∙ sym (message-machine _ _ c.before.before.before.if1.false)
 

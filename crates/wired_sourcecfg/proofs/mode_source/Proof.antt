@@ -1,8 +1,8 @@
 -- `wired_sourcecfg::mode_source` meets its contract: the source is read, changed and stored.
 -- Assumes nothing.
 use mathlib.Core.Path.{ap, ◌∙◌}
-use Rattle.domain.specs.Slot.{withSource}
-use Rattle.wired_sourcecfg.specs.Delegation.{sourceModed}
+use Rattle.domain.specs.Slot.{with_source}
+use Rattle.wired_sourcecfg.specs.Delegation.{source_moded}
 use borrow.Author.Rules.{rules}
 use Rattle.wired_sourcecfg.proofs.mode_source.Statement.{statement}
 use Rattle.wired_sourcecfg.proofs.mode_source.Tie as tie
@@ -23,10 +23,10 @@ same_length : tie.Need-same-length
 same_length c = search rules
 
 returns : tie.Need-returns
-unfolding sourceModed
+unfolding source_moded
 returns c =
     let at_store = c.before.before in
-    at_store.store.ensures ∙ ap (withSource _ _) (at_store.before.moded.ensures ∙ cc)
+    at_store.store.ensures ∙ ap (with_source _ _) (at_store.before.moded.ensures ∙ cc)
 
 pub mode-source-spec : {M : Type 1} → statement M
 mode-source-spec =

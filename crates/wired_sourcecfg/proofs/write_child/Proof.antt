@@ -6,15 +6,15 @@ use mathlib.Core.List.{List}
 use lib.ListN.{take, drop}
 use Rattle.words.specs.Sets.{member}
 use Rattle.source_mode.specs.Mode.{source_word}
-use Rattle.domain.specs.Domain.{Domain, domainOf}
-use Rattle.wired_state.specs.Wires.{wiredOf}
-use Rattle.wired_state.specs.Wires.{isDelegated}
-use Rattle.wired_sourcecfg.specs.Delegation.{sourceModed, childWritten}
+use Rattle.domain.specs.Domain.{Domain, domain_of}
+use Rattle.wired_state.specs.Wires.{wired_of}
+use Rattle.wired_state.specs.Wires.{is_delegated}
+use Rattle.wired_sourcecfg.specs.Delegation.{source_moded, child_written}
 use Rattle.wired_state.proofs.WiresLaws.{put-child, child-long, child-part}
 use borrow.Author.Rules.{rules}
 use Rattle.wired_sourcecfg.proofs.write_child.Statement.{statement}
 use Rattle.wired_sourcecfg.proofs.write_child.Tie as tie
-use Rattle.sizes.specs.Sizes.{childPlace, domainSize}
+use Rattle.sizes.specs.Sizes.{child_place, domain_size}
 
 wires-requires : tie.Need-wires-requires
 wires-requires c κs = search rules
@@ -44,7 +44,7 @@ same_length : tie.Need-same-length
 same_length c = search rules
 
 returns : tie.Need-returns
-unfolding childWritten
+unfolding child_written
 returns c =
     let at-mode = c.before.before in
     let at_has = at-mode.before.before.before in
@@ -58,12 +58,12 @@ returns c =
     ∙ ap (λ (h : Bool). source_word true h start.args.value) at_has.delegated.ensures in
     put-child l at-mode.mode-source.new.0 start.requires.0 (at-mode.mode-source.auto.0
     ∙ child-long l start.requires.0)
-    ∙ ap (λ (d : Domain). record { wires = (wiredOf l).wires; machine = (wiredOf l).machine; child = d })
+    ∙ ap (λ (d : Domain). record { wires = (wired_of l).wires; machine = (wired_of l).machine; child = d })
     (at-mode.mode-source.ensures
-    ∙ ap₂ (λ (m : ℕ) (b : Bool). sourceModed (domainOf (take domainSize (drop childPlace l))) i m b) word wire
+    ∙ ap₂ (λ (m : ℕ) (b : Bool). source_moded (domain_of (take domain_size (drop child_place l))) i m b) word wire
     ∙ ap
-    (λ (d : Domain). sourceModed d i (source_word true (isDelegated (wiredOf l) i) start.args.value)
-    (member (wiredOf l).wires i))
+    (λ (d : Domain). source_moded d i (source_word true (is_delegated (wired_of l) i) start.args.value)
+    (member (wired_of l).wires i))
     (child-part l start.requires.0))
 
 pub write-child-spec : {M : Type 1} → statement M

@@ -9,17 +9,17 @@ use lib.ListN.{take, drop}
 use Rattle.words.specs.Sets.{member}
 use Rattle.source_mode.specs.Mode.{source_word}
 use Rattle.source.specs.Pending.{inactive}
-use Rattle.domain.specs.Domain.{Domain, domainOf}
-use Rattle.domain.specs.Slot.{withSource}
-use Rattle.wired_state.specs.Wires.{wiredOf}
-use Rattle.wired_sourcecfg.specs.Delegation.{sourceModed}
+use Rattle.domain.specs.Domain.{Domain, domain_of}
+use Rattle.domain.specs.Slot.{with_source}
+use Rattle.wired_state.specs.Wires.{wired_of}
+use Rattle.wired_sourcecfg.specs.Delegation.{source_moded}
 use Rattle.wired_state.proofs.WiresLaws.{put-machine, both-put, put-long, second-part, machine-long}
 use Rattle.wired_state.proofs.WiresLaws.{child-long, machine-part}
 use Rattle.wired_sourcecfg.proofs.DelegationLaws.{machine-stays, machine-moves}
 use borrow.Author.Rules.{rules}
 use Rattle.wired_sourcecfg.proofs.write_machine.Statement.{statement}
 use Rattle.wired_sourcecfg.proofs.write_machine.Tie as tie
-use Rattle.sizes.specs.Sizes.{domainSize}
+use Rattle.sizes.specs.Sizes.{domain_size}
 
 wires-requires : tie.Need-wires-requires
 wires-requires c κs = search rules
@@ -62,17 +62,17 @@ returns c =
     ∙ ap (λ (ws : List ℕ). member ws i) at-wire.before.wires.ensures in
     let word = at-word.source-word.ensures in
     let moded = at-mode.mode-source.ensures
-    ∙ ap₂ (λ (m : ℕ) (b : Bool). sourceModed (domainOf (take domainSize (drop 2 l))) i m b) word wire
+    ∙ ap₂ (λ (m : ℕ) (b : Bool). source_moded (domain_of (take domain_size (drop 2 l))) i m b) word wire
     ∙ ap
-    (λ (d : Domain). sourceModed d i (source_word false false start.args.value)
-    (member (wiredOf l).wires i)) (machine-part l long) in
+    (λ (d : Domain). source_moded d i (source_word false false start.args.value)
+    (member (wired_of l).wires i)) (machine-part l long) in
     let kept = at-mode.mode-source.auto.0 ∙ machine-long l long in
     let test =
     ap₂ (λ (a : Bool) (m : ℕ). beq a (leb 1024 m)) (sym at-had.delegated.ensures) (sym word)
     ∙ c.if1.true in
     put-machine l at-mode.mode-source.new.0 long kept
-    ∙ ap (λ (d : Domain). record { wires = (wiredOf l).wires; machine = d; child = (wiredOf l).child }) moded
-    ∙ sym (machine-stays (wiredOf l) i start.args.value test)
+    ∙ ap (λ (d : Domain). record { wires = (wired_of l).wires; machine = d; child = (wired_of l).child }) moded
+    ∙ sym (machine-stays (wired_of l) i start.args.value test)
 
 sub-clear-source : tie.Need-overflow-sub-clear-source
 sub-clear-source c = search rules
@@ -105,22 +105,22 @@ returns-2 c =
     ∙ ap (λ (ws : List ℕ). member ws i) at-wire.before.wires.ensures in
     let word = at-word.source-word.ensures in
     let moded = at-mode.mode-source.ensures
-    ∙ ap₂ (λ (m : ℕ) (b : Bool). sourceModed (domainOf (take domainSize (drop 2 l))) i m b) word wire
+    ∙ ap₂ (λ (m : ℕ) (b : Bool). source_moded (domain_of (take domain_size (drop 2 l))) i m b) word wire
     ∙ ap
-    (λ (d : Domain). sourceModed d i (source_word false false start.args.value)
-    (member (wiredOf l).wires i)) (machine-part l long) in
+    (λ (d : Domain). source_moded d i (source_word false false start.args.value)
+    (member (wired_of l).wires i)) (machine-part l long) in
     let kept = at-mode.mode-source.auto.0 ∙ machine-long l long in
     let test =
     ap₂ (λ (a : Bool) (m : ℕ). beq a (leb 1024 m)) (sym at-had.delegated.ensures) (sym word)
     ∙ at_test.if1.false in
     let ys = at-mode.mode-source.new.0 in
     let rest = at_clear.clear-source.auto.0
-    ∙ child-long (take 2 l ++ (ys ++ drop domainSize (drop 2 l))) (put-long l ys long kept) in
+    ∙ child-long (take 2 l ++ (ys ++ drop domain_size (drop 2 l))) (put-long l ys long kept) in
     both-put l ys long kept at_clear.clear-source.new.0 rest
-    ∙ ap₂ (λ (d e : Domain). record { wires = (wiredOf l).wires; machine = d; child = e }) moded
+    ∙ ap₂ (λ (d e : Domain). record { wires = (wired_of l).wires; machine = d; child = e }) moded
     (at_clear.clear-source.ensures
-    ∙ ap (λ (d : Domain). withSource d i (inactive 0)) (second-part l ys long kept))
-    ∙ sym (machine-moves (wiredOf l) i start.args.value test)
+    ∙ ap (λ (d : Domain). with_source d i (inactive 0)) (second-part l ys long kept))
+    ∙ sym (machine-moves (wired_of l) i start.args.value test)
 
 pub write-machine-spec : {M : Type 1} → statement M
 write-machine-spec =

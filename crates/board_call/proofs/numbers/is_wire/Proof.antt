@@ -1,11 +1,11 @@
 -- `board_call::numbers::is_wire` meets its contract. Assumes nothing.
 use mathlib.Core.Path.{refl}
-use Rattle.board_call.specs.Numbers.{isWire}
+use Rattle.board_call.specs.Numbers.{is_wire}
 use Rattle.board_call.proofs.numbers.is_wire.Statement.{statement}
 use Rattle.board_call.proofs.numbers.is_wire.Tie as tie
 
 returns : tie.Need-returns
-unfolding isWire
+unfolding is_wire
 returns c = refl
 
 pub is-wire-spec : {M : Type 1} → statement M

@@ -4,7 +4,7 @@ use mathlib.Core.Path.{sym, ◌∙◌}
 use borrow.Author.Tests.{not-true, not-false}
 use Rattle.board_call.proofs.AnswerLaws.{done-case}
 use Rattle.board_call_laws.proofs.CallTests.{checked-long, tests-blocks, tests-name, tests-address}
-use Rattle.board_call_laws.proofs.FileCallEffects.{tests-pageRead, pageRead-done}
+use Rattle.board_call_laws.proofs.FileCallEffects.{tests-page_read, page_read-done}
 use borrow.Author.Rules.{rules}
 use Rattle.board_file_calls.proofs.page_reads.page_read.Statement.{statement}
 use Rattle.board_file_calls.proofs.page_reads.page_read.Tie as tie
@@ -23,7 +23,7 @@ same-length-2 c = search rules
 
 returns : tie.Need-returns
 returns c =
-    tests-blocks (tests-pageRead _ _ _) _ _ _ c.before.check.ensures c.match.keys2
+    tests-blocks (tests-page_read _ _ _) _ _ _ c.before.check.ensures c.match.keys2
 
 is-file-requires : tie.Need-is-file-requires
 is-file-requires c κs = search rules
@@ -38,7 +38,7 @@ returns-2 : tie.Need-returns-2
 returns-2 c =
     let at_told = c.before.before in
     let none = done-case _ _ at_told.before.before.check.ensures at_told.enum_told.given.1 in
-    tests-name (tests-pageRead _ _ _) _ _ none
+    tests-name (tests-page_read _ _ _) _ _ none
     (sym c.before.is-file.ensures ∙ not-true _ c.if1.true)
 
 is-page-address-requires : tie.Need-is-page-address-requires
@@ -55,7 +55,7 @@ returns-3 c =
     let at_test = c.before.before in
     let at_told = at_test.before.before in
     let none = done-case _ _ at_told.before.before.check.ensures at_told.enum_told.given.1 in
-    tests-address (tests-pageRead _ _ _) _ _ none
+    tests-address (tests-page_read _ _ _) _ _ none
     (sym at_test.before.is-file.ensures ∙ not-false _ at_test.if1.false)
     (sym c.before.is-page-address.ensures ∙ not-true _ c.if2.true)
 
@@ -87,7 +87,7 @@ returns-4 c =
     let at_test = at_address.before.before in
     let at_told = at_test.before.before in
     let none = done-case _ _ at_told.before.before.check.ensures at_told.enum_told.given.1 in
-    pageRead-done _ _ none _ _ _
+    page_read-done _ _ none _ _ _
     at_load.load-file.ensures _
     (sym at_test.before.is-file.ensures ∙ not-false _ at_test.if1.false)
     (sym at_address.before.is-page-address.ensures ∙ not-false _ at_address.if2.false) _

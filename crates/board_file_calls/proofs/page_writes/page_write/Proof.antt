@@ -5,7 +5,7 @@ use mathlib.Core.Path.{sym, ◌∙◌}
 use borrow.Author.Tests.{not-true, not-false}
 use Rattle.board_call.proofs.AnswerLaws.{done-case}
 use Rattle.board_call_laws.proofs.CallTests.{checked-long, tests-blocks, tests-name, tests-address}
-use Rattle.board_call_laws.proofs.FileCallEffects.{tests-pageWrite, pageWrite-done}
+use Rattle.board_call_laws.proofs.FileCallEffects.{tests-page_write, page_write-done}
 use borrow.Author.Rules.{rules}
 use Rattle.board_file_calls.proofs.page_writes.page_write.Statement.{statement}
 use Rattle.board_file_calls.proofs.page_writes.page_write.Tie as tie
@@ -24,7 +24,7 @@ same-length-2 c = search rules
 
 returns : tie.Need-returns
 returns c =
-    tests-blocks (tests-pageWrite _ _ _ _) _ _ _ c.before.check.ensures c.match.keys2
+    tests-blocks (tests-page_write _ _ _ _) _ _ _ c.before.check.ensures c.match.keys2
 
 is-file-requires : tie.Need-is-file-requires
 is-file-requires c κs = search rules
@@ -39,7 +39,7 @@ returns-2 : tie.Need-returns-2
 returns-2 c =
     let at_told = c.before.before in
     let none = done-case _ _ at_told.before.before.check.ensures at_told.enum_told.given.1 in
-    tests-name (tests-pageWrite _ _ _ _) _ _ none
+    tests-name (tests-page_write _ _ _ _) _ _ none
     (sym c.before.is-file.ensures ∙ not-true _ c.if1.true)
 
 is-page-address-requires : tie.Need-is-page-address-requires
@@ -56,7 +56,7 @@ returns-3 c =
     let at_test = c.before.before in
     let at_told = at_test.before.before in
     let none = done-case _ _ at_told.before.before.check.ensures at_told.enum_told.given.1 in
-    tests-address (tests-pageWrite _ _ _ _) _ _ none
+    tests-address (tests-page_write _ _ _ _) _ _ none
     (sym at_test.before.is-file.ensures ∙ not-false _ at_test.if1.false)
     (sym c.before.is-page-address.ensures ∙ not-true _ c.if2.true)
 
@@ -96,7 +96,7 @@ returns-4 c =
     let at_test = at_address.before.before in
     let at_told = at_test.before.before in
     let none = done-case _ _ at_told.before.before.check.ensures at_told.enum_told.given.1 in
-    pageWrite-done _ _ none _ _ _
+    page_write-done _ _ none _ _ _
     at_load.load-file.ensures _ _ at_store.store-file.auto.0
     at_store.store-file.ensures _ _
     (sym at_test.before.is-file.ensures ∙ not-false _ at_test.if1.false)

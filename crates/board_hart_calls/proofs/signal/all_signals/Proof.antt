@@ -4,15 +4,15 @@ use mathlib.Core.Path.{◌≡◌, sym, ap, ap₂, ◌∙◌}
 use mathlib.Core.Bool.{Bool}
 use native.Mathlib.Omega.{arith}
 use Rattle.words.specs.Bits.{put_bit}
-use Rattle.board_block.specs.Block.{boardOf}
-use Rattle.board_call.specs.Change.{signalsTo}
+use Rattle.board_block.specs.Block.{board_of}
+use Rattle.board_call.specs.Change.{signals_to}
 use Rattle.board_call_laws.proofs.HartCallEffects.{signals-none, signals-next}
 use borrow.Author.Rules.{rules}
 use Rattle.board_hart_calls.proofs.signal.all_signals.Statement.{statement}
 use Rattle.board_hart_calls.proofs.signal.all_signals.Tie as tie
 
 abbrev invariant-loop : tie.invariant-loop
-invariant-loop state hart word₀ f₀ word f = (f ≤ 5) × (word ≡ signalsTo (boardOf state) hart f)
+invariant-loop state hart word₀ f₀ word f = (f ≤ 5) × (word ≡ signals_to (board_of state) hart f)
 
 abbrev decreases-loop : tie.decreases-loop
 decreases-loop state hart word₀ f₀ word f = 5 - f
@@ -43,14 +43,14 @@ loop-again c =
       c.put-bit.ensures
           ∙ ap₂ (λ (w : ℕ) (s : Bool). put_bit w at-loop.f s) at-loop.invariant.1
           c.before.signal-at.ensures
-          ∙ signals-next (boardOf args.state.now) args.hart at-loop.f,
+          ∙ signals-next (board_of args.state.now) args.hart at-loop.f,
     )
 
 returns : tie.Need-returns invariant-loop decreases-loop
 returns c =
     let args = c.before.before.before.args in
     let all : c.before.loop.f ≡ 5 = omega arith in
-    c.before.loop.invariant.1 ∙ ap (signalsTo (boardOf args.state.now) args.hart) all
+    c.before.loop.invariant.1 ∙ ap (signals_to (board_of args.state.now) args.hart) all
 
 pub all-signals-spec : {M : Type 1} → statement M
 all-signals-spec =

@@ -3,7 +3,7 @@
 -- of four ways out asks for the lengths of both blocks. Assumes nothing.
 use mathlib.Core.Path.{sym, ap, ◌∙◌}
 use borrow.Author.Tests.{not-true, not-false}
-use Rattle.board_move_steps.specs.Steps.{actWithin}
+use Rattle.board_move_steps.specs.Steps.{act_within}
 use Rattle.board_move_files_laws.proofs.TableLaws.{act-within}
 use Rattle.board_call.proofs.AnswerLaws.{done-case}
 use Rattle.board_call_laws.proofs.CallTests.{checked-long, checked-sound, tests-blocks}
@@ -82,7 +82,7 @@ perform-requires c κs =
       checked-sound _ _ none,
       move-old _ _ _ _ _ there,
       move_new _ _ _ _ _ there,
-      ap actWithin at-act.act-of.ensures
+      ap act_within at-act.act-of.ensures
           ∙ act-within _ (move-low _ _ _ _ _ there) (move-high _ _ _ _ _ there),
     )
 

@@ -1,8 +1,8 @@
 -- `board_move_calls::registers::put` meets its contract: the file that the access leaves. Assumes nothing.
 use mathlib.Core.Path.{ap, ◌∙◌}
 use Rattle.file.specs.declared.register.Accessed.{Accessed}
-use Rattle.board_block.specs.Block.{boardOf}
-use Rattle.board_call.specs.Move.{withOne}
+use Rattle.board_block.specs.Block.{board_of}
+use Rattle.board_call.specs.Move.{with_one}
 use Rattle.board_move_laws.proofs.MoveCallEffects.{guest-there}
 use borrow.Author.Rules.{rules}
 use Rattle.board_move_calls.proofs.registers.put.Statement.{statement}
@@ -24,7 +24,7 @@ returns c =
     let at-access = at_store.before.before in
     let args = at-access.before.before.before.args in
     at_store.store-file.ensures
-    ∙ ap (λ (x : Accessed). withOne (boardOf args.state.now) args.hart args.file x.file)
+    ∙ ap (λ (x : Accessed). with_one (board_of args.state.now) args.hart args.file x.file)
     at-access.accessed.ensures
 
 pub put_spec : {M : Type 1} → statement M

@@ -2,7 +2,7 @@
 use mathlib.Core.Path.{ap, ◌∙◌}
 use lib.ListN.{set}
 use Rattle.file.specs.declared.register.Accessed.{Accessed}
-use Rattle.file.specs.Reply.{replyValue}
+use Rattle.file.specs.Reply.{reply_value}
 use borrow.Author.Rules.{rules}
 use Rattle.board_move_calls.proofs.registers.save.Statement.{statement}
 use Rattle.board_move_calls.proofs.registers.save.Tie as tie
@@ -23,7 +23,7 @@ returns : tie.Need-returns
 returns c =
     let args = c.before.before.before.args in
     ap (set args.saved.now args.place)
-    (c.value_of_lem.ensures ∙ ap (λ (x : Accessed). replyValue x.answer) c.before.accessed.ensures)
+    (c.value_of_lem.ensures ∙ ap (λ (x : Accessed). reply_value x.answer) c.before.accessed.ensures)
 
 pub save-spec : {M : Type 1} → statement M
 save-spec =

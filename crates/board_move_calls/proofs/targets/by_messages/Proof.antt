@@ -2,14 +2,14 @@
 -- nothing.
 use mathlib.Core.Path.{ap, ◌∙◌}
 use lib.ListN.{take, drop}
-use Rattle.domain.specs.Domain.{byMessages}
+use Rattle.domain.specs.Domain.{by_messages}
 use Rattle.wired_state.specs.Wires.{Wired}
 use Rattle.wired_state.proofs.WiresLaws.{child-part}
 use Rattle.board_block.proofs.BlockLaws.{wired-long, wired-part}
 use borrow.Author.Rules.{rules}
 use Rattle.board_move_calls.proofs.targets.by_messages.Statement.{statement}
 use Rattle.board_move_calls.proofs.targets.by_messages.Tie as tie
-use Rattle.sizes.specs.Sizes.{filesSize, wiredSize}
+use Rattle.sizes.specs.Sizes.{files_size, wired_size}
 
 sub-w : tie.Need-overflow-sub-w
 sub-w c = search rules
@@ -38,7 +38,7 @@ returns c =
     let l = start.args.state.now in
     let long = start.requires in
     c.by-messages.ensures
-    ∙ ap byMessages (child-part (take wiredSize (drop filesSize l)) (wired-long l long)
+    ∙ ap by_messages (child-part (take wired_size (drop files_size l)) (wired-long l long)
     ∙ ap (λ (w : Wired). w.child) (wired-part l long))
 
 pub by-messages-spec : {M : Type 1} → statement M

@@ -2,11 +2,11 @@
 use Prim.Native.Nat.{◌<◌}
 use mathlib.Core.Path.{sym, ap, subst, ◌∙◌}
 use mathlib.Core.Bool.{true}
-use Rattle.domain.specs.Domain.{domaincfgOf}
-use Rattle.wired_state.specs.Wires.{Wired, domainIn}
-use Rattle.board_block.specs.Block.{withWired, boardOf}
+use Rattle.domain.specs.Domain.{domaincfg_of}
+use Rattle.wired_state.specs.Wires.{Wired, domain_in}
+use Rattle.board_block.specs.Block.{with_wired, board_of}
 use Rattle.board_block.proofs.BlockLaws.{wired-long, wired-part, put-wired}
-use Rattle.board_call.specs.Move.{retargetedIn}
+use Rattle.board_call.specs.Move.{retargeted_in}
 use Rattle.board_move_laws.proofs.MoveCallEffects.{child-domaincfg}
 use borrow.Author.Rules.{rules}
 use Rattle.board_move_calls.proofs.targets.retarget.Statement.{statement}
@@ -27,7 +27,7 @@ rewrite-requires c κs =
     let l = start.args.state.now in
     let long = start.requires.0 in (
       wired-long l long,
-      subst (λ (w : Wired). domaincfgOf (domainIn w true) < 0x80000000) (sym (wired-part l long))
+      subst (λ (w : Wired). domaincfg_of (domain_in w true) < 0x80000000) (sym (wired-part l long))
           (child-domaincfg l long start.requires.1),
       start.requires.2,
       start.requires.3,
@@ -45,9 +45,9 @@ returns c =
     let l = args.state.now in
     let long = start.requires.0 in
     put-wired l at-rewrite.rewrite.new.0 long (at-rewrite.rewrite.auto.0 ∙ wired-long l long)
-    ∙ ap (withWired (boardOf l))
+    ∙ ap (with_wired (board_of l))
     (at-rewrite.rewrite.ensures
-    ∙ ap (λ (w : Wired). retargetedIn args.oldhart args.oldfile args.newhart args.newfile w
+    ∙ ap (λ (w : Wired). retargeted_in args.oldhart args.oldfile args.newhart args.newfile w
     args.source) (wired-part l long))
 
 pub retarget-spec : {M : Type 1} → statement M

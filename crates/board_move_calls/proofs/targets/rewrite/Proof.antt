@@ -2,7 +2,7 @@
 -- nothing.
 use mathlib.Core.Path.{sym, ◌∙◌}
 use native.Mathlib.Omega.{arith}
-use Rattle.wired_state.specs.Wires.{wiredOf}
+use Rattle.wired_state.specs.Wires.{wired_of}
 use Rattle.board_move_laws.proofs.MoveEffects.{guest-hart, guest-low, guest-high}
 use Rattle.board_move_laws.proofs.MoveCallEffects.{retarget-made, retarget-none}
 use borrow.Author.Rules.{rules}
@@ -37,7 +37,7 @@ returns c =
     let at_name = at_renamed.before.before.before in
     let at_read = at_name.before.before.before in
     let args = at_read.before.before.before.args in
-    retarget-made args.oldhart args.oldfile args.newhart args.newfile (wiredOf args.w.now)
+    retarget-made args.oldhart args.oldfile args.newhart args.newfile (wired_of args.w.now)
     args.source _ _ at_read.read.ensures.0 at_read.read.ensures.1
     (sym at_name.names-file.ensures ∙ at_renamed.before.before.if1.true) _
     at_renamed.renamed.ensures _ at-write.write.ensures
@@ -50,7 +50,7 @@ returns-2 c =
     let at_name = c.before in
     let at_read = at_name.before.before.before in
     let args = at_read.before.before.before.args in
-    retarget-none args.oldhart args.oldfile args.newhart args.newfile (wiredOf args.w.now)
+    retarget-none args.oldhart args.oldfile args.newhart args.newfile (wired_of args.w.now)
     args.source _ _ at_read.read.ensures.0 at_read.read.ensures.1
     (sym at_name.names-file.ensures ∙ c.if1.false)
 

@@ -3,7 +3,7 @@ use Prim.Native.Nat.{ℕ, ◌+◌}
 use mathlib.Core.Path.{ap₂}
 use mathlib.Core.Bool.{◌&&◌}
 use lib.Dec.{eqb}
-use Rattle.board_move_steps.specs.Names.{namesFile}
+use Rattle.board_move_steps.specs.Names.{names_file}
 use borrow.Author.Rules.{rules}
 use Rattle.board_move_steps.proofs.names.names_file.Statement.{statement}
 use Rattle.board_move_steps.proofs.names.names_file.Tie as tie
@@ -24,7 +24,7 @@ add-result : tie.Need-overflow-add-result
 add-result c = search rules
 
 returns : tie.Need-returns
-unfolding namesFile
+unfolding names_file
 returns c =
     ap₂ (λ (h g : ℕ). eqb h c.before.before.args.hart && eqb (g + 1) c.before.before.args.file)
     c.before.hart-of.ensures.0 c.guest-of.ensures.0

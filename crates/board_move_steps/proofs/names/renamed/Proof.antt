@@ -3,7 +3,7 @@ use Prim.Native.Nat.{◌-◌}
 use mathlib.Core.Path.{ap, ◌∙◌}
 use native.Mathlib.Omega.{arith}
 use Rattle.words.specs.Parts.{packed}
-use Rattle.source_target.specs.Target.{hartAt}
+use Rattle.source_target.specs.Target.{hart_at}
 use Rattle.source_target.proofs.TargetLaws.{receiver-lt}
 use Rattle.board_move_steps.specs.Names.{renamed}
 use borrow.Author.Rules.{rules}
@@ -42,7 +42,7 @@ unfolding renamed
 returns c =
     let args = c.before.before.before.args in
     c.packed322.ensures
-    ∙ ap (packed args.hart hartAt) (c.before.packed32.ensures
+    ∙ ap (packed args.hart hart_at) (c.before.packed32.ensures
     ∙ ap (packed (args.file - 1) 12) c.before.before.number_of_lem.ensures.0)
 
 pub renamed-spec : {M : Type 1} → statement M

@@ -1,9 +1,9 @@
 -- `board_wired_calls::accepted_read::read_done` meets its contract: the files stay. Assumes nothing.
 use mathlib.Core.Path.{ap, ◌∙◌}
 use Rattle.wired_state.specs.Wires.{Wired}
-use Rattle.wired_registers.specs.Wired.{readIn}
-use Rattle.wired.specs.Controller.{readCall}
-use Rattle.board_block.specs.Block.{withWired, boardOf}
+use Rattle.wired_registers.specs.Wired.{read_in}
+use Rattle.wired.specs.Controller.{read_call}
+use Rattle.board_block.specs.Block.{with_wired, board_of}
 use Rattle.board_block.proofs.BlockLaws.{wired-long, wired-part, put-wired}
 use Rattle.board_wired_calls.proofs.AcceptedLaws.{part_sound}
 use borrow.Author.Rules.{rules}
@@ -37,10 +37,10 @@ returns c =
     let long = start.requires.0 in
     let put = put-wired l at_read.read.new.0 long (at_read.read.auto.0 ∙ wired-long l long) in
     let read = at_read.read.ensures in (
-      read.0 ∙ ap (λ (w : Wired). readIn w args.child args.word) (wired-part l long),
+      read.0 ∙ ap (λ (w : Wired). read_in w args.child args.word) (wired-part l long),
       put
-          ∙ ap (withWired (boardOf l))
-          (read.1 ∙ ap (λ (w : Wired). (readCall w args.child args.word).wired) (wired-part l long)),
+          ∙ ap (with_wired (board_of l))
+          (read.1 ∙ ap (λ (w : Wired). (read_call w args.child args.word).wired) (wired-part l long)),
     )
 
 pub read-done-spec : {M : Type 1} → statement M

@@ -2,8 +2,8 @@
 -- nothing.
 use mathlib.Core.Path.{ap, ◌∙◌}
 use lib.ListN.{take, drop}
-use Rattle.wired_state.specs.Wires.{Wired, wiredOf}
-use Rattle.wired.specs.Controller.{wireCall}
+use Rattle.wired_state.specs.Wires.{Wired, wired_of}
+use Rattle.wired.specs.Controller.{wire_call}
 use Rattle.wired_laws.proofs.OutEffects.{wire-exists}
 use Rattle.board_block.proofs.BlockLaws.{wired-long, wired-part, put-wired-long}
 use Rattle.board_wired_calls.proofs.AcceptedLaws.{part_sound, wire-within, left-named, done-left}
@@ -11,7 +11,7 @@ use Rattle.board_wired_calls.proofs.AcceptedLaws.{left-of}
 use borrow.Author.Rules.{rules}
 use Rattle.board_wired_calls.proofs.accepted_wire.wire_done.Statement.{statement}
 use Rattle.board_wired_calls.proofs.accepted_wire.wire_done.Tie as tie
-use Rattle.sizes.specs.Sizes.{filesSize, wiredSize}
+use Rattle.sizes.specs.Sizes.{files_size, wired_size}
 
 sub-set-wire : tie.Need-overflow-sub-set-wire
 sub-set-wire c = search rules
@@ -46,7 +46,7 @@ delivered-requires c κs =
       at_call.set-wire.auto.1.0 ∙ start.requires.1,
       wire-within l long start.requires.4 _ args.i start.requires.2 start.requires.3 args.level left.2,
       left-named _ _ args.log.now _ _ left
-          (wire-exists (wiredOf (take wiredSize (drop filesSize l))) args.i args.level),
+          (wire-exists (wired_of (take wired_size (drop files_size l))) args.i args.level),
     )
 
 same_length : tie.Need-same-length
@@ -67,7 +67,7 @@ returns c =
     let whole = at_call.set-wire.auto.0 ∙ wired-long l long in
     let left = at_call.set-wire.ensures in (
       wire-within l long start.requires.4 _ args.i start.requires.2 start.requires.3 args.level left.2,
-      left-of (ap (λ (w : Wired). wireCall w args.i args.level) (wired-part l long)) l _
+      left-of (ap (λ (w : Wired). wire_call w args.i args.level) (wired-part l long)) l _
           args.log.now _ _
           (done-left l zs args.log.now _ _ long whole _ left _ _ at-delivered.delivered.ensures.0
           at-delivered.delivered.ensures.1),

@@ -2,8 +2,8 @@
 -- nothing.
 use mathlib.Core.Path.{ap, ◌∙◌}
 use lib.ListN.{take, drop}
-use Rattle.wired_state.specs.Wires.{Wired, wiredOf}
-use Rattle.wired.specs.Controller.{writeCall}
+use Rattle.wired_state.specs.Wires.{Wired, wired_of}
+use Rattle.wired.specs.Controller.{write_call}
 use Rattle.wired_laws.proofs.OutEffects.{write-exists}
 use Rattle.board_block.proofs.BlockLaws.{wired-long, wired-part, put-wired-long}
 use Rattle.board_wired_calls.proofs.AcceptedLaws.{part_sound, write-within, left-named, done-left}
@@ -11,7 +11,7 @@ use Rattle.board_wired_calls.proofs.AcceptedLaws.{left-of}
 use borrow.Author.Rules.{rules}
 use Rattle.board_wired_calls.proofs.accepted_write.write_done.Statement.{statement}
 use Rattle.board_wired_calls.proofs.accepted_write.write_done.Tie as tie
-use Rattle.sizes.specs.Sizes.{filesSize, wiredSize}
+use Rattle.sizes.specs.Sizes.{files_size, wired_size}
 
 sub-write : tie.Need-overflow-sub-write
 sub-write c = search rules
@@ -42,7 +42,7 @@ delivered-requires c κs =
       write-within l long start.requires.3 _ args.child args.word start.requires.2 args.value
           left.2,
       left-named _ _ args.log.now _ _ left
-          (write-exists (wiredOf (take wiredSize (drop filesSize l))) args.child args.word
+          (write-exists (wired_of (take wired_size (drop files_size l))) args.child args.word
           args.value),
     )
 
@@ -65,7 +65,7 @@ returns c =
     let left = at_call.write.ensures in (
       write-within l long start.requires.3 _ args.child args.word start.requires.2 args.value
           left.2,
-      left-of (ap (λ (w : Wired). writeCall w args.child args.word args.value)
+      left-of (ap (λ (w : Wired). write_call w args.child args.word args.value)
           (wired-part l long)) l _ args.log.now _ _
           (done-left l zs args.log.now _ _ long whole _ left _ _ at-delivered.delivered.ensures.0
           at-delivered.delivered.ensures.1),

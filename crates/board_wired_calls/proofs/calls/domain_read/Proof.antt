@@ -11,13 +11,13 @@ use Rattle.domain_region.specs.Region.{Within}
 use Rattle.domain_region.specs.declared.Word.{Word}
 use Rattle.domain_region.proofs.RegionLaws.{word-within}
 use lib.Dec.{eqb}
-use Rattle.domain_region.specs.Region.{wordAt}
-use Rattle.wired_registers.specs.Wired.{readIn}
-use Rattle.wired.specs.Controller.{readCall}
-use Rattle.board_block.specs.Block.{withWired, boardOf}
+use Rattle.domain_region.specs.Region.{word_at}
+use Rattle.wired_registers.specs.Wired.{read_in}
+use Rattle.wired.specs.Controller.{read_call}
+use Rattle.board_block.specs.Block.{with_wired, board_of}
 use Rattle.board_wired_calls.proofs.AcceptedLaws.{read_none}
 use Rattle.board_call_laws.proofs.CallTests.{tests-blocks, tests-name, tests-address}
-use Rattle.board_call_laws.proofs.WiredCallEffects.{tests-domainRead, domainRead-done}
+use Rattle.board_call_laws.proofs.WiredCallEffects.{tests-domain_read, domain_read-done}
 use borrow.Author.Rules.{rules}
 use Rattle.board_wired_calls.proofs.calls.domain_read.Statement.{statement}
 use Rattle.board_wired_calls.proofs.calls.domain_read.Tie as tie
@@ -38,7 +38,7 @@ returns : tie.Need-returns
 returns c =
     let at-check = c.before in
     let args = at-check.before.before.before.before.before.args in
-    tests-blocks (tests-domainRead args.domain args.address) args.state.now args.log.now _
+    tests-blocks (tests-domain_read args.domain args.address) args.state.now args.log.now _
     at-check.check.ensures c.match.keys2
 
 same-length-3 : tie.Need-same-length-3
@@ -52,7 +52,7 @@ returns-2 c =
     let at_told = c.before in
     let at-check = at_told.before.before in
     let args = at-check.before.before.before.before.before.args in
-    tests-name (tests-domainRead args.domain args.address) args.state.now args.log.now
+    tests-name (tests-domain_read args.domain args.address) args.state.now args.log.now
     (done-case _ _ at-check.check.ensures at_told.enum_told.given.1) (le-ltb _ 2 c.if1.true)
 
 address-legal-requires : tie.Need-address-legal-requires
@@ -70,7 +70,7 @@ returns-3 c =
     let at_told = at_name.before in
     let at-check = at_told.before.before in
     let args = at-check.before.before.before.before.before.args in
-    tests-address (tests-domainRead args.domain args.address) args.state.now args.log.now
+    tests-address (tests-domain_read args.domain args.address) args.state.now args.log.now
     (done-case _ _ at-check.check.ensures at_told.enum_told.given.1)
     (lt-ltb args.domain 2 (omega (arith, at_name.if1.false)))
     (sym c.before.address-legal.ensures ∙ not-true _ c.if2.true)
@@ -111,13 +111,13 @@ returns-4 c =
     let child = eqb args.domain 1 in
     let word = at_done.before.word-at.ensures in
     let read = at_done.read_done.ensures in
-    domainRead-done l args.log.now none
+    domain_read-done l args.log.now none
     args.domain args.address (omega (arith, at_name.if1.false))
     (sym at_address.before.address-legal.ensures ∙ not-false _ at_address.if2.false) _ _
     (at_done.read_done.auto.0 ∙ long)
-    (read_none l long (passed-rules true l args.log.now none refl) child (wordAt args.address))
-    (read.0 ∙ ap (readIn (boardOf l).wired child) word)
-    (read.1 ∙ ap (λ (r : Word). withWired (boardOf l) (readCall (boardOf l).wired child r).wired) word)
+    (read_none l long (passed-rules true l args.log.now none refl) child (word_at args.address))
+    (read.0 ∙ ap (read_in (board_of l).wired child) word)
+    (read.1 ∙ ap (λ (r : Word). with_wired (board_of l) (read_call (board_of l).wired child r).wired) word)
 
 pub domain-read-spec : {M : Type 1} → statement M
 domain-read-spec =

@@ -11,11 +11,11 @@ use Rattle.domain_region.specs.Region.{Within}
 use Rattle.domain_region.specs.declared.Word.{Word}
 use Rattle.domain_region.proofs.RegionLaws.{word-within}
 use lib.Dec.{eqb}
-use Rattle.wired.specs.Controller.{writeCall}
-use Rattle.board_block.specs.Block.{boardOf}
+use Rattle.wired.specs.Controller.{write_call}
+use Rattle.board_block.specs.Block.{board_of}
 use Rattle.board_wired_calls.proofs.AcceptedLaws.{left-of}
 use Rattle.board_call_laws.proofs.CallTests.{tests-blocks, tests-name, tests-address}
-use Rattle.board_call_laws.proofs.WiredCallEffects.{tests-domainWrite, domainWrite-done}
+use Rattle.board_call_laws.proofs.WiredCallEffects.{tests-domain_write, domain_write-done}
 use borrow.Author.Rules.{rules}
 use Rattle.board_wired_calls.proofs.calls.domain_write.Statement.{statement}
 use Rattle.board_wired_calls.proofs.calls.domain_write.Tie as tie
@@ -36,7 +36,7 @@ returns : tie.Need-returns
 returns c =
     let at-check = c.before in
     let args = at-check.before.before.before.before.before.args in
-    tests-blocks (tests-domainWrite args.domain args.address args.value) args.state.now
+    tests-blocks (tests-domain_write args.domain args.address args.value) args.state.now
     args.log.now _
     at-check.check.ensures c.match.keys2
 
@@ -51,7 +51,7 @@ returns-2 c =
     let at_told = c.before in
     let at-check = at_told.before.before in
     let args = at-check.before.before.before.before.before.args in
-    tests-name (tests-domainWrite args.domain args.address args.value) args.state.now
+    tests-name (tests-domain_write args.domain args.address args.value) args.state.now
     args.log.now
     (done-case _ _ at-check.check.ensures at_told.enum_told.given.1) (le-ltb _ 2 c.if1.true)
 
@@ -70,7 +70,7 @@ returns-3 c =
     let at_told = at_name.before in
     let at-check = at_told.before.before in
     let args = at-check.before.before.before.before.before.args in
-    tests-address (tests-domainWrite args.domain args.address args.value) args.state.now
+    tests-address (tests-domain_write args.domain args.address args.value) args.state.now
     args.log.now
     (done-case _ _ at-check.check.ensures at_told.enum_told.given.1)
     (lt-ltb args.domain 2 (omega (arith, at_name.if1.false)))
@@ -109,12 +109,12 @@ returns-4 c =
     let args = at-check.before.before.before.before.before.args in
     let none = done-case _ _ at-check.check.ensures at_told.enum_told.given.1 in
     let child = eqb args.domain 1 in
-    domainWrite-done args.state.now args.log.now none args.domain args.address
+    domain_write-done args.state.now args.log.now none args.domain args.address
     (omega (arith, at_name.if1.false))
     (sym at_address.before.address-legal.ensures ∙ not-false _ at_address.if2.false) args.value
     _ _ _
     (at_done.write_done.auto.0 ∙ passed-state true _ _ none)
-    (left-of (ap (λ (r : Word). writeCall (boardOf args.state.now).wired child r args.value)
+    (left-of (ap (λ (r : Word). write_call (board_of args.state.now).wired child r args.value)
     at_done.before.word-at.ensures) _ _ _ _ _ at_done.write_done.ensures.1)
 
 pub domain-write-spec : {M : Type 1} → statement M

@@ -1,8 +1,8 @@
 -- `board_wired_calls::delivery::delivered` meets its contract: the wired controller stays. Assumes nothing.
 use mathlib.Core.Path.{refl, ap, ◌∙◌}
 use lib.ListN.{take}
-use Rattle.files.specs.Files.{allReached}
-use Rattle.board_block.specs.Block.{withFiles, boardOf}
+use Rattle.files.specs.Files.{all_reached}
+use Rattle.board_block.specs.Block.{with_files, board_of}
 use Rattle.board_block.proofs.BlockLaws.{files-long, files-part, put-files}
 use borrow.Author.Rules.{rules}
 use Rattle.board_wired_calls.proofs.delivery.delivered.Statement.{statement}
@@ -35,8 +35,8 @@ returns c =
     let long = start.requires.0 in
     let sent = take args.count args.log.now in (
       put-files l at-deliver.deliver.new.0 long (at-deliver.deliver.auto.0 ∙ files-long l long)
-          ∙ ap (withFiles (boardOf l))
-          (at-deliver.deliver.ensures ∙ (λ j. allReached (files-part l long j) sent)),
+          ∙ ap (with_files (board_of l))
+          (at-deliver.deliver.ensures ∙ (λ j. all_reached (files-part l long j) sent)),
       refl,
     )
 

@@ -3,7 +3,7 @@
 use mathlib.Core.Path.{◌≡◌, sym, ◌∙◌}
 use Prim.Native.Nat.{◌≤◌, ◌-◌}
 use lib.ListN.{length, drop}
-use Rattle.cases.specs.Digest.{digestOf, halves}
+use Rattle.cases.specs.Digest.{digest_of, halves}
 use Rattle.cases.proofs.DigestLaws.{digest-number, digest-numbers-end}
 use borrow.Author.Rules.{rules}
 use Rattle.cases.proofs.digest.of_numbers.Statement.{statement}
@@ -11,7 +11,7 @@ use Rattle.cases.proofs.digest.of_numbers.Tie as tie
 
 abbrev invariant-loop : tie.invariant-loop
 invariant-loop digest numbers d₀ i₀ d i =
-    (i ≤ length numbers) × (digestOf d (halves (drop i numbers)) ≡ digestOf digest (halves numbers))
+    (i ≤ length numbers) × (digest_of d (halves (drop i numbers)) ≡ digest_of digest (halves numbers))
 
 abbrev decreases-loop : tie.decreases-loop
 decreases-loop digest numbers d₀ i₀ d i = length numbers - i

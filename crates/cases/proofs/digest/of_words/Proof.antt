@@ -3,7 +3,7 @@
 use mathlib.Core.Path.{◌≡◌, sym, ◌∙◌}
 use Prim.Native.Nat.{◌≤◌, ◌-◌}
 use lib.ListN.{length, drop}
-use Rattle.cases.specs.Digest.{digestOf}
+use Rattle.cases.specs.Digest.{digest_of}
 use Rattle.cases.proofs.DigestLaws.{digest-word, digest-end}
 use borrow.Author.Rules.{rules}
 use Rattle.cases.proofs.digest.of_words.Statement.{statement}
@@ -11,7 +11,7 @@ use Rattle.cases.proofs.digest.of_words.Tie as tie
 
 abbrev invariant-loop : tie.invariant-loop
 invariant-loop digest words d₀ i₀ d i =
-    (i ≤ length words) × (digestOf d (drop i words) ≡ digestOf digest words)
+    (i ≤ length words) × (digest_of d (drop i words) ≡ digest_of digest words)
 
 abbrev decreases-loop : tie.decreases-loop
 decreases-loop digest words d₀ i₀ d i = length words - i

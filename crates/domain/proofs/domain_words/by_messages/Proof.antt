@@ -2,8 +2,8 @@
 use Prim.Native.Nat.{ℕ}
 use mathlib.Core.Path.{ap, ◌∙◌}
 use native.Mathlib.Omega.{arith}
-use Rattle.words.specs.Bits.{hasBit}
-use Rattle.domain.specs.Domain.{domaincfgOf, byMessages}
+use Rattle.words.specs.Bits.{has_bit}
+use Rattle.domain.specs.Domain.{domaincfg_of, by_messages}
 use Rattle.domain.proofs.DomainLaws.{read-source}
 use borrow.Author.Rules.{rules}
 use Rattle.domain.proofs.domain_words.by_messages.Statement.{statement}
@@ -16,10 +16,10 @@ has-bit-requires : tie.Need-has-bit-requires
 has-bit-requires c κs = search rules
 
 returns : tie.Need-returns
-unfolding byMessages domaincfgOf
+unfolding by_messages domaincfg_of
 returns c =
     c.has-bit.ensures
-    ∙ ap (λ (w : ℕ). hasBit w 2) (read-source c.before.before.before.args.part.now 0 (omega arith))
+    ∙ ap (λ (w : ℕ). has_bit w 2) (read-source c.before.before.before.args.part.now 0 (omega arith))
 
 pub by-messages-spec : {M : Type 1} → statement M
 by-messages-spec = tie.close (tie.spec shared-slice-read-has-bit has-bit-requires returns)

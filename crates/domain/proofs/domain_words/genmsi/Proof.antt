@@ -1,6 +1,6 @@
 -- `domain::domain_words::genmsi` meets its contract: the word before target[1]. Assumes nothing.
 use native.Mathlib.Omega.{arith}
-use Rattle.domain.specs.Domain.{genmsiOf}
+use Rattle.domain.specs.Domain.{genmsi_of}
 use Rattle.domain.proofs.DomainLaws.{read-target}
 use borrow.Author.Rules.{rules}
 use Rattle.domain.proofs.domain_words.genmsi.Statement.{statement}
@@ -10,7 +10,7 @@ shared-slice-read-result : tie.Need-shared-slice-read-result
 shared-slice-read-result c = search rules
 
 returns : tie.Need-returns
-unfolding genmsiOf
+unfolding genmsi_of
 returns c = read-target c.before.args.part.now 0 (omega arith)
 
 pub genmsi-spec : {M : Type 1} → statement M

@@ -1,6 +1,6 @@
 -- `domain::domain_words::put_domaincfg` meets its contract: the first word of the sources. Assumes nothing.
 use native.Mathlib.Omega.{arith}
-use Rattle.domain.specs.Domain.{withDomaincfg}
+use Rattle.domain.specs.Domain.{with_domaincfg}
 use Rattle.domain.proofs.DomainLaws.{store-source}
 use borrow.Author.Rules.{rules}
 use Rattle.domain.proofs.domain_words.put_domaincfg.Statement.{statement}
@@ -13,7 +13,7 @@ same_length : tie.Need-same-length
 same_length c = search rules
 
 returns : tie.Need-returns
-unfolding withDomaincfg
+unfolding with_domaincfg
 returns c = store-source c.args.part.now 0 c.args.value (omega arith)
 
 pub put-domaincfg-spec : {M : Type 1} → statement M

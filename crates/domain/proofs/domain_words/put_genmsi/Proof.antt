@@ -1,6 +1,6 @@
 -- `domain::domain_words::put_genmsi` meets its contract: the first word of the targets. Assumes nothing.
 use native.Mathlib.Omega.{arith}
-use Rattle.domain.specs.Domain.{withGenmsi}
+use Rattle.domain.specs.Domain.{with_genmsi}
 use Rattle.domain.proofs.DomainLaws.{store-target}
 use borrow.Author.Rules.{rules}
 use Rattle.domain.proofs.domain_words.put_genmsi.Statement.{statement}
@@ -13,7 +13,7 @@ same_length : tie.Need-same-length
 same_length c = search rules
 
 returns : tie.Need-returns
-unfolding withGenmsi
+unfolding with_genmsi
 returns c = store-target c.args.part.now 0 c.args.value (omega arith)
 
 pub put-genmsi-spec : {M : Type 1} → statement M

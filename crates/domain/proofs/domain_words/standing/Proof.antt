@@ -4,9 +4,9 @@ use Prim.Native.Nat.{ℕ}
 use mathlib.Core.Path.{ap₂, sym, ◌∙◌}
 use native.Mathlib.Omega.{arith}
 use lib.Bits.{bit_and}
-use Rattle.words.specs.Bits.{hasBit}
+use Rattle.words.specs.Bits.{has_bit}
 use Rattle.words.specs.Parts.{joined}
-use Rattle.domain.specs.Domain.{domainOf}
+use Rattle.domain.specs.Domain.{domain_of}
 use Rattle.domain.proofs.SlotLaws.{standing-bit}
 use borrow.Author.Rules.{rules}
 use Rattle.domain.proofs.domain_words.standing.Statement.{statement}
@@ -38,8 +38,8 @@ returns c i h =
     let pending =
     c.before.before.before.joined64.ensures ∙ ap₂ joined first at_high.pending-word2.ensures in
     let enable = c.joined642.ensures ∙ ap₂ joined third c.before.enable-word2.ensures in
-    ap₂ (λ (p e : ℕ). hasBit (bit_and p e) i) pending enable
-    ∙ standing-bit (domainOf at_high.before.before.before.args.part.now) i
+    ap₂ (λ (p e : ℕ). has_bit (bit_and p e) i) pending enable
+    ∙ standing-bit (domain_of at_high.before.before.before.args.part.now) i
     (rw (sym first) (omega arith)) (rw (sym third) (omega arith)) h
 
 pub standing-spec : {M : Type 1} → statement M

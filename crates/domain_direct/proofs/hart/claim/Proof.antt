@@ -2,9 +2,9 @@
 -- Assumes
 -- nothing.
 use mathlib.Core.Path.{ap, sym, ◌∙◌}
-use Rattle.domain.specs.Domain.{domainOf}
+use Rattle.domain.specs.Domain.{domain_of}
 use Rattle.domain_direct.specs.Direct.{released}
-use Rattle.domain_topi.proofs.TopLaws.{topSource-lt}
+use Rattle.domain_topi.proofs.TopLaws.{top_source-lt}
 use Rattle.domain_topi.proofs.WordLaws.{word_of, topi-messages, topi-direct}
 use Rattle.domain_direct.proofs.DirectLaws.{claimed-messages, claimed-none, claimed-some}
 use borrow.Author.Rules.{rules}
@@ -29,7 +29,7 @@ topi-word-requires : tie.Need-topi-word-requires
 topi-word-requires c κs =
     let at_top = c.before in
     let start = at_top.before.before.before.before.before.before in
-    (start.requires.0, rw at_top.top-source.ensures (topSource-lt _ _))
+    (start.requires.0, rw at_top.top-source.ensures (top_source-lt _ _))
 
 unforce-requires : tie.Need-unforce-requires
 unforce-requires c κs = search rules
@@ -38,7 +38,7 @@ release-requires : tie.Need-release-requires
 release-requires c κs =
     let at_top = c.before.before.before.before in
     let start = at_top.before.before.before.before.before.before in
-    (start.requires.0, rw at_top.top-source.ensures (topSource-lt _ _))
+    (start.requires.0, rw at_top.top-source.ensures (top_source-lt _ _))
 
 same-length-2 : tie.Need-same-length-2
 same-length-2 c = search rules
@@ -50,7 +50,7 @@ returns-2 c =
     let at_top = at-word.before.before in
     let at-mode = at_top.before.before.before in
     let direct = sym at-mode.by-messages.ensures ∙ at_top.before.before.if1.false in
-    let d = domainOf at-mode.before.before.before.args.part.now in
+    let d = domain_of at-mode.before.before.before.args.part.now in
     let same = at_top.top-source.ensures in (
       at-word.topi-word.ensures ∙ ap (word_of d) same ∙ sym (topi-direct _ _ direct),
       at-unforce.unforce.ensures
@@ -67,7 +67,7 @@ returns-3 c =
     let at_top = at-word.before.before in
     let at-mode = at_top.before.before.before in
     let direct = sym at-mode.by-messages.ensures ∙ at_top.before.before.if1.false in
-    let d = domainOf at-mode.before.before.before.args.part.now in
+    let d = domain_of at-mode.before.before.before.args.part.now in
     let same = at_top.top-source.ensures in (
       at-word.topi-word.ensures ∙ ap (word_of d) same ∙ sym (topi-direct _ _ direct),
       at-release.release.ensures ∙ ap (released d) same

@@ -3,8 +3,8 @@ use mathlib.Core.Path.{ap, ◌∙◌}
 use mathlib.Core.Bool.{false}
 use Rattle.source.specs.declared.Source.{Source}
 use Rattle.source.specs.Pending.{cleared}
-use Rattle.domain.specs.Domain.{domainOf}
-use Rattle.domain.specs.Slot.{withSource}
+use Rattle.domain.specs.Domain.{domain_of}
+use Rattle.domain.specs.Slot.{with_source}
 use Rattle.domain_direct.specs.Direct.{released}
 use borrow.Author.Rules.{rules}
 use Rattle.domain_direct.proofs.hart.release.Statement.{statement}
@@ -29,7 +29,7 @@ returns c =
     let at_load = at_store.before.before.before in
     let args = at_load.before.before.before.args in
     at_store.store.ensures
-    ∙ ap (withSource (domainOf args.part.now) args.i)
+    ∙ ap (with_source (domain_of args.part.now) args.i)
     (at_store.before.cleared.ensures ∙ ap (λ (s : Source). cleared s false) at_load.load.ensures)
 
 pub release_spec : {M : Type 1} → statement M

@@ -5,7 +5,7 @@ use mathlib.Core.Path.{ap, ap₂, sym, ◌∙◌}
 use mathlib.Core.Bool.{Bool}
 use borrow.Author.Tests.{not-true}
 use Rattle.domain_delivery.specs.declared.Delivery.{Delivery}
-use Rattle.domain_delivery.specs.Delivery.{structureSignals}
+use Rattle.domain_delivery.specs.Delivery.{structure_signals}
 use Rattle.domain_direct.proofs.DirectLaws.{signal-messages, signal-direct, signal-silent}
 use borrow.Author.Rules.{rules}
 use Rattle.domain_direct.proofs.hart.signal.Statement.{statement}
@@ -31,7 +31,7 @@ returns-2 c =
     let at-enabled = c.before.before in
     let at-mode = at-enabled.before.before.before in
     let direct = sym at-mode.by-messages.ensures ∙ at-enabled.before.before.if1.false in
-    let same = ap₂ (λ (x : Delivery) (e : Bool). structureSignals x e 1)
+    let same = ap₂ (λ (x : Delivery) (e : Bool). structure_signals x e 1)
     at-enabled.before.load-structure.ensures at-enabled.enabled.ensures in
     sym (signal-silent _ _ direct (sym (c.before.signals.ensures ∙ same) ∙ not-true _ c.if2.true))
 
@@ -46,9 +46,9 @@ returns-3 c =
     let at-enabled = c.before.before.before.before in
     let at-mode = at-enabled.before.before.before in
     let direct = sym at-mode.by-messages.ensures ∙ at-enabled.before.before.if1.false in
-    let same = ap₂ (λ (x : Delivery) (e : Bool). structureSignals x e c.before.topi.result)
+    let same = ap₂ (λ (x : Delivery) (e : Bool). structure_signals x e c.before.topi.result)
     at-enabled.before.load-structure.ensures at-enabled.enabled.ensures in
-    c.signals2.ensures ∙ same ∙ ap (structureSignals _ _) c.before.topi.ensures
+    c.signals2.ensures ∙ same ∙ ap (structure_signals _ _) c.before.topi.ensures
     ∙ sym (signal-direct _ _ direct)
 
 pub signal_spec : {M : Type 1} → statement M

@@ -1,9 +1,9 @@
 -- `domain_direct::hart::unforce` meets its contract: the structure is read, changed and stored. Assumes
 -- nothing.
 use mathlib.Core.Path.{ap, ◌∙◌}
-use Rattle.domain_delivery.specs.Delivery.{withoutForce}
-use Rattle.domain.specs.Domain.{domainOf}
-use Rattle.domain.specs.Structure.{withStructure}
+use Rattle.domain_delivery.specs.Delivery.{without_force}
+use Rattle.domain.specs.Domain.{domain_of}
+use Rattle.domain.specs.Structure.{with_structure}
 use Rattle.domain_direct.specs.Direct.{unforced}
 use borrow.Author.Rules.{rules}
 use Rattle.domain_direct.proofs.hart.unforce.Statement.{statement}
@@ -28,8 +28,8 @@ returns c =
     let at_load = at_store.before.before.before in
     let args = at_load.before.before.before.args in
     at_store.store-structure.ensures
-    ∙ ap (withStructure (domainOf args.part.now) args.h)
-    (at_store.before.without-force.ensures ∙ ap withoutForce at_load.load-structure.ensures)
+    ∙ ap (with_structure (domain_of args.part.now) args.h)
+    (at_store.before.without-force.ensures ∙ ap without_force at_load.load-structure.ensures)
 
 pub unforce-spec : {M : Type 1} → statement M
 unforce-spec =

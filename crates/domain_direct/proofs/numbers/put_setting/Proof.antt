@@ -3,9 +3,9 @@
 -- nothing.
 use mathlib.Core.Path.{ap, sym, ◌∙◌}
 use Rattle.domain_delivery.specs.declared.Delivery.{Delivery}
-use Rattle.domain.specs.Domain.{domainOf}
-use Rattle.domain.specs.Structure.{withStructure}
-use Rattle.domain_direct.specs.Direct.{writtenAt}
+use Rattle.domain.specs.Domain.{domain_of}
+use Rattle.domain.specs.Structure.{with_structure}
+use Rattle.domain_direct.specs.Direct.{written_at}
 use Rattle.domain_direct.proofs.DirectLaws.{written-messages, written-direct}
 use borrow.Author.Rules.{rules}
 use Rattle.domain_direct.proofs.numbers.put_setting.Statement.{statement}
@@ -40,8 +40,8 @@ returns-2 c =
     let args = at-mode.before.before.before.args in
     let direct = sym at-mode.by-messages.ensures ∙ at_load.before.before.if1.false in
     let written = at_store.before.written_at.ensures
-    ∙ ap (λ (x : Delivery). writtenAt x args.which args.value) at_load.load-structure.ensures in
-    at_store.store-structure.ensures ∙ ap (withStructure (domainOf args.part.now) args.h) written
+    ∙ ap (λ (x : Delivery). written_at x args.which args.value) at_load.load-structure.ensures in
+    at_store.store-structure.ensures ∙ ap (with_structure (domain_of args.part.now) args.h) written
     ∙ sym (written-direct _ _ _ _ direct)
 
 pub put-setting-spec : {M : Type 1} → statement M

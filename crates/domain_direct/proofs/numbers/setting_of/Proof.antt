@@ -1,7 +1,7 @@
 -- `domain_direct::numbers::setting_of` meets its contract: 0 by messages, else the number. Assumes nothing.
 use mathlib.Core.Path.{ap, sym, ◌∙◌}
 use Rattle.domain_delivery.specs.declared.Delivery.{Delivery}
-use Rattle.domain_direct.specs.Direct.{numberAt}
+use Rattle.domain_direct.specs.Direct.{number_at}
 use Rattle.domain_direct.proofs.DirectLaws.{setting-messages, setting-direct}
 use borrow.Author.Rules.{rules}
 use Rattle.domain_direct.proofs.numbers.setting_of.Statement.{statement}
@@ -24,7 +24,7 @@ returns-2 c =
     let at-mode = c.before.before.before in
     let direct = sym at-mode.by-messages.ensures ∙ c.before.before.if1.false in
     c.number_at.ensures
-    ∙ ap (λ (x : Delivery). numberAt x at-mode.before.before.args.which)
+    ∙ ap (λ (x : Delivery). number_at x at-mode.before.before.args.which)
     c.before.load-structure.ensures
     ∙ sym (setting-direct _ _ _ direct)
 

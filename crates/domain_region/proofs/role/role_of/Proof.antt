@@ -5,7 +5,7 @@ use Prim.Native.Nat.{ℕ}
 use mathlib.Core.Path.{ap, sym}
 use mathlib.Core.List.{List, [], ◌∷◌}
 use denote.Enum.Declared.{tag_of}
-use Rattle.domain_region.specs.Role.{roleOf}
+use Rattle.domain_region.specs.Role.{role_of}
 use Rattle.domain_region.specs.contracts.Word.{the_type}
 use Rattle.domain_region.proofs.RoleLaws.{arm-else, plain-else}
 use borrow.Author.Rules.{rules}
@@ -26,13 +26,13 @@ enum_told : tie.Need-enum-told
 enum_told c = search rules
 
 returns : tie.Need-returns
-returns c = sym (ap roleOf c.before.word.given.1)
+returns c = sym (ap role_of c.before.word.given.1)
 
 returns-2 : tie.Need-returns-2
-returns-2 c = sym (ap roleOf c.before.word2.given.1)
+returns-2 c = sym (ap role_of c.before.word2.given.1)
 
 returns-3 : tie.Need-returns-3
-returns-3 c = sym (ap roleOf c.enum_told.given.1)
+returns-3 c = sym (ap role_of c.enum_told.given.1)
 
 returns-4 : tie.Need-returns-4
 returns-4 c =

@@ -6,7 +6,7 @@ use mathlib.Core.List.{[], ◌∷◌}
 use denote.Enum.Declared.{tag_of}
 use Rattle.domain_region.specs.contracts.role.Role.{the_type}
 use Rattle.domain_region.proofs.RoleLaws.{arm-else, claims-lt}
-use Rattle.domain.specs.Domain.{domainOf}
+use Rattle.domain.specs.Domain.{domain_of}
 use Rattle.domain_registers.proofs.ReadLaws.{claim-value, claimed-by, claimed-none}
 use borrow.Author.Rules.{rules}
 use Rattle.domain_registers.proofs.access.read.Statement.{statement}
@@ -40,7 +40,7 @@ returns c =
     let at-hart = at-claim.before.before.before in
     let at-role = at-hart.before.before in
     let args = at-role.before.before.args in
-    let d = domainOf args.part.now in
+    let d = domain_of args.part.now in
     let claims = sym at-role.role-of.ensures ∙ at-hart.h.given.1 in (
       at-claim.claim.ensures.0 ∙ sym (claim-value d args.word args.wires _ claims),
       at-claim.claim.ensures.1 ∙ sym (claimed-by d args.word _ claims),
@@ -56,7 +56,7 @@ returns-2 c =
     let args = at-role.before.before.args in (
       c.value_of_lem.ensures,
       sym
-          (claimed-none (domainOf args.part.now) args.word
+          (claimed-none (domain_of args.part.now) args.word
           (λ h e. arm-else (1 ∷ 2 ∷ 3 ∷ []) at-arm.match.keys2 0 tt
           (ap (tag_of the_type) (at-role.role-of.ensures ∙ e)))),
     )

@@ -4,9 +4,9 @@ use native.Mathlib.Omega.{arith}
 use Rattle.domain_region.specs.declared.Word.{Word}
 use Rattle.domain_region.specs.Region.{Within}
 use Rattle.source.specs.declared.Change.TheVariants.{Pend}
-use Rattle.domain.specs.Domain.{domainOf}
-use Rattle.domain_writes.specs.Writes.{numberChanged}
-use Rattle.domain_registers.specs.Write.{registerWritten}
+use Rattle.domain.specs.Domain.{domain_of}
+use Rattle.domain_writes.specs.Writes.{number_changed}
+use Rattle.domain_registers.specs.Write.{register_written}
 use borrow.Author.Rules.{rules}
 use Rattle.domain_registers.proofs.access.write.Statement.{statement}
 use Rattle.domain_registers.proofs.access.write.Tie as tie
@@ -142,7 +142,7 @@ same_length : tie.Need-same-length
 same_length c = search rules
 
 returns : tie.Need-returns
-unfolding registerWritten
+unfolding register_written
 returns c =
     let at_call = c.before.before in
     let told = at_call.before.before in
@@ -150,23 +150,23 @@ returns c =
     at_call.write-domaincfg.ensures
     ∙ sym
     (ap
-    (λ (w : Word). registerWritten args.child (domainOf args.part.now) args.wires w
+    (λ (w : Word). register_written args.child (domain_of args.part.now) args.wires w
     args.value) told.enum_told.given.1)
 
 returns-2 : tie.Need-returns-2
-unfolding registerWritten
+unfolding register_written
 returns-2 c =
     let args = c.before.before.before.args in
     sym
     (ap
-    (λ (w : Word). registerWritten args.child (domainOf args.part.now) args.wires w
+    (λ (w : Word). register_written args.child (domain_of args.part.now) args.wires w
     args.value) c.enum-told2.given.1)
 
 same-length-2 : tie.Need-same-length-2
 same-length-2 c = search rules
 
 returns-3 : tie.Need-returns-3
-unfolding registerWritten
+unfolding register_written
 returns-3 c =
     let at_call = c.before.before in
     let told = at_call.before.before.before in
@@ -174,14 +174,14 @@ returns-3 c =
     at_call.change-word.ensures
     ∙ sym
     (ap
-    (λ (w : Word). registerWritten args.child (domainOf args.part.now) args.wires w
+    (λ (w : Word). register_written args.child (domain_of args.part.now) args.wires w
     args.value) told.word.given.1)
 
 same-length-3 : tie.Need-same-length-3
 same-length-3 c = search rules
 
 returns-4 : tie.Need-returns-4
-unfolding registerWritten
+unfolding register_written
 returns-4 c =
     let at_call = c.before.before in
     let told = at_call.before.before in
@@ -189,14 +189,14 @@ returns-4 c =
     at_call.change-number.ensures
     ∙ sym
     (ap
-    (λ (w : Word). registerWritten args.child (domainOf args.part.now) args.wires w
+    (λ (w : Word). register_written args.child (domain_of args.part.now) args.wires w
     args.value) told.enum-told3.given.1)
 
 same-length-4 : tie.Need-same-length-4
 same-length-4 c = search rules
 
 returns-5 : tie.Need-returns-5
-unfolding registerWritten
+unfolding register_written
 returns-5 c =
     let at_call = c.before.before in
     let told = at_call.before.before.before in
@@ -204,14 +204,14 @@ returns-5 c =
     at_call.change-word2.ensures
     ∙ sym
     (ap
-    (λ (w : Word). registerWritten args.child (domainOf args.part.now) args.wires w
+    (λ (w : Word). register_written args.child (domain_of args.part.now) args.wires w
     args.value) told.word2.given.1)
 
 same-length-5 : tie.Need-same-length-5
 same-length-5 c = search rules
 
 returns-6 : tie.Need-returns-6
-unfolding registerWritten
+unfolding register_written
 returns-6 c =
     let at_call = c.before.before in
     let told = at_call.before.before in
@@ -219,14 +219,14 @@ returns-6 c =
     at_call.change-number2.ensures
     ∙ sym
     (ap
-    (λ (w : Word). registerWritten args.child (domainOf args.part.now) args.wires w
+    (λ (w : Word). register_written args.child (domain_of args.part.now) args.wires w
     args.value) told.enum-told4.given.1)
 
 same-length-6 : tie.Need-same-length-6
 same-length-6 c = search rules
 
 returns-7 : tie.Need-returns-7
-unfolding registerWritten
+unfolding register_written
 returns-7 c =
     let at_call = c.before.before in
     let told = at_call.before.before.before in
@@ -234,14 +234,14 @@ returns-7 c =
     at_call.change-word3.ensures
     ∙ sym
     (ap
-    (λ (w : Word). registerWritten args.child (domainOf args.part.now) args.wires w
+    (λ (w : Word). register_written args.child (domain_of args.part.now) args.wires w
     args.value) told.word3.given.1)
 
 same-length-7 : tie.Need-same-length-7
 same-length-7 c = search rules
 
 returns-8 : tie.Need-returns-8
-unfolding registerWritten
+unfolding register_written
 returns-8 c =
     let at_call = c.before.before in
     let told = at_call.before.before in
@@ -249,14 +249,14 @@ returns-8 c =
     at_call.change-number3.ensures
     ∙ sym
     (ap
-    (λ (w : Word). registerWritten args.child (domainOf args.part.now) args.wires w
+    (λ (w : Word). register_written args.child (domain_of args.part.now) args.wires w
     args.value) told.enum-told5.given.1)
 
 same-length-8 : tie.Need-same-length-8
 same-length-8 c = search rules
 
 returns-9 : tie.Need-returns-9
-unfolding registerWritten
+unfolding register_written
 returns-9 c =
     let at_call = c.before.before in
     let told = at_call.before.before.before in
@@ -264,14 +264,14 @@ returns-9 c =
     at_call.change-word4.ensures
     ∙ sym
     (ap
-    (λ (w : Word). registerWritten args.child (domainOf args.part.now) args.wires w
+    (λ (w : Word). register_written args.child (domain_of args.part.now) args.wires w
     args.value) told.word4.given.1)
 
 same-length-9 : tie.Need-same-length-9
 same-length-9 c = search rules
 
 returns-10 : tie.Need-returns-10
-unfolding registerWritten
+unfolding register_written
 returns-10 c =
     let at_call = c.before.before in
     let told = at_call.before.before in
@@ -279,14 +279,14 @@ returns-10 c =
     at_call.change-number4.ensures
     ∙ sym
     (ap
-    (λ (w : Word). registerWritten args.child (domainOf args.part.now) args.wires w
+    (λ (w : Word). register_written args.child (domain_of args.part.now) args.wires w
     args.value) told.enum-told6.given.1)
 
 same-length-10 : tie.Need-same-length-10
 same-length-10 c = search rules
 
 returns-11 : tie.Need-returns-11
-unfolding registerWritten
+unfolding register_written
 returns-11 c =
     let at_call = c.before.before in
     let told = at_call.before.before in
@@ -294,31 +294,31 @@ returns-11 c =
     at_call.change-number5.ensures
     ∙ sym
     (ap
-    (λ (w : Word). registerWritten args.child (domainOf args.part.now) args.wires w
+    (λ (w : Word). register_written args.child (domain_of args.part.now) args.wires w
     args.value) told.enum-told7.given.1)
 
 same-length-11 : tie.Need-same-length-11
 same-length-11 c = search rules
 
 returns-12 : tie.Need-returns-12
-unfolding registerWritten
+unfolding register_written
 returns-12 c =
     let at_call = c.before.before in
     let told = at_call.before.before.before in
     let args = told.before.before.before.args in
     at_call.change-number6.ensures
-    ∙ ap (numberChanged (domainOf args.part.now) args.wires Pend)
+    ∙ ap (number_changed (domain_of args.part.now) args.wires Pend)
     at_call.before.reversed32.ensures
     ∙ sym
     (ap
-    (λ (w : Word). registerWritten args.child (domainOf args.part.now) args.wires w
+    (λ (w : Word). register_written args.child (domain_of args.part.now) args.wires w
     args.value) told.enum-told8.given.1)
 
 same-length-12 : tie.Need-same-length-12
 same-length-12 c = search rules
 
 returns-13 : tie.Need-returns-13
-unfolding registerWritten
+unfolding register_written
 returns-13 c =
     let at_call = c.before.before in
     let told = at_call.before.before in
@@ -326,14 +326,14 @@ returns-13 c =
     at_call.write-genmsi.ensures
     ∙ sym
     (ap
-    (λ (w : Word). registerWritten args.child (domainOf args.part.now) args.wires w
+    (λ (w : Word). register_written args.child (domain_of args.part.now) args.wires w
     args.value) told.enum-told9.given.1)
 
 same-length-13 : tie.Need-same-length-13
 same-length-13 c = search rules
 
 returns-14 : tie.Need-returns-14
-unfolding registerWritten
+unfolding register_written
 returns-14 c =
     let at_call = c.before.before in
     let told = at_call.before.before.before in
@@ -341,14 +341,14 @@ returns-14 c =
     at_call.write-target.ensures
     ∙ sym
     (ap
-    (λ (w : Word). registerWritten args.child (domainOf args.part.now) args.wires w
+    (λ (w : Word). register_written args.child (domain_of args.part.now) args.wires w
     args.value) told.word5.given.1)
 
 same-length-14 : tie.Need-same-length-14
 same-length-14 c = search rules
 
 returns-15 : tie.Need-returns-15
-unfolding registerWritten
+unfolding register_written
 returns-15 c =
     let at_call = c.before.before in
     let told = at_call.before.before.before in
@@ -356,14 +356,14 @@ returns-15 c =
     at_call.put-setting.ensures
     ∙ sym
     (ap
-    (λ (w : Word). registerWritten args.child (domainOf args.part.now) args.wires w
+    (λ (w : Word). register_written args.child (domain_of args.part.now) args.wires w
     args.value) told.word6.given.1)
 
 same-length-15 : tie.Need-same-length-15
 same-length-15 c = search rules
 
 returns-16 : tie.Need-returns-16
-unfolding registerWritten
+unfolding register_written
 returns-16 c =
     let at_call = c.before.before in
     let told = at_call.before.before.before in
@@ -371,14 +371,14 @@ returns-16 c =
     at_call.put-setting2.ensures
     ∙ sym
     (ap
-    (λ (w : Word). registerWritten args.child (domainOf args.part.now) args.wires w
+    (λ (w : Word). register_written args.child (domain_of args.part.now) args.wires w
     args.value) told.word7.given.1)
 
 same-length-16 : tie.Need-same-length-16
 same-length-16 c = search rules
 
 returns-17 : tie.Need-returns-17
-unfolding registerWritten
+unfolding register_written
 returns-17 c =
     let at_call = c.before.before in
     let told = at_call.before.before.before in
@@ -386,34 +386,34 @@ returns-17 c =
     at_call.put-setting3.ensures
     ∙ sym
     (ap
-    (λ (w : Word). registerWritten args.child (domainOf args.part.now) args.wires w
+    (λ (w : Word). register_written args.child (domain_of args.part.now) args.wires w
     args.value) told.word8.given.1)
 
 returns-18 : tie.Need-returns-18
-unfolding registerWritten
+unfolding register_written
 returns-18 c =
     let args = c.before.before.before.args in
     sym
     (ap
-    (λ (w : Word). registerWritten args.child (domainOf args.part.now) args.wires w
+    (λ (w : Word). register_written args.child (domain_of args.part.now) args.wires w
     args.value) c.enum-told10.given.1)
 
 returns-19 : tie.Need-returns-19
-unfolding registerWritten
+unfolding register_written
 returns-19 c =
     let args = c.before.before.before.args in
     sym
     (ap
-    (λ (w : Word). registerWritten args.child (domainOf args.part.now) args.wires w
+    (λ (w : Word). register_written args.child (domain_of args.part.now) args.wires w
     args.value) c.enum-told11.given.1)
 
 returns-20 : tie.Need-returns-20
-unfolding registerWritten
+unfolding register_written
 returns-20 c =
     let args = c.before.before.before.args in
     sym
     (ap
-    (λ (w : Word). registerWritten args.child (domainOf args.part.now) args.wires w
+    (λ (w : Word). register_written args.child (domain_of args.part.now) args.wires w
     args.value) c.enum-told12.given.1)
 
 pub write_spec : {M : Type 1} → statement M

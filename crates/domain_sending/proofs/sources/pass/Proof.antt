@@ -4,18 +4,18 @@ use mathlib.Core.Path.{◌≡◌, sym, ◌∙◌}
 use native.Mathlib.Omega.{arith}
 use lib.ListN.{length}
 use Rattle.words.proofs.WalkLaws.{Walk, walk_start, walk-lt, walk-passed, walk_none}
-use Rattle.domain.specs.Domain.{domainOf}
+use Rattle.domain.specs.Domain.{domain_of}
 use Rattle.domain.specs.Slot.{standing}
 use Rattle.domain_sending.proofs.PassLaws.{SoFar, pass-start, pass-next, pass-end, walk-served}
 use borrow.Author.Rules.{rules}
 use Rattle.domain_sending.proofs.sources.pass.Statement.{statement}
 use Rattle.domain_sending.proofs.sources.pass.Tie as tie
-use Rattle.sizes.specs.Sizes.{domainSize}
+use Rattle.sizes.specs.Sizes.{domain_size}
 
 abbrev invariant-loop : tie.invariant-loop
 invariant-loop part₀ child log₀ all rest₀ i₀ n₀ part log rest i n =
-    (length part ≡ domainSize) × SoFar child (domainOf part₀) log₀ (domainOf part) log i n
-    × Walk (standing (domainOf part)) all rest i
+    (length part ≡ domain_size) × SoFar child (domain_of part₀) log₀ (domain_of part) log i n
+    × Walk (standing (domain_of part)) all rest i
 
 abbrev decreases-loop : tie.decreases-loop
 decreases-loop part₀ child log₀ all rest₀ i₀ n₀ part log rest i n = 64 - i
@@ -26,7 +26,7 @@ standing-requires c κs = search rules
 loop-holds : tie.Need-loop-init invariant-loop decreases-loop
 loop-holds c =
     let start = c.before.before.before.before in
-    let d = domainOf start.args.part.now in (
+    let d = domain_of start.args.part.now in (
       start.requires.0,
       pass-start start.args.child d start.args.log.now start.requires.1,
       walk_start (standing d) _ (omega arith) c.standing.ensures,

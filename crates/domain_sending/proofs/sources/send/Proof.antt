@@ -2,7 +2,7 @@
 -- nothing.
 use mathlib.Core.Path.{sym, ◌∙◌}
 use borrow.Author.Tests.{not-true, not-false}
-use Rattle.domain.specs.Domain.{domainOf}
+use Rattle.domain.specs.Domain.{domain_of}
 use Rattle.domain_sending.proofs.SendingLaws.{sent-on, sent-off, answered-nothing, answered-same}
 use borrow.Author.Rules.{rules}
 use Rattle.domain_sending.proofs.sources.send.Statement.{statement}
@@ -17,7 +17,7 @@ same_length c = search rules
 returns : tie.Need-returns
 returns c =
     let args = c.before.before.before.before.before.args in
-    answered-nothing _ (domainOf args.part.now) args.log.now
+    answered-nothing _ (domain_of args.part.now) args.log.now
     (sent-off args.child _ (sym c.before.sends.ensures ∙ not-true _ c.if1.true))
 
 pass-requires : tie.Need-pass-requires

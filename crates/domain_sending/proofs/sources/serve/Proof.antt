@@ -3,7 +3,7 @@
 -- Assumes nothing.
 use mathlib.Core.Path.{sym, ◌∙◌}
 use borrow.Author.Tests.{not-true, not-false}
-use Rattle.domain.specs.Domain.{domainOf}
+use Rattle.domain.specs.Domain.{domain_of}
 use Rattle.domain_sending.proofs.PassLaws.{turn-miss, turn-hit}
 use borrow.Author.Rules.{rules}
 use Rattle.domain_sending.proofs.sources.serve.Statement.{statement}
@@ -22,7 +22,7 @@ returns : tie.Need-returns
 returns c =
     let loaded = c.before.before in
     let args = loaded.before.before.before.before.args in
-    turn-miss args.child (domainOf args.part.now) args.log.now args.i args.n _
+    turn-miss args.child (domain_of args.part.now) args.log.now args.i args.n _
     loaded.load.ensures (sym c.before.candidate.ensures ∙ not-true _ c.if1.true)
 
 message-requires : tie.Need-message-requires
@@ -53,9 +53,9 @@ returns-2 c =
     let tried = sent.before in
     let loaded = tried.before.before in
     let args = loaded.before.before.before.before.args in
-    turn-hit args.child (domainOf args.part.now) args.log.now args.i args.n _
+    turn-hit args.child (domain_of args.part.now) args.log.now args.i args.n _
     loaded.load.ensures (sym tried.before.candidate.ensures ∙ not-false _ tried.if1.false)
-    (domainOf unpended.put-pending.new.0) _ unpended.put-pending.ensures sent.message.ensures
+    (domain_of unpended.put-pending.new.0) _ unpended.put-pending.ensures sent.message.ensures
 
 pub serve-spec : {M : Type 1} → statement M
 serve-spec =

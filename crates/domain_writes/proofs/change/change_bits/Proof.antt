@@ -5,18 +5,18 @@ use mathlib.Core.Path.{◌≡◌, refl, sym, ap, ◌∙◌}
 use native.Mathlib.Omega.{arith}
 use borrow.Author.Rules.{rules}
 use lib.ListN.{length}
-use Rattle.domain.specs.Domain.{domainOf, Domain}
-use Rattle.domain_writes.specs.Writes.{changedFrom}
+use Rattle.domain.specs.Domain.{domain_of, Domain}
+use Rattle.domain_writes.specs.Writes.{changed_from}
 use Rattle.domain_writes.proofs.WritesLaws.{changed-next, changed-end, changed-rest}
 use Rattle.domain_writes.proofs.change.change_bits.Statement.{statement}
 use Rattle.domain_writes.proofs.change.change_bits.Tie as tie
-use Rattle.sizes.specs.Sizes.{domainSize}
+use Rattle.sizes.specs.Sizes.{domain_size}
 
 abbrev invariant-loop : tie.invariant-loop
-invariant-loop part₀ wires change value from end i₀ part i = (length part ≡ domainSize) × (i ≤ end)
+invariant-loop part₀ wires change value from end i₀ part i = (length part ≡ domain_size) × (i ≤ end)
     × (from ≤ i)
-    × (changedFrom (domainOf part₀) wires change value from (end - from) ≡ changedFrom
-    (domainOf part) wires change value i (end - i))
+    × (changed_from (domain_of part₀) wires change value from (end - from) ≡ changed_from
+    (domain_of part) wires change value i (end - i))
 
 abbrev decreases-loop : tie.decreases-loop
 decreases-loop part₀ wires change value from end i₀ part i = end - i
@@ -62,7 +62,7 @@ loop-again c =
       at-loop.invariant.3
           ∙ changed-next _ args.wires args.change args.value at-loop.i args.end (omega arith)
           ∙ ap
-          (λ (d : Domain). changedFrom d args.wires args.change args.value (at-loop.i + 1)
+          (λ (d : Domain). changed_from d args.wires args.change args.value (at-loop.i + 1)
           (args.end - (at-loop.i + 1)))
           (sym at_call.change-bit.ensures),
     )

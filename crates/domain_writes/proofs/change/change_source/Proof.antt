@@ -1,7 +1,7 @@
 -- `domain_writes::change::change_source` meets its contract: family by family. Over 110 lines, since each
 -- of the four families has its own needs of a line each. Assumes nothing.
 use mathlib.Core.Path.{◌∙◌}
-use Rattle.domain.specs.Domain.{domainOf}
+use Rattle.domain.specs.Domain.{domain_of}
 use Rattle.domain_writes.proofs.WritesLaws.{pend-at, clear_at, enable-at, disable-at}
 use borrow.Author.Rules.{rules}
 use Rattle.domain_writes.proofs.change.change_source.Statement.{statement}
@@ -56,7 +56,7 @@ returns c =
     let at_told = at_value.before.before in
     let args = at_told.before.before.before.before.before.before.before.args in
     at_store.put-pending.ensures
-    ∙ pend-at (domainOf args.part.now) args.wires args.i args.change
+    ∙ pend-at (domain_of args.part.now) args.wires args.i args.change
     at_told.enum_told.given.1
     at_value.pended.result (at_value.pended.ensures ∙ cc)
 
@@ -70,7 +70,7 @@ returns-2 c =
     let at_told = at_value.before in
     let args = at_told.before.before.before.before.before.before.before.args in
     at_store.put-pending2.ensures
-    ∙ clear_at (domainOf args.part.now) args.wires args.i args.change
+    ∙ clear_at (domain_of args.part.now) args.wires args.i args.change
     at_told.enum-told2.given.1
     at_value.cleared.result (at_value.cleared.ensures ∙ cc)
 

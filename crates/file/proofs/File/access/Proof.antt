@@ -7,7 +7,7 @@ use Rattle.file.specs.declared.register.Access.TheVariants.{Read, Write, Set, Cl
 use Rattle.file.specs.declared.register.Reply.TheVariants.{Value}
 use mathlib.Core.Path.{sym, ◌∙◌, ap, ap₂}
 use borrow.Author.Tests.{not-true, not-false}
-use Rattle.file.specs.Register.{accessedAt, written}
+use Rattle.file.specs.Register.{accessed_at, written}
 use Rattle.file.proofs.RegisterLaws.{accessed-illegal, accessed-kind}
 use borrow.Author.Rules.{rules}
 use Rattle.file.proofs.File.access.Statement.{statement}
@@ -54,7 +54,7 @@ written-requires-3 : tie.Need-written-requires-3
 written-requires-3 c κs = search rules
 
 returns-2 : tie.Need-returns-2
-unfolding accessedAt
+unfolding accessed_at
 returns-2 c =
     let at_held = c.before.before in
     let at-legal = at_held.before.before in
@@ -66,7 +66,7 @@ returns-2 c =
     c.enum_told.given.1)
 
 returns-3 : tie.Need-returns-3
-unfolding accessedAt
+unfolding accessed_at
 returns-3 c =
     let at_held = c.before.before.before in
     let at-legal = at_held.before.before in
@@ -78,7 +78,7 @@ returns-3 c =
     c.before.enum-told2.given.1)
 
 returns-4 : tie.Need-returns-4
-unfolding accessedAt
+unfolding accessed_at
 returns-4 c =
     let at_held = c.before.before.before.before in
     let at-legal = at_held.before.before in
@@ -93,7 +93,7 @@ returns-4 c =
     c.before.before.enum-told3.given.1)
 
 returns-5 : tie.Need-returns-5
-unfolding accessedAt
+unfolding accessed_at
 returns-5 c =
     let at_held = c.before.before.before.before in
     let at-legal = at_held.before.before in

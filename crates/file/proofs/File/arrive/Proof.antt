@@ -5,7 +5,7 @@ use mathlib.Core.Path.{ap, sym, ◌∙◌}
 use native.Mathlib.Omega.{arith}
 use lib.ListN.{set}
 use Rattle.words.proofs.SetsLaws.{insert-word}
-use Rattle.file.specs.Parts.{withPendingSet}
+use Rattle.file.specs.Parts.{with_pending_set}
 use Rattle.file.proofs.PageLaws.{arrived-below, arrived-above, arrived-within}
 use borrow.Author.Rules.{rules}
 use Rattle.file.proofs.File.arrive.Statement.{statement}
@@ -40,8 +40,8 @@ returns-3 c =
     let before = c.before.before.before in
     let f = before.before.args.t1 in
     let i = before.before.args.identity in
-    ap (λ (w : ℕ). withPendingSet f (set f.pending (i / 32) w)) c.with-bit.ensures
-    ∙ ap (withPendingSet f) (insert-word f.pending i)
+    ap (λ (w : ℕ). with_pending_set f (set f.pending (i / 32) w)) c.with-bit.ensures
+    ∙ ap (with_pending_set f) (insert-word f.pending i)
     ∙ sym (arrived-within _ _ _ before.if1.false (omega arith))
 
 pub arrive-spec : {M : Type 1} → statement M

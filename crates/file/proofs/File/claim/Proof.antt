@@ -6,9 +6,9 @@ use native.Mathlib.Omega.{arith}
 use lib.ListN.{set}
 use Rattle.words.specs.Sets.{remove}
 use Rattle.words.proofs.SetsLaws.{remove-word}
-use Rattle.file.specs.Parts.{withPendingSet}
-use Rattle.file.specs.Top.{topIdentity, top_of}
-use Rattle.file.proofs.TopLaws.{topIdentity-le, topOf-zero-2, claimed-none, claimed-some}
+use Rattle.file.specs.Parts.{with_pending_set}
+use Rattle.file.specs.Top.{top_identity, top_of}
+use Rattle.file.proofs.TopLaws.{top_identity-le, top_of-zero-2, claimed-none, claimed-some}
 use borrow.Author.Rules.{rules}
 use Rattle.file.proofs.File.claim.Statement.{statement}
 use Rattle.file.proofs.File.claim.Tie as tie
@@ -19,7 +19,7 @@ top-identity-requires c κs = search rules
 returns : tie.Need-returns
 returns c =
     let none = sym c.before.top-identity.ensures ∙ c.if1.true in
-    (sym (topOf-zero-2 _ _ none), sym (claimed-none _ _ none))
+    (sym (top_of-zero-2 _ _ none), sym (claimed-none _ _ none))
 
 cast-at : tie.Need-overflow-cast-at
 cast-at c = search rules
@@ -29,7 +29,7 @@ mul-without-bit c = search rules
 
 element-copy-out-without-bit : tie.Need-element-copy-out-without-bit
 element-copy-out-without-bit c =
-    omega (arith, c.before.top-identity.ensures, topIdentity-le 255 c.before.before.args.t1)
+    omega (arith, c.before.top-identity.ensures, top_identity-le 255 c.before.before.args.t1)
 
 without-bit-requires : tie.Need-without-bit-requires
 without-bit-requires c κs = search rules
@@ -42,7 +42,7 @@ element-write-self c =
     omega (
       arith,
       c.before.before.before.top-identity.ensures,
-      topIdentity-le 255 c.before.before.before.before.args.t1,
+      top_identity-le 255 c.before.before.before.before.args.t1,
     )
 
 mul-t8 : tie.Need-overflow-mul-t8
@@ -50,7 +50,7 @@ mul-t8 c =
     omega (
       arith,
       c.before.before.before.top-identity.ensures,
-      topIdentity-le 255 c.before.before.before.before.args.t1,
+      top_identity-le 255 c.before.before.before.before.args.t1,
     )
 
 add-t12 : tie.Need-overflow-add-t12
@@ -58,7 +58,7 @@ add-t12 c =
     omega (
       arith,
       c.before.before.before.top-identity.ensures,
-      topIdentity-le 255 c.before.before.before.before.args.t1,
+      top_identity-le 255 c.before.before.before.before.args.t1,
     )
 
 returns-2 : tie.Need-returns-2
@@ -67,12 +67,12 @@ returns-2 c =
     let at_top = c.before.before.before in
     let f = at_top.before.args.t1 in
     let same = at_top.top-identity.ensures in
-    let there : topIdentity 255 f ≡ 0 → ⊥ = λ z. c.before.before.if1.false (same ∙ z) in (
+    let there : top_identity 255 f ≡ 0 → ⊥ = λ z. c.before.before.if1.false (same ∙ z) in (
       ap (λ (i : ℕ). i * 65536 + i) same,
-      ap (λ (w : ℕ). withPendingSet f (set f.pending (at_top.top-identity.result / 32) w))
+      ap (λ (w : ℕ). with_pending_set f (set f.pending (at_top.top-identity.result / 32) w))
           c.without-bit.ensures
-          ∙ ap (withPendingSet f) (remove-word f.pending at_top.top-identity.result)
-          ∙ ap (λ (i : ℕ). withPendingSet f (remove f.pending i)) same ∙ sym (claimed-some 255 f there),
+          ∙ ap (with_pending_set f) (remove-word f.pending at_top.top-identity.result)
+          ∙ ap (λ (i : ℕ). with_pending_set f (remove f.pending i)) same ∙ sym (claimed-some 255 f there),
     )
 
 pub claim-spec : {M : Type 1} → statement M

@@ -3,7 +3,7 @@ use mathlib.Core.Path.{ap, sym, ◌∙◌}
 use native.Mathlib.Nat.{mod-eq_of_lt}
 use Rattle.file_select.specs.declared.Register.{Register}
 use Rattle.file_select.proofs.DeliveriesLaws.{legal-lt}
-use Rattle.file.specs.Parts.{withDelivery, withPendingSet, withEnable}
+use Rattle.file.specs.Parts.{with_delivery, with_pending_set, with_enable}
 use Rattle.file.specs.Register.{written}
 use Rattle.file.proofs.RegisterLaws.{written-legal, written-illegal}
 use borrow.Author.Rules.{rules}
@@ -49,7 +49,7 @@ returns c =
     (ap (λ (r : Register). written 255 args.guest args.self r args.value)
     at_told.enum_told.given.1
     ∙ written-legal _ _ _ _ legal
-    ∙ ap (withDelivery args.self) (sym (mod-eq_of_lt (legal-lt args.guest args.value legal))))
+    ∙ ap (with_delivery args.self) (sym (mod-eq_of_lt (legal-lt args.guest args.value legal))))
 
 returns-2 : tie.Need-returns-2
 returns-2 c =
@@ -72,7 +72,7 @@ returns-4 : tie.Need-returns-4
 unfolding written
 returns-4 c =
     let args = c.before.before.before.before.before.args in
-    ap (withPendingSet args.self) c.put-doubleword.ensures
+    ap (with_pending_set args.self) c.put-doubleword.ensures
     ∙ sym
     (ap (λ (r : Register). written 255 args.guest args.self r args.value)
     c.before.before.before.register.given.1)
@@ -81,7 +81,7 @@ returns-5 : tie.Need-returns-5
 unfolding written
 returns-5 c =
     let args = c.before.before.before.before.before.args in
-    ap (withEnable args.self) c.put-doubleword2.ensures
+    ap (with_enable args.self) c.put-doubleword2.ensures
     ∙ sym
     (ap (λ (r : Register). written 255 args.guest args.self r args.value)
     c.before.before.before.register2.given.1)

@@ -1,7 +1,7 @@
 -- `file_select::halves::put_doubleword` meets its contract: identity 0 is dropped from word 0 alone. Assumes
 -- nothing.
 use mathlib.Core.Path.{ap, sym, ◌∙◌}
-use Rattle.file_select.specs.Halves.{putHalves}
+use Rattle.file_select.specs.Halves.{put_halves}
 use Rattle.file_select.proofs.HalvesLaws.{put_first, put-later}
 use borrow.Author.Rules.{rules}
 use Rattle.file_select.proofs.halves.put_doubleword.Statement.{statement}
@@ -14,7 +14,7 @@ put-halves-requires : tie.Need-put-halves-requires
 put-halves-requires c κs = search rules
 
 returns : tie.Need-returns
-returns c = c.put-halves.ensures ∙ ap (putHalves _ 0) c.before.without64.ensures
+returns c = c.put-halves.ensures ∙ ap (put_halves _ 0) c.before.without64.ensures
     ∙ sym (put_first _ _ _ c.before.before.if1.true)
 
 put-halves-requires-2 : tie.Need-put-halves-requires-2

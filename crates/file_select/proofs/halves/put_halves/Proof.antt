@@ -7,7 +7,7 @@ use native.Mathlib.Nat.{mul_comm}
 use native.Mathlib.Omega.{arith}
 use lib.ListN.{set}
 use Rattle.words.specs.Parts.{low, high}
-use Rattle.file_select.specs.Halves.{putHalves}
+use Rattle.file_select.specs.Halves.{put_halves}
 use Rattle.file_select.proofs.HalvesLaws.{put-past}
 use borrow.Author.Rules.{rules}
 use Rattle.file_select.proofs.halves.put_halves.Statement.{statement}
@@ -41,7 +41,7 @@ array-write-ws-2 : tie.Need-array-write-ws-2
 array-write-ws-2 c = search rules
 
 returns-2 : tie.Need-returns-2
-unfolding putHalves
+unfolding put_halves
 returns-2 c =
     let args = c.before.before.before.args in
     ap₂ (λ (lo hi : ℕ). set (set args.t1 (args.j * 2) lo) (args.j * 2 + 1) hi)

@@ -6,15 +6,15 @@ use mathlib.Core.List.{List}
 use native.Mathlib.Omega.{arith}
 use lib.ListN.{length, get_or, take}
 use Rattle.file.specs.declared.File.{File}
-use Rattle.files.specs.Files.{files_of, reached, allReached}
-use Rattle.files.proofs.FilesLaws.{allReached-none, allReached-more, named-each}
+use Rattle.files.specs.Files.{files_of, reached, all_reached}
+use Rattle.files.proofs.FilesLaws.{all_reached-none, all_reached-more, named-each}
 use Rattle.files.proofs.messages.deliver.Statement.{statement}
 use Rattle.files.proofs.messages.deliver.Tie as tie
-use Rattle.sizes.specs.Sizes.{filesSize}
+use Rattle.sizes.specs.Sizes.{files_size}
 
 abbrev invariant-loop : tie.invariant-loop
 invariant-loop files₀ log count k₀ files k =
-    (k ≤ count) × (length files ≡ filesSize) × (files_of files ≡ allReached (files_of files₀) (take k log))
+    (k ≤ count) × (length files ≡ files_size) × (files_of files ≡ all_reached (files_of files₀) (take k log))
 
 abbrev decreases-loop : tie.decreases-loop
 decreases-loop files₀ log count k₀ files k = count - k
@@ -22,7 +22,7 @@ decreases-loop files₀ log count k₀ files k = count - k
 loop-holds : tie.Need-loop-init invariant-loop decreases-loop
 loop-holds c =
     let start = c.before.before in
-    (omega arith, start.requires.0, sym (allReached-none (files_of start.args.files.now)))
+    (omega arith, start.requires.0, sym (all_reached-none (files_of start.args.files.now)))
 
 mul-deliver-one : tie.Need-overflow-mul-deliver-one invariant-loop decreases-loop
 mul-deliver-one c = omega arith
@@ -55,7 +55,7 @@ loop-again c =
       omega arith,
       one.auto.0 ∙ at-loop.invariant.1,
       one.ensures ∙ ap (λ (fs : List File). reached fs m) at-loop.invariant.2
-          ∙ sym (allReached-more (files_of args.files.now) args.log.now at-loop.k (omega arith)),
+          ∙ sym (all_reached-more (files_of args.files.now) args.log.now at-loop.k (omega arith)),
     )
 
 same_length : tie.Need-same-length invariant-loop decreases-loop
@@ -66,7 +66,7 @@ returns c =
     let at-loop = c.before.loop in
     let args = c.before.before.before.before.args in
     let all : at-loop.k ≡ args.count = omega arith in
-    at-loop.invariant.2 ∙ ap (λ (n : ℕ). allReached (files_of args.files.now) (take n args.log.now)) all
+    at-loop.invariant.2 ∙ ap (λ (n : ℕ). all_reached (files_of args.files.now) (take n args.log.now)) all
 
 pub deliver-spec : {M : Type 1} → statement M
 deliver-spec =

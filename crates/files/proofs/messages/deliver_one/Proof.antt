@@ -2,7 +2,7 @@
 -- arrives, the file is stored. Assumes nothing.
 use mathlib.Core.Path.{sym, ◌∙◌}
 use Rattle.files.specs.Files.{files_of}
-use Rattle.files.proofs.FilesLaws.{namedBy-is, reached-is, reached-zero}
+use Rattle.files.proofs.FilesLaws.{named_by-is, reached-is, reached-zero}
 use borrow.Author.Rules.{rules}
 use Rattle.files.proofs.messages.deliver_one.Statement.{statement}
 use Rattle.files.proofs.messages.deliver_one.Tie as tie
@@ -58,7 +58,7 @@ returns-2 c =
     let m = start.args.word in
     stored.store.ensures
     ∙ reached-is (files_of start.args.files.now) m _ _ _ _
-    (namedBy-is m _ _ file.before.hart-in.ensures.0 file.file-in.ensures.0)
+    (named_by-is m _ _ file.before.hart-in.ensures.0 file.file-in.ensures.0)
     loaded.load.ensures identity.identity-in.ensures.0 arrived.arrive.ensures
 
 pub deliver-one-spec : {M : Type 1} → statement M

@@ -6,14 +6,14 @@ use native.Mathlib.Omega.{arith}
 use borrow.Author.Rules.{rules}
 use lib.ListN.{length, drop}
 use Rattle.record_numbers.specs.Decimal.{number_in}
-use Rattle.record_numbers.proofs.ReadingLaws.{numberFrom, from-none, from_start, from-below}
+use Rattle.record_numbers.proofs.ReadingLaws.{number_from, from-none, from_start, from-below}
 use Rattle.record_numbers.proofs.ReadingLaws.{from-above, from-beyond, from-digit, from_end}
 use Rattle.record_numbers.proofs.reading.decimal.Statement.{statement}
 use Rattle.record_numbers.proofs.reading.decimal.Tie as tie
 
 abbrev invariant-loop : tie.invariant-loop
 invariant-loop field value₀ i₀ value i =
-    (i ≤ length field) × (value < 2 ^ 64) × (number_in field ≡ numberFrom value (drop i field))
+    (i ≤ length field) × (value < 2 ^ 64) × (number_in field ≡ number_from value (drop i field))
 
 abbrev decreases-loop : tie.decreases-loop
 decreases-loop field value₀ i₀ value i = length field - i

@@ -5,7 +5,7 @@ use native.Mathlib.Omega.{arith}
 use native.Mathlib.Numerals.{add-one}
 use borrow.Author.Rules.{rules}
 use lib.Seq.{take-suc-set}
-use Rattle.record_numbers.specs.Decimal.{numberRoom}
+use Rattle.record_numbers.specs.Decimal.{number_room}
 use Rattle.record_numbers.proofs.TextLaws.{places-le, text-one}
 use Rattle.record_numbers.proofs.PuttingLaws.{Standing, standing-start, standing-more, standing-end}
 use Rattle.record_numbers.proofs.text.put_decimal.Statement.{statement}
@@ -42,12 +42,12 @@ places-requires : tie.Need-places-requires invariant-loop decreases-loop
 places-requires c κs = search rules
 
 add-end : tie.Need-overflow-add-end invariant-loop decreases-loop
-add-end c = omega (arith, places-le numberRoom c.before.before.before.args.n)
+add-end c = omega (arith, places-le number_room c.before.before.before.args.n)
 
 loop-holds : tie.Need-loop-init invariant-loop decreases-loop
 loop-holds c =
     let args = c.before.before.before.args in
-    let few = places-le numberRoom args.n in
+    let few = places-le number_room args.n in
     standing-start args.n args.at _ args.out.now (omega arith) (omega arith)
 
 sub-i : tie.Need-overflow-sub-i invariant-loop decreases-loop
@@ -73,7 +73,7 @@ same-length-2 c = c.before.loop.invariant.long
 
 returns-2 : tie.Need-returns-2 invariant-loop decreases-loop
 returns-2 c =
-    let few = places-le numberRoom c.before.before.before.before.before.args.n in
+    let few = places-le number_room c.before.before.before.before.before.args.n in
     (standing-end c.before.loop.invariant c.loop-test.false, (omega arith, omega arith))
 
 pub put-decimal-spec : {M : Type 1} → statement M

@@ -6,7 +6,7 @@ use mathlib.Core.Logic.{◌⊎◌, inl, inr, ⊎_elim}
 use mathlib.Core.List.{[]}
 use native.Mathlib.Omega.{arith}
 use lib.ListN.{length, take}
-use Rattle.record_lines.specs.Lines.{lineRoom}
+use Rattle.record_lines.specs.Lines.{line_room}
 use Rattle.record_lines.proofs.LinesLaws.{kept-held}
 use Rattle.record_runs.proofs.RunLaws.{gone-none}
 use Rattle.record_replay.specs.Pieces.{Went, held_at}
@@ -19,7 +19,7 @@ abbrev invariant-loop : tie.invariant-loop
 invariant-loop state₀ log₀ saved₀ line₀ chunk out₀ run₀ state log saved line out run =
     Went chunk run₀.at (held_at state₀ log₀ saved₀ line₀ run₀.held run₀.number) [] run.at
     (held_at state log saved line run.held run.number) (take run.used out)
-    × (run.held ≤ lineRoom) × (run.used ≤ length out) × (length state ≡ length state₀)
+    × (run.held ≤ line_room) × (run.used ≤ length out) × (length state ≡ length state₀)
     × (length log ≡ length log₀) × (length line ≡ length line₀) × (length out ≡ length out₀)
     × ((run₀.at < run.at) ⊎ (run.used ≡ 0))
 

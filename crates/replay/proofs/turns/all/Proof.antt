@@ -3,7 +3,7 @@
 use Prim.Native.Nat.{◌+◌, ◌*◌, ◌^◌, ◌≤◌}
 use mathlib.Core.Path.{◌≡◌}
 use lib.ListN.{length}
-use Rattle.record_lines.specs.Lines.{lineRoom}
+use Rattle.record_lines.specs.Lines.{line_room}
 use borrow.Author.Rules.{rules}
 use Rattle.replay.proofs.turns.all.Statement.{statement}
 use Rattle.replay.proofs.turns.all.Tie as tie
@@ -11,7 +11,7 @@ use Rattle.replay.proofs.turns.all.Tie as tie
 abbrev invariant-loop : tie.invariant-loop
 invariant-loop state₀ log₀ saved₀ line₀ chunk₀ out₀ number₀ held₀ turns₀ state log saved line chunk out number held
     turns =
-    (held ≤ lineRoom) × (number + turns * 2 ^ 16 ≤ 2 ^ 63) × (length state ≡ length state₀)
+    (held ≤ line_room) × (number + turns * 2 ^ 16 ≤ 2 ^ 63) × (length state ≡ length state₀)
     × (length log ≡ length log₀) × (length line ≡ length line₀) × (length chunk ≡ length chunk₀)
     × (length out ≡ length out₀)
 

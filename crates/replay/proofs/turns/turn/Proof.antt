@@ -6,9 +6,9 @@ use mathlib.Core.Bool.{false≢true}
 use native.Mathlib.Omega.{arith}
 use lib.ListN.{length}
 use lib.Seq.{slice, length-take-le}
-use Rattle.record_lines.specs.Lines.{lineRoom}
+use Rattle.record_lines.specs.Lines.{line_room}
 use Rattle.record_lines.proofs.LinesLaws.{kept-held}
-use Rattle.record_runs.specs.Replay.{goneOn}
+use Rattle.record_runs.specs.Replay.{gone_on}
 use Rattle.record_replay.specs.Pieces.{held_at}
 use Rattle.replay.proofs.TurnLaws.{part_none, part-more, part-all, part-number}
 use borrow.Author.Rules.{rules}
@@ -18,8 +18,8 @@ use Rattle.replay.proofs.turns.turn.Tie as tie
 abbrev invariant-loop : tie.invariant-loop
 invariant-loop state₀ log₀ saved₀ line₀ chunk out₀ number held run₀ state log saved line out run =
     (held_at state log saved line run.held run.number
-    ≡ goneOn (slice 0 run.at chunk) (held_at state₀ log₀ saved₀ line₀ held number))
-    × (run.at ≤ length chunk) × (run.held ≤ lineRoom) × (length state ≡ length state₀)
+    ≡ gone_on (slice 0 run.at chunk) (held_at state₀ log₀ saved₀ line₀ held number))
+    × (run.at ≤ length chunk) × (run.held ≤ line_room) × (length state ≡ length state₀)
     × (length log ≡ length log₀) × (length line ≡ length line₀) × (length out ≡ length out₀)
 
 abbrev decreases-loop : tie.decreases-loop

@@ -1,7 +1,7 @@
 -- `source::Source::cleared` meets its contract: a level source in direct mode keeps its bit. Assumes nothing.
 use mathlib.Core.Path.{ap}
 use mathlib.Core.Bool.{Bool, not, ◌&&◌}
-use Rattle.source.specs.Pending.{withPending, cleared}
+use Rattle.source.specs.Pending.{with_pending, cleared}
 use borrow.Author.Rules.{rules}
 use Rattle.source.proofs.Source.cleared.Statement.{statement}
 use Rattle.source.proofs.Source.cleared.Tie as tie
@@ -13,7 +13,7 @@ returns : tie.Need-returns
 unfolding cleared
 returns c =
     let s = c.before.before.args.self in
-    ap (λ (l : Bool). withPending s ((l && not c.before.before.args.messages) && s.pending))
+    ap (λ (l : Bool). with_pending s ((l && not c.before.before.args.messages) && s.pending))
     c.before.level.ensures
 
 pub cleared-spec : {M : Type 1} → statement M

@@ -1,12 +1,12 @@
 -- `source::Source::moded` meets its contract: inactive, newly active, active before and after. Assumes
 -- nothing.
 use Rattle.source.specs.declared.Source.{Source}
-use Rattle.source_target.specs.Target.{startTarget}
+use Rattle.source_target.specs.Target.{start_target}
 use Prim.Native.Nat.{ℕ}
 use mathlib.Core.Path.{ap, ap₂, sym, ◌∙◌}
 use mathlib.Core.Bool.{Bool, false, not, ◌&&◌}
 use borrow.Author.Tests.{not-true, not-false}
-use Rattle.source.specs.Pending.{withMode, settled}
+use Rattle.source.specs.Pending.{with_mode, settled}
 use Rattle.source.proofs.PendingLaws.{moded-inactive, moded-fresh, moded-kept}
 use borrow.Author.Rules.{rules}
 use Rattle.source.proofs.Source.moded.Statement.{statement}
@@ -47,7 +47,7 @@ returns-2 c =
     (not at_new.before.before.rectified.result && at_new.before.rectified2.result)
     at_new.before.rectified2.result)
     c.before.start-target.ensures
-    ∙ ap₂ (λ (b a : Bool). settled (start (startTarget args.messages)) args.messages (not b && a) a)
+    ∙ ap₂ (λ (b a : Bool). settled (start (start_target args.messages)) args.messages (not b && a) a)
     at_new.before.before.rectified.ensures at_new.before.rectified2.ensures
     ∙ sym (moded-fresh _ _ _ _ new old)
 
@@ -62,7 +62,7 @@ returns-3 c =
     let new = sym at_new.active.ensures ∙ not-false _ at_old.before.if1.false in
     let old = sym at_old.active2.ensures ∙ not-false _ c.before.if2.false in
     c.settled2.ensures
-    ∙ ap₂ (λ (b a : Bool). settled (withMode args.self args.mode) args.messages (not b && a) a)
+    ∙ ap₂ (λ (b a : Bool). settled (with_mode args.self args.mode) args.messages (not b && a) a)
     at_new.before.before.rectified.ensures at_new.before.rectified2.ensures
     ∙ sym (moded-kept _ _ _ _ new old)
 

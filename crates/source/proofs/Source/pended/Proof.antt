@@ -2,7 +2,7 @@
 use mathlib.Core.Path.{ap, sym, ◌∙◌}
 use borrow.Author.Tests.{not-true, not-false}
 use mathlib.Core.Bool.{Bool, ◌||◌}
-use Rattle.source.specs.Pending.{withPending}
+use Rattle.source.specs.Pending.{with_pending}
 use Rattle.source.proofs.PendingLaws.{pended-inactive, pended-other, pended-messages, pended-direct}
 use borrow.Author.Rules.{rules}
 use Rattle.source.proofs.Source.pended.Statement.{statement}
@@ -34,7 +34,7 @@ returns-3 c =
     let active = sym at-active.active.ensures
     ∙ not-false _ at_test.before.before.before.if1.false in
     let level = sym at_test.before.before.level.ensures ∙ not-false _ at_test.before.if2.false in
-    ap (λ (h : Bool). withPending s (s.pending || h)) c.before.rectified.ensures
+    ap (λ (h : Bool). with_pending s (s.pending || h)) c.before.rectified.ensures
     ∙ sym (pended-messages _ _ _ active level at_test.if3.true)
 
 returns-4 : tie.Need-returns-4

@@ -4,7 +4,7 @@ use Prim.Native.Nat.{ℕ}
 use mathlib.Core.Path.{ap₂, sym, ◌∙◌}
 use mathlib.Core.Bool.{Bool, false}
 use borrow.Author.Tests.{not-true, not-false}
-use Rattle.source.specs.Pending.{withTarget, settled}
+use Rattle.source.specs.Pending.{with_target, settled}
 use Rattle.source.proofs.PendingLaws.{redelivered-inactive, redelivered-active}
 use borrow.Author.Rules.{rules}
 use Rattle.source.proofs.Source.redelivered.Statement.{statement}
@@ -31,7 +31,7 @@ returns-2 c =
     let args = at-active.before.args in
     let active = sym at-active.active.ensures ∙ not-false _ c.before.before.before.if1.false in
     c.settled.ensures
-    ∙ ap₂ (λ (t : ℕ) (h : Bool). settled (withTarget args.self t) args.messages false h)
+    ∙ ap₂ (λ (t : ℕ) (h : Bool). settled (with_target args.self t) args.messages false h)
     c.before.before.start-target.ensures c.before.rectified.ensures
     ∙ sym (redelivered-active _ _ _ active)
 

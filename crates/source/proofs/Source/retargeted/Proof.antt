@@ -1,6 +1,6 @@
 -- `source::Source::retargeted` meets its contract: an active source alone. Assumes nothing.
 use mathlib.Core.Path.{ap, sym, ◌∙◌}
-use Rattle.source.specs.Pending.{withTarget}
+use Rattle.source.specs.Pending.{with_target}
 use Rattle.source.proofs.PendingLaws.{retargeted-active, retargeted-inactive}
 use borrow.Author.Rules.{rules}
 use Rattle.source.proofs.Source.retargeted.Statement.{statement}
@@ -14,7 +14,7 @@ kept-target-requires c κs = search rules
 
 returns : tie.Need-returns
 returns c =
-    ap (withTarget c.before.before.before.args.self) c.kept_target.ensures
+    ap (with_target c.before.before.before.args.self) c.kept_target.ensures
     ∙ sym (retargeted-active _ _ _ _ (sym c.before.before.active.ensures ∙ c.before.if1.true))
 
 returns-2 : tie.Need-returns-2

@@ -1,7 +1,7 @@
 -- `source::Source::wire_changed` meets its contract: the rectified values before and after. Assumes nothing.
 use mathlib.Core.Path.{ap₂, ◌∙◌}
 use mathlib.Core.Bool.{Bool, not, ◌&&◌}
-use Rattle.source.specs.Pending.{settled, wireChanged}
+use Rattle.source.specs.Pending.{settled, wire_changed}
 use borrow.Author.Rules.{rules}
 use Rattle.source.proofs.Source.wire_changed.Statement.{statement}
 use Rattle.source.proofs.Source.wire_changed.Tie as tie
@@ -16,7 +16,7 @@ settled-requires : tie.Need-settled-requires
 settled-requires c κs = search rules
 
 returns : tie.Need-returns
-unfolding wireChanged
+unfolding wire_changed
 returns c =
     let args = c.before.before.before.args in
     c.settled.ensures

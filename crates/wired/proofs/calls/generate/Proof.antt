@@ -6,7 +6,7 @@ use mathlib.Core.List.{[], ◌∷◌}
 use denote.Enum.Declared.{tag_of}
 use Rattle.domain_region.specs.contracts.role.Role.{the_type}
 use Rattle.domain_region.proofs.RoleLaws.{arm-else}
-use Rattle.wired_state.specs.Wires.{wiredOf}
+use Rattle.wired_state.specs.Wires.{wired_of}
 use Rattle.wired_state.proofs.WiresLaws.{machine-part, child-part}
 use Rattle.wired_state.proofs.WiresLaws.{domain-machine, domain-child}
 use Rattle.wired.proofs.ControllerLaws.{answered-else, answered-genmsi}
@@ -53,7 +53,7 @@ returns-2 c =
     let l = start.args.w.now in
     answered-genmsi _ _ _ _ (sym at-role.role-of.ensures ∙ at_told.enum_told.given.1)
     true at_Side.if1.true _
-    (child-part l start.requires.0 ∙ sym (domain-child (wiredOf l) start.args.child at_Side.if1.true))
+    (child-part l start.requires.0 ∙ sym (domain-child (wired_of l) start.args.child at_Side.if1.true))
     start.args.log.now _ _ at_call.send-genmsi.ensures
 
 sub-send-genmsi-2 : tie.Need-overflow-sub-send-genmsi-2
@@ -82,7 +82,7 @@ returns-3 c =
     answered-genmsi _ _ _ _ (sym at-role.role-of.ensures ∙ at_told.enum_told.given.1)
     false at_Side.if1.false _
     (machine-part l start.requires.0
-    ∙ sym (domain-machine (wiredOf l) start.args.child at_Side.if1.false))
+    ∙ sym (domain-machine (wired_of l) start.args.child at_Side.if1.false))
     start.args.log.now _ _ at_call.send-genmsi2.ensures
 
 pub generate-spec : {M : Type 1} → statement M

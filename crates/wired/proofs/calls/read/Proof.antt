@@ -1,8 +1,8 @@
 -- `wired::calls::read` meets its contract: nothing is to be sent after it. Assumes nothing.
 use mathlib.Core.Path.{sym, ap, ◌∙◌}
-use Rattle.wired_state.specs.Wires.{wiredOf}
+use Rattle.wired_state.specs.Wires.{wired_of}
 use Rattle.wired_rules_laws.proofs.DomaincfgEffects.{domaincfg-low}
-use Rattle.wired_rules_laws.proofs.WiredEffects.{steady-domainIn}
+use Rattle.wired_rules_laws.proofs.WiredEffects.{steady-domain_in}
 use Rattle.wired.specs.Controller.{Out}
 use Rattle.wired.proofs.CallLaws.{words-steady, words-quiet, read-silent}
 use borrow.Author.Rules.{rules}
@@ -15,7 +15,7 @@ read-requires c κs =
     let l = start.args.w.now in
     let steady = words-steady l start.requires.0 start.requires.2 in (
       start.requires.0,
-      domaincfg-low (steady-domainIn (wiredOf l) steady start.args.child),
+      domaincfg-low (steady-domain_in (wired_of l) steady start.args.child),
       start.requires.1,
     )
 
@@ -29,7 +29,7 @@ returns c =
     let l = start.args.w.now in
     let long = start.requires.0 in
     let sound = start.requires.2 in
-    let silent = read-silent (wiredOf l) (words-steady l long sound) (words-quiet l long sound)
+    let silent = read-silent (wired_of l) (words-steady l long sound) (words-quiet l long sound)
     start.args.child start.args.word in
     (at_read.read.ensures.0, at_read.read.ensures.1 ∙ sym (ap (λ (o : Out). o.wired) silent))
 

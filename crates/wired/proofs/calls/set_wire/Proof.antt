@@ -1,9 +1,9 @@
 -- `wired::calls::set_wire` meets its contract: a wire, and the pass after it. Assumes nothing.
 use mathlib.Core.Path.{sym, ap, subst, ◌∙◌}
-use Rattle.wired_state.specs.Wires.{wiredOf}
-use Rattle.wired.specs.Controller.{flushed, wireCall, OneSends}
+use Rattle.wired_state.specs.Wires.{wired_of}
+use Rattle.wired.specs.Controller.{flushed, wire_call, OneSends}
 use Rattle.wired.proofs.ControllerLaws.{leaves_of}
-use Rattle.wired.proofs.CallLaws.{words-steady, words-quiet, one-wireSet}
+use Rattle.wired.proofs.CallLaws.{words-steady, words-quiet, one-wire_set}
 use borrow.Author.Rules.{rules}
 use Rattle.wired.proofs.calls.set_wire.Statement.{statement}
 use Rattle.wired.proofs.calls.set_wire.Tie as tie
@@ -21,7 +21,7 @@ flush-requires c κs =
       at_set.set-wire.auto.0 ∙ long,
       start.requires.1,
       subst OneSends (sym at_set.set-wire.ensures)
-          (one-wireSet (wiredOf l) (words-steady l long sound) (words-quiet l long sound) start.args.i
+          (one-wire_set (wired_of l) (words-steady l long sound) (words-quiet l long sound) start.args.i
           start.requires.2 start.requires.3 start.args.level),
     )
 
@@ -32,7 +32,7 @@ same-length-2 : tie.Need-same-length-2
 same-length-2 c = search rules
 
 returns : tie.Need-returns
-unfolding wireCall
+unfolding wire_call
 returns c =
     let at-flush = c.before.before.before.before in
     let at_set = at-flush.before.before.before.before.before in

@@ -1,10 +1,10 @@
 -- `wired::calls::write` meets its contract: what genmsi sends at once is all, and else the pass sends.
 -- Assumes nothing.
 use mathlib.Core.Path.{sym, ap, subst, ◌∙◌}
-use Rattle.wired_state.specs.Wires.{wiredOf}
+use Rattle.wired_state.specs.Wires.{wired_of}
 use Rattle.wired.specs.Controller.{flushed, OneSends}
 use Rattle.wired.proofs.ControllerLaws.{leaves_of, write_alone, write-passed, own-genmsi}
-use Rattle.wired.proofs.CallLaws.{words-steady, words-quiet, one-writtenIn, genmsi-silent}
+use Rattle.wired.proofs.CallLaws.{words-steady, words-quiet, one-written_in, genmsi-silent}
 use borrow.Author.Rules.{rules}
 use Rattle.wired.proofs.calls.write.Statement.{statement}
 use Rattle.wired.proofs.calls.write.Tie as tie
@@ -29,11 +29,11 @@ returns c =
     let l = start.args.w.now in
     let long = start.requires.0 in
     let sound = start.requires.3 in
-    let genmsi = own-genmsi (wiredOf l) start.args.child start.args.word start.args.value _
+    let genmsi = own-genmsi (wired_of l) start.args.child start.args.word start.args.value _
     at-made.generate.ensures.1 c.if1.true in
-    write_alone (wiredOf l) start.args.child start.args.word start.args.value _
+    write_alone (wired_of l) start.args.child start.args.word start.args.value _
     at-write.write.ensures
-    (genmsi-silent (wiredOf l) (words-steady l long sound) (words-quiet l long sound) start.args.child
+    (genmsi-silent (wired_of l) (words-steady l long sound) (words-quiet l long sound) start.args.child
     start.args.word genmsi start.args.value)
     start.args.log.now _ _ at-made.generate.ensures
 
@@ -48,7 +48,7 @@ flush-requires c κs =
       at-write.write.auto.0 ∙ long,
       at-made.generate.auto.1.0 ∙ start.requires.1,
       subst OneSends (sym at-write.write.ensures)
-          (one-writtenIn (wiredOf l) (words-steady l long sound) (words-quiet l long sound)
+          (one-written_in (wired_of l) (words-steady l long sound) (words-quiet l long sound)
           start.args.child start.args.word start.requires.2 start.args.value),
     )
 
@@ -66,7 +66,7 @@ returns-2 c =
     let at-made = at-write.before.before.before.before in
     let start = at-made.before.before.before.before.before in
     let args = start.args in
-    write-passed (wiredOf args.w.now) args.child args.word args.value _
+    write-passed (wired_of args.w.now) args.child args.word args.value _
     start.args.log.now _ _ _ _ at-made.generate.ensures at_test.if1.false
     (leaves_of (ap flushed at-write.write.ensures) _ _ _ _ at-flush.flush.ensures)
 

@@ -3,14 +3,14 @@ use mathlib.Core.Path.{◌∙◌}
 use mathlib.Core.Bool.{true, false}
 use mathlib.Core.List.{◌++◌}
 use lib.ListN.{take, drop}
-use Rattle.wired_state.specs.Wires.{wiredOf}
+use Rattle.wired_state.specs.Wires.{wired_of}
 use Rattle.wired_state.proofs.WiresLaws.{machine-part, machine-long, child-long, put-machine, put-long}
 use Rattle.wired_state.proofs.WiresLaws.{both-put, second-part}
 use Rattle.wired.proofs.ControllerLaws.{answers_of, answered-first, answered-second}
 use borrow.Author.Rules.{rules}
 use Rattle.wired.proofs.pass.flush.Statement.{statement}
 use Rattle.wired.proofs.pass.flush.Tie as tie
-use Rattle.sizes.specs.Sizes.{domainSize}
+use Rattle.sizes.specs.Sizes.{domain_size}
 
 sub-send : tie.Need-overflow-sub-send
 sub-send c = search rules
@@ -37,7 +37,7 @@ returns c =
     let l = start.args.w.now in
     let long = start.requires.0 in
     let put = put-machine l at-send.send.new.0 long (at-send.send.auto.0 ∙ machine-long l long) in
-    let answers = answered-first (wiredOf l) _ start.args.log.now _ _
+    let answers = answered-first (wired_of l) _ start.args.log.now _ _
     (answers_of false start.args.log.now (machine-part l long) at-send.send.ensures)
     start.requires.2 c.if1.true in
     (put ∙ answers.0, answers.1, answers.2)
@@ -70,10 +70,10 @@ returns-2 c =
     let long = start.requires.0 in
     let ys = at-send.send.new.0 in
     let whole = at-send.send.auto.0 ∙ machine-long l long in
-    let first = take 2 l ++ (ys ++ drop domainSize (drop 2 l)) in
+    let first = take 2 l ++ (ys ++ drop domain_size (drop 2 l)) in
     let put = both-put l ys long whole at_second.send2.new.0
     (at_second.send2.auto.0 ∙ child-long first (put-long l ys long whole)) in
-    let answers = answered-second (wiredOf l) _ _ start.args.log.now _ _ _ _
+    let answers = answered-second (wired_of l) _ _ start.args.log.now _ _ _ _
     (answers_of false start.args.log.now (machine-part l long) at-send.send.ensures)
     at_test.if1.false
     (answers_of true at-send.send.new.1.1.0 (second-part l ys long whole)

@@ -2,9 +2,9 @@
 use Prim.Native.Nat.{ℕ}
 use mathlib.Core.List.{List}
 use Rattle.domain.specs.Domain.{Domain}
-use Rattle.domain_registers.specs.Read.{registerValue, claimedBy}
+use Rattle.domain_registers.specs.Read.{register_value, claimed_by}
 use mathlib.Core.Path.{ap, ap₂, sym, ◌∙◌}
-use Rattle.wired_state.specs.Wires.{wiredOf}
+use Rattle.wired_state.specs.Wires.{wired_of}
 use Rattle.wired_state.proofs.WiresLaws.{child-long, machine-long, child-part, machine-part, put-child}
 use Rattle.wired_state.proofs.WiresLaws.{put-machine, domain-child, domain-machine, with-child, with-machine}
 use borrow.Author.Rules.{rules}
@@ -27,7 +27,7 @@ read-requires : tie.Need-read-requires
 read-requires c κs =
     let start = c.before.before.before.before.before in
     let l = start.args.w.now in
-    let same = domain-child (wiredOf l) start.args.child c.before.if1.true in
+    let same = domain-child (wired_of l) start.args.child c.before.if1.true in
     (child-long l start.requires.0, rw (child-part l start.requires.0, ← same) start.requires.1, start.requires.2)
 
 same_length : tie.Need-same-length
@@ -41,15 +41,15 @@ returns c =
     let l = start.args.w.now in
     let long = start.requires.0 in
     let part = child-part l long
-    ∙ sym (domain-child (wiredOf l) start.args.child at_test.if1.true) in
+    ∙ sym (domain-child (wired_of l) start.args.child at_test.if1.true) in
     let wires = at_test.before.wires.ensures in
     let put = put-child l at_call.read.new.0 long (at_call.read.auto.0 ∙ child-long l long) in (
       at_call.read.ensures.0
-          ∙ ap₂ (λ (d : Domain) (ws : List ℕ). registerValue d ws start.args.word) part wires,
+          ∙ ap₂ (λ (d : Domain) (ws : List ℕ). register_value d ws start.args.word) part wires,
       put
-          ∙ ap (λ (d : Domain). record { wires = (wiredOf l).wires; machine = (wiredOf l).machine; child = d })
-          (at_call.read.ensures.1 ∙ ap (λ (d : Domain). claimedBy d start.args.word) part)
-          ∙ sym (with-child (wiredOf l) start.args.child _ at_test.if1.true),
+          ∙ ap (λ (d : Domain). record { wires = (wired_of l).wires; machine = (wired_of l).machine; child = d })
+          (at_call.read.ensures.1 ∙ ap (λ (d : Domain). claimed_by d start.args.word) part)
+          ∙ sym (with-child (wired_of l) start.args.child _ at_test.if1.true),
     )
 
 sub-read-2 : tie.Need-overflow-sub-read-2
@@ -65,7 +65,7 @@ read-requires-2 : tie.Need-read-requires-2
 read-requires-2 c κs =
     let start = c.before.before.before.before.before in
     let l = start.args.w.now in
-    let same = domain-machine (wiredOf l) start.args.child c.before.if1.false in (
+    let same = domain-machine (wired_of l) start.args.child c.before.if1.false in (
       machine-long l start.requires.0,
       rw (machine-part l start.requires.0, ← same)
           start.requires.1,
@@ -83,16 +83,16 @@ returns-2 c =
     let l = start.args.w.now in
     let long = start.requires.0 in
     let part =
-    machine-part l long ∙ sym (domain-machine (wiredOf l) start.args.child at_test.if1.false) in
+    machine-part l long ∙ sym (domain-machine (wired_of l) start.args.child at_test.if1.false) in
     let wires = at_test.before.wires.ensures in
     let put =
     put-machine l at_call.read2.new.0 long (at_call.read2.auto.0 ∙ machine-long l long) in (
       at_call.read2.ensures.0
-          ∙ ap₂ (λ (d : Domain) (ws : List ℕ). registerValue d ws start.args.word) part wires,
+          ∙ ap₂ (λ (d : Domain) (ws : List ℕ). register_value d ws start.args.word) part wires,
       put
-          ∙ ap (λ (d : Domain). record { wires = (wiredOf l).wires; machine = d; child = (wiredOf l).child })
-          (at_call.read2.ensures.1 ∙ ap (λ (d : Domain). claimedBy d start.args.word) part)
-          ∙ sym (with-machine (wiredOf l) start.args.child _ at_test.if1.false),
+          ∙ ap (λ (d : Domain). record { wires = (wired_of l).wires; machine = d; child = (wired_of l).child })
+          (at_call.read2.ensures.1 ∙ ap (λ (d : Domain). claimed_by d start.args.word) part)
+          ∙ sym (with-machine (wired_of l) start.args.child _ at_test.if1.false),
     )
 
 pub read_spec : {M : Type 1} → statement M

@@ -1,8 +1,8 @@
 -- `wired_registers::access::signal` meets its contract: one part is lent. Assumes nothing.
 use mathlib.Core.Path.{ap, sym, ◌∙◌}
 use Rattle.domain.specs.Domain.{Domain}
-use Rattle.domain_direct.specs.Direct.{signalOf}
-use Rattle.wired_state.specs.Wires.{wiredOf}
+use Rattle.domain_direct.specs.Direct.{signal_of}
+use Rattle.wired_state.specs.Wires.{wired_of}
 use Rattle.wired_state.proofs.WiresLaws.{child-part, machine-part}
 use Rattle.wired_state.proofs.WiresLaws.{domain-child, domain-machine}
 use borrow.Author.Rules.{rules}
@@ -27,8 +27,8 @@ returns c =
     let start = at_test.before.before in
     let l = start.args.w.now in
     let part = child-part l start.requires.0
-    ∙ sym (domain-child (wiredOf l) start.args.child at_test.if1.true) in
-    c.signal.ensures ∙ ap (λ (d : Domain). signalOf d start.args.h) part
+    ∙ sym (domain-child (wired_of l) start.args.child at_test.if1.true) in
+    c.signal.ensures ∙ ap (λ (d : Domain). signal_of d start.args.h) part
 
 sub-signal-2 : tie.Need-overflow-sub-signal-2
 sub-signal-2 c = search rules
@@ -48,8 +48,8 @@ returns-2 c =
     let start = at_test.before.before in
     let l = start.args.w.now in
     let part = machine-part l start.requires.0
-    ∙ sym (domain-machine (wiredOf l) start.args.child at_test.if1.false) in
-    c.signal2.ensures ∙ ap (λ (d : Domain). signalOf d start.args.h) part
+    ∙ sym (domain-machine (wired_of l) start.args.child at_test.if1.false) in
+    c.signal2.ensures ∙ ap (λ (d : Domain). signal_of d start.args.h) part
 
 pub signal_spec : {M : Type 1} → statement M
 signal_spec =

@@ -4,8 +4,8 @@ use mathlib.Core.Path.{ap, ap₂, sym, ◌∙◌}
 use mathlib.Core.Bool.{Bool, true, false}
 use mathlib.Core.List.{List}
 use Rattle.domain.specs.Domain.{Domain}
-use Rattle.domain_registers.specs.Write.{registerWritten}
-use Rattle.wired_state.specs.Wires.{wiredOf, domainIn}
+use Rattle.domain_registers.specs.Write.{register_written}
+use Rattle.wired_state.specs.Wires.{wired_of, domain_in}
 use Rattle.wired_state.proofs.WiresLaws.{child-long, machine-long, child-part, machine-part, put-child}
 use Rattle.wired_state.proofs.WiresLaws.{put-machine, domain-child, domain-machine, with-child, with-machine}
 use borrow.Author.Rules.{rules}
@@ -40,19 +40,19 @@ returns c =
     let l = start.args.w.now in
     let long = start.requires.0 in
     let part = child-part l long
-    ∙ sym (domain-child (wiredOf l) start.args.child at_test.if1.true) in
+    ∙ sym (domain-child (wired_of l) start.args.child at_test.if1.true) in
     let wires = at_test.before.wires.ensures in
     let put = put-child l at_call.write.new.0 long (at_call.write.auto.0 ∙ child-long l long) in
     let args = start.args in
     put
-    ∙ ap (λ (d : Domain). record { wires = (wiredOf l).wires; machine = (wiredOf l).machine; child = d })
+    ∙ ap (λ (d : Domain). record { wires = (wired_of l).wires; machine = (wired_of l).machine; child = d })
     (at_call.write.ensures
     ∙ ap₂
-    (λ (d : Domain) (ws : List ℕ). registerWritten true d ws args.word args.value) part wires
+    (λ (d : Domain) (ws : List ℕ). register_written true d ws args.word args.value) part wires
     ∙ ap
-    (λ (k : Bool). registerWritten k (domainIn (wiredOf l) args.child) (wiredOf l).wires
+    (λ (k : Bool). register_written k (domain_in (wired_of l) args.child) (wired_of l).wires
     args.word args.value) (sym at_test.if1.true))
-    ∙ sym (with-child (wiredOf l) args.child _ at_test.if1.true)
+    ∙ sym (with-child (wired_of l) args.child _ at_test.if1.true)
 
 sub-write-2 : tie.Need-overflow-sub-write-2
 sub-write-2 c = search rules
@@ -79,20 +79,20 @@ returns-2 c =
     let l = start.args.w.now in
     let long = start.requires.0 in
     let part =
-    machine-part l long ∙ sym (domain-machine (wiredOf l) start.args.child at_test.if1.false) in
+    machine-part l long ∙ sym (domain-machine (wired_of l) start.args.child at_test.if1.false) in
     let wires = at_test.before.wires.ensures in
     let put =
     put-machine l at_call.write2.new.0 long (at_call.write2.auto.0 ∙ machine-long l long) in
     let args = start.args in
     put
-    ∙ ap (λ (d : Domain). record { wires = (wiredOf l).wires; machine = d; child = (wiredOf l).child })
+    ∙ ap (λ (d : Domain). record { wires = (wired_of l).wires; machine = d; child = (wired_of l).child })
     (at_call.write2.ensures
     ∙ ap₂
-    (λ (d : Domain) (ws : List ℕ). registerWritten false d ws args.word args.value) part wires
+    (λ (d : Domain) (ws : List ℕ). register_written false d ws args.word args.value) part wires
     ∙ ap
-    (λ (k : Bool). registerWritten k (domainIn (wiredOf l) args.child) (wiredOf l).wires
+    (λ (k : Bool). register_written k (domain_in (wired_of l) args.child) (wired_of l).wires
     args.word args.value) (sym at_test.if1.false))
-    ∙ sym (with-machine (wiredOf l) args.child _ at_test.if1.false)
+    ∙ sym (with-machine (wired_of l) args.child _ at_test.if1.false)
 
 pub write-part-spec : {M : Type 1} → statement M
 write-part-spec =

@@ -1,6 +1,6 @@
 -- `wired_rules::domains::bits_rules` meets its contract: four words that are 0. Assumes nothing.
 use mathlib.Core.Path.{refl}
-use Rattle.domain.specs.Domain.{domainOf}
+use Rattle.domain.specs.Domain.{domain_of}
 use Rattle.wired_rules.proofs.BitsLaws.{bits-read, set-read}
 use borrow.Author.Rules.{rules}
 use Rattle.wired_rules.proofs.domains.bits_rules.Statement.{statement}
@@ -62,7 +62,7 @@ returns c =
     let at-enabled = at-pending.before.before.before in
     let at-messages = at-enabled.before in
     let start = at-messages.before.before in
-    let d = domainOf start.args.part.now in
+    let d = domain_of start.args.part.now in
     let ws = start.args.t3 in
     bits-read start.args.child ws d start.args.g start.requires.1
     at-pending.one_word.result at-enable.one-word2.result at-levels.one-word3.result

@@ -2,8 +2,8 @@
 use Prim.Native.Nat.{ℕ}
 use mathlib.Core.Path.{ap, ◌∙◌}
 use lib.Dec.{eqb}
-use Rattle.domain_domaincfg.specs.Domaincfg.{keptDomaincfg}
-use Rattle.wired_rules.specs.Rules.{domaincfgRange}
+use Rattle.domain_domaincfg.specs.Domaincfg.{kept_domaincfg}
+use Rattle.wired_rules.specs.Rules.{domaincfg_range}
 use borrow.Author.Rules.{rules}
 use Rattle.wired_rules.proofs.domains.domaincfg_rule.Statement.{statement}
 use Rattle.wired_rules.proofs.domains.domaincfg_rule.Tie as tie
@@ -15,10 +15,10 @@ kept-domaincfg-requires : tie.Need-kept-domaincfg-requires
 kept-domaincfg-requires c κs = search rules
 
 returns : tie.Need-returns
-unfolding domaincfgRange
+unfolding domaincfg_range
 returns c =
     ap (eqb c.before.domaincfg.result) c.kept-domaincfg.ensures
-    ∙ ap (λ (w : ℕ). eqb w (keptDomaincfg w)) c.before.domaincfg.ensures
+    ∙ ap (λ (w : ℕ). eqb w (kept_domaincfg w)) c.before.domaincfg.ensures
 
 pub domaincfg-rule-spec : {M : Type 1} → statement M
 domaincfg-rule-spec =

@@ -9,10 +9,10 @@ use Rattle.words.specs.Sets.{member}
 use Rattle.words.proofs.SetsLaws.{member-word}
 use Rattle.words_masks.specs.Masks.{gathered}
 use Rattle.domain.specs.Domain.{Domain}
-use Rattle.wired_state.specs.Wires.{wiredOf}
+use Rattle.wired_state.specs.Wires.{wired_of}
 use Rattle.wired_state.proofs.WiresLaws.{machine-part, child-part}
-use Rattle.wired_rules.specs.Rules.{domainSound}
-use Rattle.source_rules.specs.SourceParts.{heldBack, occupied}
+use Rattle.wired_rules.specs.Rules.{domain_sound}
+use Rattle.source_rules.specs.SourceParts.{held_back, occupied}
 use Rattle.domain_slots.specs.Slots.{has}
 use Rattle.wired_rules.proofs.RulesLaws.{wired-sound-read}
 use borrow.Author.Rules.{rules}
@@ -66,17 +66,17 @@ returns c =
     let wires = at-wires.wires.ensures in
     let machine = machine-part l start.requires in
     let child = child-part l start.requires in
-    wired-sound-read (wiredOf l)
+    wired-sound-read (wired_of l)
     (at-bit.has-bit.ensures ∙ member-word _ 0 ∙ ap (λ (ws : List ℕ). member ws 0) wires)
     (at-machine.domain-rules.ensures.0
-    ∙ ap₂ (λ (ws : List ℕ) (d : Domain). domainSound false ws d) wires machine)
+    ∙ ap₂ (λ (ws : List ℕ) (d : Domain). domain_sound false ws d) wires machine)
     (at-child.domain-rules2.ensures.0
-    ∙ ap₂ (λ (ws : List ℕ) (d : Domain). domainSound true ws d) wires child)
+    ∙ ap₂ (λ (ws : List ℕ) (d : Domain). domain_sound true ws d) wires child)
     (c.without64.ensures
     ∙ ap₂ without
     (at-child.domain-rules2.ensures.1 ∙ ap (λ (d : Domain). gathered (has (occupied true) d) 64) child)
     (at-machine.domain-rules.ensures.2
-    ∙ ap (λ (d : Domain). gathered (has (heldBack false) d) 64) machine))
+    ∙ ap (λ (d : Domain). gathered (has (held_back false) d) 64) machine))
 
 pub sound-spec : {M : Type 1} → statement M
 sound-spec =

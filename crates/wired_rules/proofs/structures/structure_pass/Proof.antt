@@ -4,8 +4,8 @@ use Prim.Native.Nat.{◌+◌, ◌-◌, ◌≤◌}
 use mathlib.Core.Path.{◌≡◌, refl, sym, ap, ◌∙◌}
 use mathlib.Core.Bool.{Bool, ◌&&◌}
 use native.Mathlib.Omega.{arith}
-use Rattle.domain.specs.Domain.{domainOf}
-use Rattle.wired_rules.specs.Rules.{structureRange}
+use Rattle.domain.specs.Domain.{domain_of}
+use Rattle.wired_rules.specs.Rules.{structure_range}
 use Rattle.words.specs.Every.{every}
 use Rattle.words.proofs.EveryLaws.{every-step, every-done}
 use borrow.Author.Rules.{rules}
@@ -14,7 +14,7 @@ use Rattle.wired_rules.proofs.structures.structure_pass.Tie as tie
 
 abbrev invariant-loop : tie.invariant-loop
 invariant-loop part sound₀ h₀ sound h =
-    let p = structureRange (domainOf part) in
+    let p = structure_range (domain_of part) in
     (h ≤ 4) × ((sound && every p h (4 - h)) ≡ every p 0 4)
 
 abbrev decreases-loop : tie.decreases-loop
@@ -36,7 +36,7 @@ loop-again : tie.Need-loop-preserved invariant-loop decreases-loop
 loop-again c =
     let at-loop = c.before.before.loop in
     let args = c.before.before.before.before.args in
-    let p = structureRange (domainOf args.part.now) in
+    let p = structure_range (domain_of args.part.now) in
     let k = at-loop.h in (
       omega arith,
       ap (λ (b : Bool). at-loop.sound && b && every p (k + 1) (4 - (k + 1))) c.structure-rule.ensures
@@ -48,7 +48,7 @@ returns : tie.Need-returns invariant-loop decreases-loop
 returns c =
     let at-loop = c.before.loop in
     let args = c.before.before.before.args in
-    let p = structureRange (domainOf args.part.now) in
+    let p = structure_range (domain_of args.part.now) in
     sym (every-done p at-loop.sound at-loop.h 4 (omega arith))
     ∙ at-loop.invariant.1
 

@@ -1,7 +1,7 @@
 -- `wired_rules::structures::structure_rule` meets its contract. Assumes nothing.
 use mathlib.Core.Path.{ap, ◌∙◌}
-use Rattle.domain_delivery.specs.Delivery.{deliverySound}
-use Rattle.wired_rules.specs.Rules.{structureRange}
+use Rattle.domain_delivery.specs.Delivery.{delivery_sound}
+use Rattle.wired_rules.specs.Rules.{structure_range}
 use borrow.Author.Rules.{rules}
 use Rattle.wired_rules.proofs.structures.structure_rule.Statement.{statement}
 use Rattle.wired_rules.proofs.structures.structure_rule.Tie as tie
@@ -13,9 +13,9 @@ sound-requires : tie.Need-sound-requires
 sound-requires c κs = search rules
 
 returns : tie.Need-returns
-unfolding structureRange
+unfolding structure_range
 returns c =
-    c.sound.ensures ∙ ap deliverySound c.before.load-structure.ensures
+    c.sound.ensures ∙ ap delivery_sound c.before.load-structure.ensures
 
 pub structure-rule-spec : {M : Type 1} → statement M
 structure-rule-spec =

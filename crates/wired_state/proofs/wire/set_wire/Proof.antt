@@ -6,14 +6,14 @@ use mathlib.Core.List.{List, ◌++◌}
 use lib.ListN.{take, drop}
 use Rattle.words.specs.Sets.{member}
 use Rattle.domain.specs.Domain.{Domain}
-use Rattle.wired_state.specs.Wires.{Wired, wiredOf, sourceWired, wireSet}
+use Rattle.wired_state.specs.Wires.{Wired, wired_of, source_wired, wire_set}
 use Rattle.wired_state.proofs.WiresLaws.{wired-path, both-put, put-long, second-part, machine-long}
 use Rattle.wired_state.proofs.WiresLaws.{child-long}
 use Rattle.wired_state.proofs.WiresLaws.{machine-part}
 use borrow.Author.Rules.{rules}
 use Rattle.wired_state.proofs.wire.set_wire.Statement.{statement}
 use Rattle.wired_state.proofs.wire.set_wire.Tie as tie
-use Rattle.sizes.specs.Sizes.{domainSize}
+use Rattle.sizes.specs.Sizes.{domain_size}
 
 wires-requires : tie.Need-wires-requires
 wires-requires c κs = search rules
@@ -52,14 +52,14 @@ same_length : tie.Need-same-length
 same_length c = search rules
 
 returns : tie.Need-returns
-unfolding wireSet
+unfolding wire_set
 returns c =
     let at_second = c.before.before in
     let at_first = at_second.before.before.before.before in
     let at-put = at_first.before.before.before.before in
     let at-was = at-put.before.before in
     let start = at-was.before.before.before.before in
-    let w = wiredOf start.args.w.now in
+    let w = wired_of start.args.w.now in
     let i = start.args.i in
     let level = start.args.level in
     let l = at-put.put-wire.new.0 in
@@ -69,12 +69,12 @@ returns c =
     let ys = at_first.wire-source.new.0 in
     let kept = at_first.wire-source.auto.0 ∙ machine-long l long in
     let rest = at_second.wire-source2.auto.0
-    ∙ child-long (take 2 l ++ (ys ++ drop domainSize (drop 2 l))) (put-long l ys long kept) in
+    ∙ child-long (take 2 l ++ (ys ++ drop domain_size (drop 2 l))) (put-long l ys long kept) in
     let machine = at_first.wire-source.ensures
-    ∙ ap₂ (λ (d : Domain) (b : Bool). sourceWired d i b level) (machine-part l long
+    ∙ ap₂ (λ (d : Domain) (b : Bool). source_wired d i b level) (machine-part l long
     ∙ ap (λ (v : Wired). v.machine) put) was in
     let child = at_second.wire-source2.ensures
-    ∙ ap₂ (λ (d : Domain) (b : Bool). sourceWired d i b level) (second-part l ys long kept
+    ∙ ap₂ (λ (d : Domain) (b : Bool). source_wired d i b level) (second-part l ys long kept
     ∙ ap (λ (v : Wired). v.child) put) was in
     both-put l ys long kept at_second.wire-source2.new.0 rest
     ∙ wired-path (ap (λ (v : Wired). v.wires) put) machine child

@@ -1,8 +1,8 @@
 -- `wired_state::wire::wire_source` meets its contract: the source is read, changed and stored. Assumes
 -- nothing.
 use mathlib.Core.Path.{ap, ◌∙◌}
-use Rattle.domain.specs.Slot.{withSource}
-use Rattle.wired_state.specs.Wires.{sourceWired}
+use Rattle.domain.specs.Slot.{with_source}
+use Rattle.wired_state.specs.Wires.{source_wired}
 use borrow.Author.Rules.{rules}
 use Rattle.wired_state.proofs.wire.wire_source.Statement.{statement}
 use Rattle.wired_state.proofs.wire.wire_source.Tie as tie
@@ -23,10 +23,10 @@ same_length : tie.Need-same-length
 same_length c = search rules
 
 returns : tie.Need-returns
-unfolding sourceWired
+unfolding source_wired
 returns c =
     let at_store = c.before.before in
-    at_store.store.ensures ∙ ap (withSource _ _) (at_store.before.wire-changed.ensures ∙ cc)
+    at_store.store.ensures ∙ ap (with_source _ _) (at_store.before.wire-changed.ensures ∙ cc)
 
 pub wire-source-spec : {M : Type 1} → statement M
 wire-source-spec =

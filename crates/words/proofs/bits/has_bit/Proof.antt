@@ -4,7 +4,7 @@ use mathlib.Core.Path.{ap}
 use Prim.Native.Nat.{ℕ, ◌/◌, ◌^◌}
 use lib.Bits.{and_mask}
 use lib.Dec.{eqb}
-use Rattle.words.specs.Bits.{hasBit, bit_of}
+use Rattle.words.specs.Bits.{has_bit, bit_of}
 use Rattle.words.proofs.bits.has_bit.Statement.{statement}
 use Rattle.words.proofs.bits.has_bit.Tie as tie
 
@@ -12,7 +12,7 @@ shr-result : tie.Need-overflow-shr-result
 shr-result c = search rules
 
 returns : tie.Need-returns
-unfolding hasBit bit_of
+unfolding has_bit bit_of
 returns c = ap (λ (x : ℕ). eqb x 1) (and_mask (c.args.w / 2 ^ c.args.k) 1)
 
 pub has-bit-spec : {M : Type 1} → statement M

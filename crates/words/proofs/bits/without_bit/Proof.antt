@@ -4,7 +4,7 @@ use Prim.Native.Nat.{ℕ, ◌-◌, ◌^◌}
 use mathlib.Core.Path.{ap, sym, ◌∙◌}
 use lib.Bits.{bit_and}
 use lib.Pow.{pow-lt}
-use Rattle.words.proofs.BitsLaws.{without-and, withoutBit-without}
+use Rattle.words.proofs.BitsLaws.{without-and, without_bit-without}
 use Rattle.words.proofs.PartsLaws.{one_shl}
 use Rattle.words.proofs.bits.without_bit.Statement.{statement}
 use Rattle.words.proofs.bits.without_bit.Tie as tie
@@ -17,7 +17,7 @@ returns c =
     let w = c.args.w in
     let k = c.args.k in
     ap (λ (x : ℕ). bit_and w ((2 ^ 32 - 1) - x)) (one_shl 32 k c.requires)
-    ∙ without-and 32 w (2 ^ k) c.ranges.w.fits (pow-lt c.requires) ∙ sym (withoutBit-without w k)
+    ∙ without-and 32 w (2 ^ k) c.ranges.w.fits (pow-lt c.requires) ∙ sym (without_bit-without w k)
 
 pub without-bit-spec : {M : Type 1} → statement M
 without-bit-spec = tie.close (tie.spec shl-result returns)
