@@ -1,4 +1,5 @@
 // The calls of the board, what they answer, and what is tested before they are done.
+#![tactic(auto)]
 mod blocks;
 mod numbers;
 
@@ -7,7 +8,7 @@ pub use numbers::{is_file, is_move, is_page_address, is_wire, kind_of};
 
 // One case for each call, with its numbers.
 // [01 B11 C1 V2]
-#[derive(Drop)]
+#[derive(Clone, Copy)]
 pub enum Call {
     Reset,
     // wire, level
@@ -32,7 +33,7 @@ pub enum Call {
     Move(u64, u64, u64, u64, u64),
 }
 
-#[derive(Drop)]
+#[derive(Clone, Copy)]
 pub enum Answer {
     // value, count of messages
     Done(u64, u32),

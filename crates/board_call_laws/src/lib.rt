@@ -1,1 +1,2 @@
 // No code: what a call gives, from what its code leaves.
+#![tactic(auto)]

@@ -1,4 +1,5 @@
 // The calls on one message file: its page, its registers, its top. Each has a file of its own.
+#![tactic(auto)]
 mod accesses;
 mod block_file;
 mod claims;

@@ -1,5 +1,6 @@
 // The move of a station between two guest files, access by access: what each access of the six published
 // steps does, and the targets that step 3 rewrites.
+#![tactic(auto)]
 mod acts;
 mod names;
 
@@ -11,7 +12,7 @@ pub use names::{names_file, renamed};
 pub const ACCESSES: u64 = 89;
 
 // What one access does.
-#[derive(Drop)]
+#[derive(Clone, Copy)]
 pub enum Act {
     // select, place: a register of the old file is read into the saved numbers
     Save(u64, usize),

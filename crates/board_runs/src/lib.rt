@@ -1,1 +1,2 @@
 // No code: calls made one after the other, each on what the last one left.
+#![tactic(auto)]

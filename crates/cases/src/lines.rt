@@ -16,7 +16,7 @@ use sizes::{BLOCK_SIZE, SAVED_SIZE};
 const LAST_WORD: u64 = 0xFFFFFFFF;
 
 // How many words of the state and of the log are lent.
-#[derive(Drop)]
+#[derive(Clone, Copy)]
 pub struct Lengths {
     pub state: usize,
     pub log: usize,

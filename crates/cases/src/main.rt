@@ -1,6 +1,7 @@
 // Recorded cases, run through the board's calls. Each line of standard input is a call, or changes what the
 // calls are lent; each call's answer is a line of standard output. The file stdin says the calls and the file
 // stdout what a second program, which shares nothing with this one, answers to them (second/README.md).
+#![tactic(auto)]
 mod digest;
 mod lines;
 mod shown;
@@ -21,7 +22,7 @@ const STATE_ROOM: usize = BLOCK_SIZE + 10;
 const LOG_ROOM: usize = LOG_SIZE + 7;
 
 // Where the input is.
-#[derive(Drop)]
+#[derive(Clone, Copy)]
 struct Place {
     // how many bytes the piece has, and how many of them are taken
     size: usize,

@@ -1,1 +1,2 @@
 // No code: what holds of direct delivery, for the crates above.
+#![tactic(auto)]

@@ -1,4 +1,5 @@
 // What in_clrip reads: the rectified values of a domain's sources, a word of them at a time.
+#![tactic(auto)]
 ghost use Rattle.std.specs.Prelude.{◌≡◌, ◌+◌, ◌≤◌, ◌<◌, length};
 ghost use Rattle.sizes.specs.Sizes.{source_set_size, domain_size};
 ghost use Rattle.domain.specs.Domain.{domain_of};
@@ -9,7 +10,7 @@ use sizes::SOURCE_SET_SIZE;
 use words::put_bit;
 
 // The rectified values of a word's sources, were every wire high, and were every wire low.
-#[derive(Drop)]
+#[derive(Clone, Copy)]
 pub struct Rectified {
     pub high: u32,
     pub low: u32,

@@ -1,6 +1,7 @@
 // The three settable numbers of a hart's delivery structure as a record that is lent and changed in place.
 // Each function takes the record out, has the method of that number make the new one, and puts it back.
 // 01, "Direct delivery and signals".
+#![tactic(auto)]
 ghost use Rattle.std.specs.Prelude.{◌≡◌};
 ghost use Rattle.domain_delivery.specs.Delivery.{with_idelivery, with_iforce, with_ithreshold};
 

@@ -5,7 +5,7 @@ ghost use Rattle.domain_region.specs.Role.{role_of};
 
 use super::Word;
 
-#[derive(Drop)]
+#[derive(Clone, Copy)]
 pub enum Role {
     // claimi of the hart 0 to 3: a read of it claims
     Claims(u64),

@@ -1,5 +1,6 @@
 // The sourcecfg and target words of a domain's sources, in one pass: what they break, and which sources are
 // active. No test leaves early.
+#![tactic(auto)]
 ghost use Rattle.std.specs.Prelude.{◌≡◌, true, false, ◌<◌, ◌+◌, length};
 ghost use Rattle.sizes.specs.Sizes.{slot_count, domain_size};
 ghost use Rattle.domain.specs.Domain.{domain_of, by_messages};
@@ -12,7 +13,7 @@ use source_rules::{mode_fault, target_fault};
 use words_masks::with_bit64;
 
 // What the sources of a domain give, each set as one word: bit i is source i.
-#[derive(Drop)]
+#[derive(Clone, Copy)]
 pub struct Gathered {
     // 0 exactly if each sourcecfg and target word is in its range.
     pub faults: u32,

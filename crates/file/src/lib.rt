@@ -1,4 +1,6 @@
 // One message file of a hart (IMSIC): a value that each method takes and hands back. 01, "One message file".
+#![tactic(auto)]
+
 mod page;
 mod register;
 mod rules;
@@ -9,7 +11,7 @@ use sizes::FILE_SET_SIZE;
 pub use top::Claimed;
 
 // [01 F22 F23]
-#[derive(Drop)]
+#[derive(Clone, Copy)]
 pub struct File {
     pub delivery: u32,
     pub threshold: u32,

@@ -8,7 +8,7 @@ use file_select::{
     Register, delivery_legal, doubleword, put_doubleword, register_of, select_legal,
 };
 
-#[derive(Drop)]
+#[derive(Clone, Copy)]
 pub enum Access {
     Read,
     Write,
@@ -16,13 +16,13 @@ pub enum Access {
     Clear,
 }
 
-#[derive(Drop)]
+#[derive(Clone, Copy)]
 pub enum Reply {
     Value(u64),
     Illegal,
 }
 
-#[derive(Drop)]
+#[derive(Clone, Copy)]
 pub struct Accessed {
     pub answer: Reply,
     pub file: File,

@@ -6,7 +6,7 @@ ghost use Rattle.file.specs.Top.{top_identity, top_of, claimed, signals};
 use super::File;
 use file_search::lowest_shared;
 
-#[derive(Drop)]
+#[derive(Clone, Copy)]
 pub struct Claimed {
     pub top: u32,
     pub file: File,

@@ -1,1 +1,2 @@
 // No code: what holds of one message file, for the crates above.
+#![tactic(auto)]

@@ -1,4 +1,6 @@
 // The lowest identity that two sets of a file share: a search bit after bit. 01, "One message file".
+#![tactic(auto)]
+
 ghost use Rattle.std.specs.Prelude.{◌≡◌, ◌-◌, ◌<◌};
 ghost use Rattle.file_search.specs.Search.{first_bit, lowest_shared};
 

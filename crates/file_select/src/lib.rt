@@ -1,5 +1,7 @@
 // The leaves of a message file's registers: which select numbers there are and what each names, the two words
 // behind one of them, and the deliveries that a file may store. 01, "One message file".
+#![tactic(auto)]
+
 mod deliveries;
 mod halves;
 mod names;
@@ -19,7 +21,7 @@ pub const EIE0: u64 = 0xC0;
 
 pub const FROM_WIRED: u32 = 0x40000000;
 
-#[derive(Drop)]
+#[derive(Clone, Copy)]
 pub enum Register {
     Delivery,
     Threshold,

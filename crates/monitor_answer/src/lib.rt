@@ -1,4 +1,5 @@
 // What a monitor in C is answered: three numbers for the enum of the board's calls.
+#![tactic(auto)]
 ghost use Rattle.std.specs.Prelude.{◌≡◌};
 ghost use Rattle.monitor_answer.specs.Told.{Numbers};
 
@@ -7,7 +8,7 @@ use board_call::Answer;
 // What C is answered, in two registers. The refusal is 0 if the call is done.
 // [01 B16]
 #[repr(C)]
-#[derive(Drop)]
+#[derive(Clone, Copy)]
 pub struct VskAnswer {
     pub value: u64,
     // the number of messages

@@ -1,4 +1,5 @@
 // What a line says: a call by its name and its numbers, or nothing that can be read.
+#![tactic(auto)]
 mod names;
 
 ghost use Rattle.std.specs.Prelude.{◌≡◌};
@@ -8,7 +9,7 @@ use board_call::Call;
 use record_fields::{name_end, numbers};
 use record_lines::LINE_SIZE;
 
-#[derive(Drop)]
+#[derive(Clone, Copy)]
 pub enum Line {
     Call(Call),
     Unreadable,

@@ -1,4 +1,5 @@
 // The fields of a line: a name, then decimal numbers, each after one tab.
+#![tactic(auto)]
 ghost use Rattle.std.specs.Prelude.{◌≡◌, suc, ◌≤◌, length, take};
 ghost use Rattle.record_fields.specs.Fields.{tab, name_of, texts_of, count_of, numbers_of};
 ghost use Rattle.record_fields.specs.Fields.{most_numbers};
@@ -10,7 +11,7 @@ use record_numbers::{Number, decimal};
 pub const MOST_NUMBERS: usize = 5;
 
 // The numbers of a line.
-#[derive(Drop)]
+#[derive(Clone, Copy)]
 pub struct Fields {
     pub numbers: [u64; MOST_NUMBERS],
     // how many there are; more than any call has if one of them cannot be read

@@ -1,4 +1,5 @@
 // Lines out of bytes that come in pieces.
+#![tactic(auto)]
 ghost use Rattle.std.specs.Prelude.{◌+◌, ◌≤◌, ◌<◌, min, ◌≡◌, length, take, drop, get_or};
 ghost use Rattle.std.proofs.Math.Seq.{paste};
 ghost use Rattle.record_lines.specs.Lines.{CutAt, line_feed, line_room};
@@ -10,7 +11,7 @@ pub const LINE_SIZE: usize = 200;
 pub const LINE_ROOM: usize = LINE_SIZE + 1;
 
 // How far a piece was taken, and how many bytes of the line are held.
-#[derive(Drop)]
+#[derive(Clone, Copy)]
 pub struct Taken {
     pub at: usize,
     pub held: usize,

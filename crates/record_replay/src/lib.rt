@@ -1,4 +1,5 @@
 // A record that is run: a line, and the lines of a piece of bytes.
+#![tactic(auto)]
 mod line;
 mod pieces;
 

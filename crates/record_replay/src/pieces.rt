@@ -10,7 +10,7 @@ use record_lines::cut;
 use sizes::SAVED_SIZE;
 
 // Where a run is.
-#[derive(Drop)]
+#[derive(Clone, Copy)]
 pub struct Run {
     // how many lines have ended
     pub number: u64,

@@ -1,1 +1,2 @@
 // No code: what a record does, run line by line and by pieces.
+#![tactic(auto)]

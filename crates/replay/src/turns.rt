@@ -14,7 +14,7 @@ use sizes::SAVED_SIZE;
 const MOST_TURNS: u64 = 140737488355328;
 
 // Where the run is, and whether what was asked of the system was done.
-#[derive(Drop)]
+#[derive(Clone, Copy)]
 pub struct Stand {
     pub number: u64,
     pub held: usize,

@@ -1,7 +1,8 @@
 // One interrupt source of a domain, as a value: what happens to its pending and enable bits and its target.
+#![tactic(auto)]
 mod pending;
 
-#[derive(Drop)]
+#[derive(Clone, Copy)]
 pub struct Source {
     pub mode: u32,
     pub target: u32,
@@ -10,7 +11,7 @@ pub struct Source {
 }
 
 // What a write to a family of registers does to a source that it names.
-#[derive(Drop)]
+#[derive(Clone, Copy)]
 pub enum Change {
     Pend,
     Clear,

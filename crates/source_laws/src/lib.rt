@@ -1,1 +1,2 @@
 // No code: what happens to one source keeps its state rules, for the crates above.
+#![tactic(auto)]

@@ -1,1 +1,2 @@
 // No code: what holds of the wired controller's calls.
+#![tactic(auto)]

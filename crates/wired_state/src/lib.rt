@@ -1,4 +1,5 @@
 // The wires and two domains in 290 words, and a wire that is set. Nothing is sent here.
+#![tactic(auto)]
 mod state;
 mod wire;
 

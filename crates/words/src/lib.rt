@@ -1,5 +1,7 @@
 // Bits of words, their bytes, halves and fields: shifts and masks, with their meaning as arithmetic; and the
 // test of a threshold.
+#![tactic(auto)]
+
 mod bits;
 mod parts;
 mod threshold;

@@ -1,4 +1,6 @@
 // Sets of numbers below 64, each as one word: a test of all members at once takes an operation or two.
+#![tactic(auto)]
+
 ghost use Rattle.std.specs.Prelude.{◌≡◌, ◌<◌};
 ghost use Rattle.words.specs.Bits.{with_bit};
 ghost use Rattle.words_masks.specs.Masks.{common};
