@@ -1,6 +1,7 @@
 // The three settable numbers of a hart's delivery structure: a value that each method takes and hands back.
 // 01, "Direct delivery and signals".
 #![tactic(auto)]
+
 ghost use Rattle.std.specs.Prelude.{◌≡◌};
 ghost use Rattle.domain_delivery.specs.Delivery.{switch_of, with_idelivery, with_iforce, with_ithreshold};
 ghost use Rattle.domain_delivery.specs.Delivery.{without_force, delivery_sound, lets, structure_signals};

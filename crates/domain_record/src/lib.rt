@@ -2,6 +2,7 @@
 // Each function takes the record out, has the method of that number make the new one, and puts it back.
 // 01, "Direct delivery and signals".
 #![tactic(auto)]
+
 ghost use Rattle.std.specs.Prelude.{◌≡◌};
 ghost use Rattle.domain_delivery.specs.Delivery.{with_idelivery, with_iforce, with_ithreshold};
 

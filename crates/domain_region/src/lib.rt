@@ -1,5 +1,6 @@
 // An address of a domain's region, taken apart into the register that it names. 01, "The wired controller".
 #![tactic(auto)]
+
 ghost use Rattle.std.specs.Prelude.{◌≡◌, ◌+◌, ◌*◌, ◌%◌, ◌≤◌, ◌<◌};
 ghost use Rattle.sizes.specs.Sizes.{source_set_size};
 ghost use Rattle.domain_region.specs.Region.{address_legal, word_at};

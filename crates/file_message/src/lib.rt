@@ -1,5 +1,6 @@
 // A message as a word of the log: made of hart, file and identity, and taken apart again.
 #![tactic(auto)]
+
 ghost use Rattle.std.specs.Prelude.{◌≡◌, ◌<◌};
 ghost use Rattle.sizes.specs.Sizes.{hart_count};
 ghost use Rattle.file_message.specs.Message.{log_word, hart_in, file_in, identity_in};

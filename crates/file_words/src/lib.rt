@@ -1,5 +1,6 @@
 // A file's 18 words in a lent block: delivery, threshold, eight of pending, eight of enable.
 #![tactic(auto)]
+
 ghost use Rattle.std.specs.Prelude.{◌≡◌, ◌+◌, ◌≤◌, length, take, drop};
 ghost use Rattle.std.proofs.lemmas.List.Edits.{sets};
 ghost use Rattle.sizes.specs.Sizes.{file_set_size, file_size};

@@ -1,5 +1,6 @@
 // The 20 message files in their 360 lent words: one file, the messages of a log, the files' state rules.
 #![tactic(auto)]
+
 ghost use Rattle.std.specs.Prelude.{◌≡◌, ◌%◌, ◌<◌, length};
 ghost use Rattle.sizes.specs.Sizes.{hart_files, file_count, files_size};
 ghost use Rattle.words.specs.Every.{every};

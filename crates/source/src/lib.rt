@@ -1,5 +1,6 @@
 // One interrupt source of a domain, as a value: what happens to its pending and enable bits and its target.
 #![tactic(auto)]
+
 mod pending;
 
 #[derive(Clone, Copy)]

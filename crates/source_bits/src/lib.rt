@@ -1,6 +1,7 @@
 // The state rules on the bits of a domain's sources, tested for all of them at once: each set is one word,
 // and bit i of it is source i.
 #![tactic(auto)]
+
 ghost use Rattle.std.specs.Prelude.{◌≡◌, not, ◌&&◌, ◌||◌, ◌<◌, ◌^◌};
 ghost use Rattle.sizes.specs.Sizes.{slot_count};
 ghost use Rattle.words.specs.Bits.{has_bit};

@@ -1,5 +1,6 @@
 // What a sourcecfg word says of a source: whether it is active, how its wire is read, what a write keeps.
 #![tactic(auto)]
+
 ghost use Rattle.std.specs.Prelude.{◌≡◌};
 ghost use Rattle.source_mode.specs.Mode.{is_active, is_level, is_rectified, kept_mode, source_word};
 

@@ -1,6 +1,7 @@
 // The words of an active source against their ranges. What a test gives is 0 exactly if the word is in range,
 // so that a pass over the sources gathers all of them in one word.
 #![tactic(auto)]
+
 ghost use Rattle.std.specs.Prelude.{◌≡◌, cond, not, ◌&&◌, ◌||◌, eqb};
 ghost use Rattle.source_mode.specs.Mode.{kept_mode};
 ghost use Rattle.source_target.specs.Target.{number_of, kept_target};

@@ -1,5 +1,6 @@
 // Targets and messages: fields by shifts and masks.
 #![tactic(auto)]
+
 ghost use Rattle.std.specs.Prelude.{◌≡◌, ◌<◌, ◌^◌};
 ghost use Rattle.sizes.specs.Sizes.{hart_count};
 ghost use Rattle.words.specs.Parts.{packed};

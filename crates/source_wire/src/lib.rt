@@ -1,5 +1,6 @@
 // The levels of the wires: two words, a bit for each source. 01, "The wired controller".
 #![tactic(auto)]
+
 ghost use Rattle.std.specs.Prelude.{◌≡◌, ◌<◌};
 ghost use Rattle.sizes.specs.Sizes.{slot_count};
 ghost use Rattle.words.specs.Sets.{member};
