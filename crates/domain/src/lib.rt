@@ -1,5 +1,6 @@
 // One domain of the wired controller, in its own 144 words of the block: sources and delivery structures.
 #![tactic(auto)]
+
 mod domain_words;
 mod slot;
 mod structure;

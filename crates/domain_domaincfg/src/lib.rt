@@ -1,5 +1,6 @@
 // What a write to domaincfg does to its domain, before anything is sent.
 #![tactic(auto)]
+
 ghost use Rattle.std.specs.Prelude.{◌≡◌, ◌-◌, ◌<◌, length};
 ghost use Rattle.sizes.specs.Sizes.{source_count, slot_count, domain_size};
 ghost use Rattle.domain.specs.Domain.{domain_of, by_messages};

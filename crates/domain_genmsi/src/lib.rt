@@ -1,5 +1,6 @@
 // genmsi: what a write stores, what a read gives, and the message that a write sends at once.
 #![tactic(auto)]
+
 ghost use Rattle.std.specs.Prelude.{◌≡◌, length};
 ghost use Rattle.sizes.specs.Sizes.{domain_size, log_size};
 ghost use Rattle.domain.specs.Domain.{domain_of};

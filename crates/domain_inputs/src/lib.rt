@@ -1,5 +1,6 @@
 // What in_clrip reads: the rectified values of a domain's sources, a word of them at a time.
 #![tactic(auto)]
+
 ghost use Rattle.std.specs.Prelude.{◌≡◌, ◌+◌, ◌≤◌, ◌<◌, length};
 ghost use Rattle.sizes.specs.Sizes.{source_set_size, domain_size};
 ghost use Rattle.domain.specs.Domain.{domain_of};

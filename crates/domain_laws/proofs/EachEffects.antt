@@ -11,7 +11,7 @@ use borrow.Author.Tests.{eq-eqb, ne_eqb, lt-ltb, le-ltb, le-leb, lt-leb, ltb-tru
 use Rattle.words.proofs.TestsLaws.{tested}
 use Rattle.source.specs.declared.Source.{Source}
 use Rattle.domain.specs.Domain.{Domain}
-use Rattle.domain.specs.Slot.{source_at}
+use Rattle.domain.specs.Slot.{source_at, with_source}
 use Rattle.domain_laws.specs.Shape.{DomainShaped}
 use Rattle.domain_laws.specs.Became.{Touched}
 use Rattle.domain_laws.specs.Each.{with_each, among}
@@ -73,6 +73,6 @@ module _ (f : ℕ → Source → Source) where
       (λ j _ _. rw (among_none i j))
   touched-with_each d i (suc n) shaped l h =
       let one = touched-with_source d i f shaped l (omega arith) in
-      let rest = touched-with_each _ (suc i) n one.shaped (omega arith) (omega arith) in
+      let rest = touched-with_each (with_source d i (f i (source_at d i))) (suc i) n one.shaped (omega arith) (omega arith) in
       touched-as (became-touched one rest) (λ j s. cond (among i (suc n) j) (f j s) s)
       (λ j _ _. once (f j) (source_at d j) i n j (ℕ_discrete i j))

@@ -1,6 +1,7 @@
 // The sourcecfg and target words of a domain's sources, in one pass: what they break, and which sources are
 // active. No test leaves early.
 #![tactic(auto)]
+
 ghost use Rattle.std.specs.Prelude.{◌≡◌, true, false, ◌<◌, ◌+◌, length};
 ghost use Rattle.sizes.specs.Sizes.{slot_count, domain_size};
 ghost use Rattle.domain.specs.Domain.{domain_of, by_messages};

@@ -1,6 +1,7 @@
 // A hart's top interrupt: of the sources that count for it the one with the least priority number, the lowest
 // among equals.
 #![tactic(auto)]
+
 ghost use Rattle.std.specs.Prelude.{◌≡◌, true, cond, ◌&&◌, ◌+◌, ◌*◌, ◌<◌, eqb, length};
 ghost use Rattle.sizes.specs.Sizes.{hart_count, slot_count, domain_size};
 ghost use Rattle.source_target.specs.Target.{number_of};

@@ -1,5 +1,6 @@
 // What a read of a register of one domain gives. What a read does besides is not here.
 #![tactic(auto)]
+
 ghost use Rattle.std.specs.Prelude.{◌≡◌, ◌+◌, ◌<◌, length};
 ghost use Rattle.sizes.specs.Sizes.{slot_count, domain_size};
 ghost use Rattle.domain_region.specs.Region.{Within};

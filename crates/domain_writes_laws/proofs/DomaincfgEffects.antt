@@ -15,6 +15,7 @@ use Rattle.source.specs.declared.Source.{Source}
 use Rattle.source.specs.Pending.{redelivered}
 use Rattle.domain.specs.Domain.{Domain, domaincfg_of, is_enabled, by_messages, genmsi_of, with_domaincfg}
 use Rattle.domain.specs.Domain.{with_genmsi}
+use Rattle.domain.specs.Slot.{source_at, with_source}
 use Rattle.domain_laws.specs.Shape.{DomainShaped}
 use Rattle.domain_laws.specs.Became.{Became, Touched}
 use Rattle.domain_laws.specs.Each.{with_each}
@@ -52,7 +53,9 @@ module _ (ws : List ℕ) (m : Bool) where
   unfolding redelivered_from redelivered_at with_each
   redelivered_from-each d i zero e l = refl
   redelivered_from-each d i (suc n) e l =
-      rw e (redelivered_from-each _ (suc i) n (by_messages-with_source d i _ l ∙ e) (omega arith))
+      rw e
+      (redelivered_from-each (with_source d i (resettled i (source_at d i))) (suc i) n
+      (by_messages-with_source d i _ l ∙ e) (omega arith))
 
   touched-redelivered : (d : Domain) → by_messages d ≡ m → DomainShaped d
       → Touched d (redelivered_from d ws 1 63) resettled

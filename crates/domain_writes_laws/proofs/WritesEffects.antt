@@ -103,7 +103,8 @@ module _ (ws : List ℕ) (c : Change) (v : ℕ) (m : Bool) where
   changed_from-each d i zero e l = refl
   changed_from-each d i (suc n) e l =
       rw (changed_bit-put d i e)
-      (changed_from-each _ (suc i) n (by_messages-with_source d i _ l ∙ e) (omega arith))
+      (changed_from-each (with_source d i (bit_changing i (source_at d i))) (suc i) n
+      (by_messages-with_source d i _ l ∙ e) (omega arith))
 
 cond-and : (a b : Bool) (s t : Source) → cond a (cond b s t) t ≡ cond (a && b) s t
 cond-and true b s t = refl
