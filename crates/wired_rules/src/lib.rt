@@ -2,6 +2,7 @@
 // break and which are active (domain_slots); what their bits break is then tested for all of them at once
 // (source_bits). No test leaves early.
 #![tactic(auto)]
+
 mod domains;
 mod structures;
 

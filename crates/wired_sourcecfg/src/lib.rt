@@ -1,6 +1,7 @@
 // A sourcecfg that is written, with delegation and taking back. Nothing is sent here. The machine domain's
 // word says who has the source.
 #![tactic(auto)]
+
 ghost use Rattle.std.specs.Prelude.{◌≡◌, ◌≤◌, ◌<◌, true, false, length};
 ghost use Rattle.sizes.specs.Sizes.{slot_count, domain_size, wired_size};
 ghost use Rattle.source.specs.Pending.{inactive};

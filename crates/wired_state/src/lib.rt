@@ -1,5 +1,6 @@
 // The wires and two domains in 290 words, and a wire that is set. Nothing is sent here.
 #![tactic(auto)]
+
 mod state;
 mod wire;
 

@@ -1,11 +1,8 @@
 -- `domain_registers::access::read` meets its contract: a claimi is claimed, any other register only read.
 -- Assumes
 -- nothing.
-use mathlib.Core.Path.{ap, sym, ◌∙◌}
-use mathlib.Core.List.{[], ◌∷◌}
-use denote.Enum.Declared.{tag_of}
-use Rattle.domain_region.specs.contracts.role.Role.{the_type}
-use Rattle.domain_region.proofs.RoleLaws.{arm-else, claims-lt}
+use mathlib.Core.Path.{sym, ◌∙◌}
+use Rattle.domain_region.proofs.RoleLaws.{claims-lt}
 use Rattle.domain.specs.Domain.{domain_of}
 use Rattle.domain_registers.proofs.ReadLaws.{claim-value, claimed-by, claimed-none}
 use Rattle.domain_registers.proofs.access.read.Goals as goal
@@ -32,6 +29,5 @@ returns-in_default c =
       c.value_of.ensures,
       sym
           (claimed-none (domain_of args.part.now) args.word
-          (λ h e. arm-else (1 ∷ 2 ∷ 3 ∷ []) c.in_default.keys2 0 tt
-          (ap (tag_of the_type) (c.role_of.ensures ∙ e)))),
+          (λ h e. c.in_default.not-Claims h (c.role_of.ensures ∙ e))),
     )

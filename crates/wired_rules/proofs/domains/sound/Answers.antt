@@ -1,0 +1,36 @@
+-- `wired_rules::domains::sound` meets its contract: the wires, each domain, and what concerns both. Assumes
+-- nothing.
+use Prim.Native.Nat.{ℕ}
+use mathlib.Core.Path.{ap, ap₂, ◌∙◌}
+use mathlib.Core.Bool.{true, false}
+use mathlib.Core.List.{List}
+use Rattle.words.specs.Bits.{without}
+use Rattle.words.specs.Sets.{member}
+use Rattle.words.proofs.SetsLaws.{member-word}
+use Rattle.words_masks.specs.Masks.{gathered}
+use Rattle.domain.specs.Domain.{Domain}
+use Rattle.wired_state.specs.Wires.{wired_of}
+use Rattle.wired_state.proofs.WiresLaws.{machine-part, child-part}
+use Rattle.wired_rules.specs.Rules.{domain_sound}
+use Rattle.source_rules.specs.SourceParts.{held_back, occupied}
+use Rattle.domain_slots.specs.Slots.{has}
+use Rattle.wired_rules.proofs.RulesLaws.{wired-sound-read}
+use Rattle.wired_rules.proofs.domains.sound.Goals as goal
+
+pub returns : goal.returns
+returns c =
+    let l = c.args.w.now in
+    let wires = c.wires-wires.ensures in
+    let machine = machine-part l c.requires in
+    let child = child-part l c.requires in
+    wired-sound-read (wired_of l)
+    (c.has_bit.ensures ∙ member-word _ 0 ∙ ap (λ (ws : List ℕ). member ws 0) wires)
+    (c.domain_rules-machine.ensures.0
+    ∙ ap₂ (λ (ws : List ℕ) (d : Domain). domain_sound false ws d) wires machine)
+    (c.domain_rules-child.ensures.0
+    ∙ ap₂ (λ (ws : List ℕ) (d : Domain). domain_sound true ws d) wires child)
+    (c.without64.ensures
+    ∙ ap₂ without
+    (c.domain_rules-child.ensures.1 ∙ ap (λ (d : Domain). gathered (has (occupied true) d) 64) child)
+    (c.domain_rules-machine.ensures.2
+    ∙ ap (λ (d : Domain). gathered (has (held_back false) d) 64) machine))
