@@ -1,5 +1,6 @@
 // The board's block of 650 words: its state rules, and its start.
 #![tactic(auto)]
+
 ghost use Rattle.std.specs.Prelude.{◌≡◌, ◌<◌, length, replicate};
 ghost use Rattle.sizes.specs.Sizes.{file_count, files_size, block_size};
 ghost use Rattle.file_select.specs.Deliveries.{from_wired};

@@ -1,5 +1,6 @@
 // The calls of the board, what they answer, and what is tested before they are done.
 #![tactic(auto)]
+
 mod blocks;
 mod numbers;
 

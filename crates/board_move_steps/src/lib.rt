@@ -1,6 +1,7 @@
 // The move of a station between two guest files, access by access: what each access of the six published
 // steps does, and the targets that step 3 rewrites.
 #![tactic(auto)]
+
 mod acts;
 mod names;
 

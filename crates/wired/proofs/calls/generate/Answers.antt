@@ -1,11 +1,7 @@
 -- `wired::calls::generate` meets its contract: no genmsi, one of the child, one of the machine domain.
 -- Assumes nothing.
-use mathlib.Core.Path.{sym, ap, ◌∙◌}
+use mathlib.Core.Path.{sym, ◌∙◌}
 use mathlib.Core.Bool.{true, false}
-use mathlib.Core.List.{[], ◌∷◌}
-use denote.Enum.Declared.{tag_of}
-use Rattle.domain_region.specs.contracts.role.Role.{the_type}
-use Rattle.domain_region.proofs.RoleLaws.{arm-else}
 use Rattle.wired_state.specs.Wires.{wired_of}
 use Rattle.wired_state.proofs.WiresLaws.{machine-part, child-part}
 use Rattle.wired_state.proofs.WiresLaws.{domain-machine, domain-child}
@@ -15,8 +11,7 @@ use Rattle.wired.proofs.calls.generate.Goals as goal
 pub returns-in_default : goal.returns-in_default
 returns-in_default c =
     answered-else _ _ _ _
-    (λ e. arm-else (0 ∷ 1 ∷ 3 ∷ []) c.in_default.keys2 2 tt
-    (ap (tag_of the_type) (c.role_of.ensures ∙ e)))
+    (λ e. c.in_default.not-Generates (c.role_of.ensures ∙ e))
     c.args.log.now
 
 pub returns-then-child : goal.returns-then-child

@@ -26,7 +26,7 @@ flush-requires c =
     let long = c.requires.0 in
     let sound = c.requires.3 in (
       c.write.auto.w ∙ long,
-      c.generate-n.auto.word.0 ∙ c.requires.1,
+      c.generate-n.auto.log ∙ c.requires.1,
       subst OneSends (sym c.write.ensures)
           (one-written_in (wired_of l) (words-steady l long sound) (words-quiet l long sound)
           c.args.child c.args.word c.requires.2 c.args.value),

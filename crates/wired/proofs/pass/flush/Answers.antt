@@ -32,6 +32,6 @@ returns c =
     let answers = answered-second (wired_of l) _ _ c.args.log.now _ _ _ _
     (answers_of false c.args.log.now (machine-part l long) c.send-n.ensures)
     c.if-n-ne0.false
-    (answers_of true c.send-n.new.log.1.0 (second-part l ys long whole)
+    (answers_of true c.send-n.new.log (second-part l ys long whole)
     c.send.ensures) in
     (put ∙ answers.0, answers.1, answers.2)

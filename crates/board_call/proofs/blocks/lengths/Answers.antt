@@ -1,0 +1,18 @@
+-- `board_call::blocks::lengths` meets its contract: test by test. Assumes nothing.
+use mathlib.Core.Path.{refl, sym}
+use mathlib.Core.Bool.{false}
+use Rattle.board_call.proofs.RefusalLaws.{refused-state, refused-log, blocks-untested}
+use Rattle.board_call.proofs.blocks.lengths.Goals as goal
+
+pub returns-then-state-ne-BLOCK_SIZE : goal.returns-then-state-ne-BLOCK_SIZE
+returns-then-state-ne-BLOCK_SIZE c = record { number = sym (refused-state false _ _ c.if-state-ne-BLOCK_SIZE.true); value = refl; count = refl }
+
+pub returns-then-log-ne-LOG_SIZE : goal.returns-then-log-ne-LOG_SIZE
+returns-then-log-ne-LOG_SIZE c =
+    let long = c.if-state-ne-BLOCK_SIZE.false in
+    record { number = sym (refused-log false _ _ long c.if-log-ne-LOG_SIZE.true); value = refl; count = refl }
+
+pub returns : goal.returns
+returns c =
+    let long = c.if-state-ne-BLOCK_SIZE.false in
+    record { number = sym (blocks-untested false _ _ long c.if-log-ne-LOG_SIZE.false refl); value = refl; count = refl }
