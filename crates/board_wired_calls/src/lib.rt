@@ -1,5 +1,6 @@
 // The calls on the wired controller: a wire set, a word of a domain read or written.
 #![tactic(auto)]
+
 mod accepted_read;
 mod accepted_wire;
 mod accepted_write;

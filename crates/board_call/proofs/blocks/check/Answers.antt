@@ -8,7 +8,7 @@ use Rattle.board_call.proofs.RefusalLaws.{passed-log}
 use Rattle.board_call.proofs.blocks.check.Goals as goal
 
 pub returns-in_default : goal.returns-in_default
-returns-in_default c = refused-lengths true _ _ _ c.lengths-answer.ensures c.in_default.keys2
+returns-in_default c = refused-lengths true _ _ _ c.lengths-answer.ensures c.in_default.not-Done
 
 pub sound-requires : goal.sound-requires
 sound-requires c =

@@ -1,0 +1,66 @@
+-- `board_wired_calls::calls::domain_read` meets its contract: refusal by refusal, and the call. Assumes
+-- nothing.
+use mathlib.Core.Path.{refl, sym, ◌∙◌}
+use mathlib.Core.Bool.{true}
+use native.Mathlib.Omega.{arith}
+use borrow.Author.Tests.{lt-ltb, le-ltb}
+use Rattle.board_call.proofs.AnswerLaws.{done-case}
+use Rattle.board_call.proofs.RefusalLaws.{passed-state, passed-rules}
+use mathlib.Core.Path.{ap, subst}
+use Rattle.domain_region.specs.Region.{Within}
+use Rattle.domain_region.specs.declared.Word.{Word}
+use Rattle.domain_region.proofs.RegionLaws.{word-within}
+use lib.Dec.{eqb}
+use Rattle.domain_region.specs.Region.{word_at}
+use Rattle.wired_registers.specs.Wired.{read_in}
+use Rattle.wired.specs.Controller.{read_call}
+use Rattle.board_block.specs.Block.{with_wired, board_of}
+use Rattle.board_wired_calls.proofs.AcceptedLaws.{read_none}
+use Rattle.board_call_laws.proofs.CallTests.{tests-blocks, tests-name, tests-address}
+use Rattle.board_call_laws.proofs.WiredCallEffects.{tests-domain_read, domain_read-done}
+use Rattle.board_wired_calls.proofs.calls.domain_read.Goals as goal
+
+pub returns-in_default : goal.returns-in_default
+returns-in_default c =
+    let args = c.args in
+    tests-blocks (tests-domain_read args.domain args.address) args.state.now args.log.now _
+    c.check-answer.ensures c.in_default.not-Done
+
+pub returns-then-domain-ge-DOMAINS : goal.returns-then-domain-ge-DOMAINS
+returns-then-domain-ge-DOMAINS c =
+    let args = c.args in
+    tests-name (tests-domain_read args.domain args.address) args.state.now args.log.now
+    (done-case _ _ c.check-answer.ensures c.in-Done.is) (le-ltb _ 2 c.if-domain-ge-DOMAINS.true)
+
+pub returns-then-not-address_legal : goal.returns-then-not-address_legal
+returns-then-not-address_legal c =
+    let args = c.args in
+    tests-address (tests-domain_read args.domain args.address) args.state.now args.log.now
+    (done-case _ _ c.check-answer.ensures c.in-Done.is)
+    (lt-ltb args.domain 2 (omega (arith, c.if-domain-ge-DOMAINS.false)))
+    (sym c.address_legal.ensures ∙ c.if-not-address_legal.true)
+
+pub read_done-value-requires : goal.read_done-value-requires
+read_done-value-requires c =
+    let none = done-case _ _ c.check-answer.ensures c.in-Done.is in (
+      passed-state true _ _ none,
+      subst Within (sym c.word_at.ensures) (word-within _),
+      passed-rules true _ _ none refl,
+    )
+
+pub returns : goal.returns
+returns c =
+    let args = c.args in
+    let l = args.state.now in
+    let none = done-case _ _ c.check-answer.ensures c.in-Done.is in
+    let long = passed-state true l args.log.now none in
+    let child = eqb args.domain 1 in
+    let word = c.word_at.ensures in
+    let read = c.read_done-value.ensures in
+    domain_read-done l args.log.now none
+    args.domain args.address (omega (arith, c.if-domain-ge-DOMAINS.false))
+    (sym c.address_legal.ensures ∙ c.if-not-address_legal.false) _ _
+    (c.read_done-value.auto.state ∙ long)
+    (read_none l long (passed-rules true l args.log.now none refl) child (word_at args.address))
+    (read.0 ∙ ap (read_in (board_of l).wired child) word)
+    (read.1 ∙ ap (λ (r : Word). with_wired (board_of l) (read_call (board_of l).wired child r).wired) word)
