@@ -1,5 +1,6 @@
 // Every call of the board, as one function over the enum of calls: what replays a record of calls needs.
 #![tactic(auto)]
+
 ghost use Rattle.board_call.specs.Outcome.{outcome, Gives};
 
 use board_call::{Answer, Call};

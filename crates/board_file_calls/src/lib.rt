@@ -1,5 +1,6 @@
 // The calls on one message file: its page, its registers, its top. Each has a file of its own.
 #![tactic(auto)]
+
 mod accesses;
 mod block_file;
 mod claims;

@@ -1,5 +1,6 @@
 // The calls on the whole board and on a hart: reset, and the signals.
 #![tactic(auto)]
+
 mod calls;
 mod signal;
 

@@ -1,6 +1,7 @@
 // The functions that a monitor in C calls, each thin over one call of the board. C gives a slice as two
 // arguments, the pointer and the number of words; include/varskumo.h has the prototypes.
 #![tactic(auto)]
+
 ghost use Rattle.board_call.specs.declared.Call.TheVariants as the;
 ghost use Rattle.board_call.specs.Outcome.{outcome};
 ghost use Rattle.monitor_answer.specs.Told.{Told, Tells};

@@ -1,5 +1,6 @@
 // What a monitor in C is answered: three numbers for the enum of the board's calls.
 #![tactic(auto)]
+
 ghost use Rattle.std.specs.Prelude.{◌≡◌};
 ghost use Rattle.monitor_answer.specs.Told.{Numbers};
 

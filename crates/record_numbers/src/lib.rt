@@ -1,5 +1,6 @@
 // A number as decimal digits: read from a field of a line, and put into bytes.
 #![tactic(auto)]
+
 mod reading;
 mod text;
 

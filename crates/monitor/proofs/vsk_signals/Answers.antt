@@ -1,0 +1,6 @@
+-- `monitor::vsk_signals` meets its contract: its numbers are those of the call below it. Assumes nothing.
+use Rattle.monitor_answer.proofs.ToldLaws.{told_of}
+use Rattle.monitor.proofs.vsk_signals.Goals as goal
+
+pub returns : goal.returns
+returns c s = told_of c.numbers.ensures (c.signals.ensures s)
