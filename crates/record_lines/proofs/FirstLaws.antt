@@ -9,7 +9,7 @@ use mathlib.Core.Bool.{Bool, true, false, cond}
 use mathlib.Core.List.{List, [], ◌∷◌, ◌++◌, append-nil, append_assoc}
 use lib.Dec.{eqb, ltb, leb-suc-suc, leb-zero}
 use lib.ListN.{length, take, drop}
-use Rattle.bytes.specs.Bytes.{index_of, index_after}
+use Rattle.record_lines.specs.Bytes.{index_of, index_after}
 use Rattle.record_lines.specs.Parted.{ended_by, rest_by}
 
 abbrev pub parts_from : ℕ → List ℕ → List ℕ → List (List ℕ)

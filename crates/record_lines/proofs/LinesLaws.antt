@@ -10,8 +10,7 @@ use lib.ListN.{length, get_or, take, drop, length-take, length-drop}
 use lib.Seq.{slice, take_all, take-append-le, take-append-add, take-take, paste, take-paste, length-take-le}
 use lib.Seq.{take-length, take-add, drop_at, get_or-drop}
 use borrow.Author.Tests.{eqb-true}
-use Rattle.bytes.specs.Bytes.{index_of, index_after}
-use Rattle.bytes.specs.Bytes.{slice as stretch}
+use Rattle.record_lines.specs.Bytes.{index_of, index_after}
 use Rattle.record_lines.specs.Parted.{ended_by, rest_by}
 use Rattle.record_lines.specs.Lines.{line_feed, line_size, line_room, kept, CutAt}
 
@@ -110,7 +109,7 @@ take_min a k r = at (dec_lt a k)
         take_all a (take k r) (simp length-take (omega (arith, ge))) ∙ ap (λ (n : ℕ). take n r) (sym least)
 
 module _ (xs : List ℕ) (f e : ℕ) (le : f ≤ length xs)
-    (found : e ≡ f + index_of line_feed (stretch f (length xs) xs)) where
+    (found : e ≡ f + index_of line_feed (slice f (length xs) xs)) where
   abbrev rest : List ℕ
   rest = drop f xs
 
@@ -118,7 +117,6 @@ module _ (xs : List ℕ) (f e : ℕ) (le : f ≤ length xs)
   much = index_of line_feed rest
 
   first_found : e ≡ f + much
-  unfolding stretch
   first_found = found ∙ ap (λ (ys : List ℕ). f + index_of line_feed (drop f ys)) (take-length xs)
 
   -- the bytes up to the end of the line

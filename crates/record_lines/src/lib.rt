@@ -1,8 +1,13 @@
 // Lines out of bytes that come in pieces.
 #![tactic(auto)]
+
 ghost use Rattle.std.specs.Prelude.{◌+◌, ◌≤◌, ◌<◌, min, ◌≡◌, length, take, drop, get_or};
 ghost use Rattle.std.proofs.Math.Seq.{paste};
 ghost use Rattle.record_lines.specs.Lines.{CutAt, line_feed, line_room};
+
+mod scan;
+
+pub use scan::find;
 
 // A longer line cannot be read.
 pub const LINE_SIZE: usize = 200;
@@ -46,7 +51,7 @@ pub fn cut(chunk: &[u8], from: usize, line: &mut [u8], had: usize) -> Taken
         get_or chunk.now result.at 0 ≡ line_feed }
     ensures held_le_line_room { result.held ≤ line_room }
 {
-    let end = bytes::scan::find(chunk, from, chunk.len(), b'\n');
+    let end = find(chunk, from, chunk.len(), b'\n');
     let n = least(end - from, LINE_ROOM - had);
     copy(chunk, from, line, had, n);
     Taken {

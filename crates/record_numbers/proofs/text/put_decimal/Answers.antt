@@ -13,7 +13,11 @@ pub returns-then-n-lt10 : goal.returns-then-n-lt10
 returns-then-n-lt10 c =
     let args = c.args in
     let put = take-suc-set args.out.now args.at (48 + args.n) (omega arith) in
-    (rw (add-one, text-one args.n c.if-n-lt10.true) put, (omega arith, omega arith))
+    record {
+      out_after = rw (add-one, text-one args.n c.if-n-lt10.true) put;
+      upper_bound = omega arith;
+      lower_bound = omega arith;
+    }
 
 pub overflow_add-end : goal.overflow_add-end
 overflow_add-end c = omega (arith, places-le number_room c.args.n)
@@ -33,4 +37,8 @@ shape_of-out c = c.loop-i.invariant.long
 pub returns : goal.returns
 returns c =
     let few = places-le number_room c.args.n in
-    (standing-end c.loop-i.invariant c.loop-i-test.false, (omega arith, omega arith))
+    record {
+      out_after = standing-end c.loop-i.invariant c.loop-i-test.false;
+      upper_bound = omega arith;
+      lower_bound = omega arith;
+    }
