@@ -1,5 +1,6 @@
 // An answer as a line of decimal numbers with a tab between two, put into bytes.
 #![tactic(auto)]
+
 ghost use Rattle.std.specs.Prelude.{◌+◌, ◌*◌, ◌≤◌, min, ◌≡◌, [], ◌∷◌, ◌++◌, length, take};
 ghost use Rattle.sizes.specs.Sizes.{log_size};
 ghost use Rattle.record_answer.specs.Shown.{fields_shown, line_shown, field_room, answer_room};

@@ -1,5 +1,6 @@
 // What a line says: a call by its name and its numbers, or nothing that can be read.
 #![tactic(auto)]
+
 mod names;
 
 ghost use Rattle.std.specs.Prelude.{◌≡◌};

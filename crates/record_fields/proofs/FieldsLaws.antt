@@ -10,9 +10,9 @@ use native.Mathlib.Numerals.{add-one}
 use borrow.Author.Tests.{lt-ltb, ltb-true}
 use lib.Dec.{ltb}
 use lib.ListN.{length, take, drop, length-drop}
-use lib.Seq.{take-length, drop-drop}
+use lib.Seq.{slice, take-length, drop-drop}
 use Rattle.words.proofs.TestsLaws.{same_truth}
-use Rattle.bytes.specs.Bytes.{index_of, slice}
+use Rattle.record_lines.specs.Bytes.{index_of}
 use Rattle.record_lines.proofs.FirstLaws.{parts_first}
 use Rattle.record_fields.specs.Fields.{tab, fields_of, first_of, others_of, name_of, texts_of}
 
@@ -62,7 +62,6 @@ texts-next l k h =
 
 -- the rest of l as a stretch
 rest-slice : (l : List ℕ) (j : ℕ) → slice j (length l) l ≡ drop j l
-unfolding slice
 rest-slice l j = ap (drop j) (take-length l)
 
 pub name-found : (l : List ℕ) (n : ℕ) → n ≡ 0 + index_of tab (slice 0 (length l) l) → n ≡ index_of tab l

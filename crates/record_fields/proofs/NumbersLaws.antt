@@ -8,7 +8,7 @@ use native.Mathlib.Numerals.{add-one}
 use borrow.Author.Tests.{le-ltb}
 use lib.ListN.{length, take, drop, set, replicate, length-set}
 use lib.Seq.{take-suc-set, append_snoc}
-use Rattle.bytes.specs.Bytes.{index_of}
+use Rattle.record_lines.specs.Bytes.{index_of}
 use Rattle.record_numbers.specs.Decimal.{is_number, value_of}
 use Rattle.record_fields.specs.Fields.{tab, fields_of, texts_of, are_numbers, numbers_of}
 use Rattle.record_fields.specs.Fields.{most_numbers, count_of}

@@ -1,10 +1,12 @@
 // The fields of a line: a name, then decimal numbers, each after one tab.
 #![tactic(auto)]
+
 ghost use Rattle.std.specs.Prelude.{◌≡◌, suc, ◌≤◌, length, take};
 ghost use Rattle.record_fields.specs.Fields.{tab, name_of, texts_of, count_of, numbers_of};
 ghost use Rattle.record_fields.specs.Fields.{most_numbers};
-ghost use Rattle.bytes.specs.Bytes.{index_of};
+ghost use Rattle.record_lines.specs.Bytes.{index_of};
 
+use record_lines::find;
 use record_numbers::{Number, decimal};
 
 // More numbers than these no call has.
@@ -24,7 +26,7 @@ pub fn name_end(line: &[u8]) -> usize
     ensures line_value { take result line.now ≡ name_of line.now }
     ensures upper_bound { result ≤ length line.now }
 {
-    bytes::scan::find(line, 0, line.len(), b'\t')
+    find(line, 0, line.len(), b'\t')
 }
 
 // The numbers of a line whose name ends before byte `end`.
@@ -41,7 +43,7 @@ pub fn numbers(line: &[u8], end: usize) -> Fields
         if count == MOST_NUMBERS {
             return unreadable();
         }
-        let next = bytes::scan::find(line, at + 1, line.len(), b'\t');
+        let next = find(line, at + 1, line.len(), b'\t');
         let Number::Value(value) = decimal(&line[at + 1..next]) else {
             return unreadable();
         };

@@ -1,5 +1,6 @@
 // A record that is run: a line, and the lines of a piece of bytes.
 #![tactic(auto)]
+
 mod line;
 mod pieces;
 

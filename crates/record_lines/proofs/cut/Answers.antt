@@ -17,11 +17,10 @@ returns c =
     let room = c.requires.line_len.1 in
     let had = c.args.had in
     let n = c.least-n.result in
-    let much = c.least-n.ensures in (
-      subst (λ l. CutAt chunk from (take had line) end (take (had + n) l)) (sym c.copy.ensures)
-          (cut_at chunk from end c.requires.from_in_bounds found line had n whole room much),
-      (
-        cut-stops chunk from end c.requires.from_in_bounds found,
-        cut-room chunk from end c.requires.from_in_bounds found line had n whole room much,
-      ),
-    )
+    let much = c.least-n.ensures in
+    record {
+      cut_at = subst (λ l. CutAt chunk from (take had line) end (take (had + n) l)) (sym c.copy.ensures)
+          (cut_at chunk from end c.requires.from_in_bounds found line had n whole room much);
+      at_value = cut-stops chunk from end c.requires.from_in_bounds found;
+      held_le_line_room = cut-room chunk from end c.requires.from_in_bounds found line had n whole room much;
+    }
