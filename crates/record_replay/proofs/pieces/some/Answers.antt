@@ -38,29 +38,32 @@ loop-run-preserved c =
     let inv = c.loop-run.invariant in
     let one = c.one-run in
     let next = one.ensures in (
-      went-both _ _ _ _ _ _ _ _ _ _ inv.0 next.0,
-      next.1.0,
-      omega (arith, next.1, one.auto.1.1.1.1.1.0, c.if-out-run-lt-ANSWER_ROOM.false, inv.2),
+      went-both _ _ _ _ _ _ _ _ _ _ inv.0 next.went,
+      next.held_le_line_room.0,
+      omega (arith, next.held_le_line_room, one.auto.out, c.if-out-run-lt-ANSWER_ROOM.false, inv.2),
       one.auto.state ∙ inv.3,
-      one.auto.log.0 ∙ inv.4,
-      one.auto.log.1.1.0 ∙ inv.5,
-      one.auto.log.1.1.1.1.0 ∙ inv.6,
-      inl (omega (arith, inv.0.start, next.1)),
+      one.auto.log ∙ inv.4,
+      one.auto.line ∙ inv.5,
+      one.auto.out ∙ inv.6,
+      inl (omega (arith, inv.0.start, next.held_le_line_room)),
     )
 
 pub returns-after-loop-run : goal.returns-after-loop-run
 returns-after-loop-run c =
     let inv = c.loop-run.invariant in
-    (inv.0, ((inv.1, inv.2), (λ h. omega (arith, h, c.loop-run-test.false))))
+    record {
+      went = inv.0;
+      held_le_line_room = (inv.1, inv.2);
+      at_lt_at = (λ h. omega (arith, h, c.loop-run-test.false));
+    }
 
 pub returns-then-out-run-lt-ANSWER_ROOM : goal.returns-then-out-run-lt-ANSWER_ROOM
 returns-then-out-run-lt-ANSWER_ROOM c =
     let inv = c.loop-run.invariant in
     let pre = c.requires in
-    let full = c.if-out-run-lt-ANSWER_ROOM.true in (
-      inv.0,
-      (
-        (inv.1, inv.2),
-        (λ h. ⊎_elim (λ lt. lt) (λ none. absurd (omega (arith, none, full, pre.1, inv.6))) inv.7),
-      ),
-    )
+    let full = c.if-out-run-lt-ANSWER_ROOM.true in
+    record {
+      went = inv.0;
+      held_le_line_room = (inv.1, inv.2);
+      at_lt_at = (λ h. ⊎_elim (λ lt. lt) (λ none. absurd (omega (arith, none, full, pre.1, inv.6))) inv.7);
+    }
