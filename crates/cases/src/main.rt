@@ -2,6 +2,7 @@
 // calls are lent; each call's answer is a line of standard output. The file stdin says the calls and the file
 // stdout what a second program, which shares nothing with this one, answers to them (second/README.md).
 #![tactic(auto)]
+
 mod digest;
 mod lines;
 mod shown;

@@ -5,7 +5,7 @@
 -- Premises: none. No axioms.
 use Rattle.std.specs.Prelude.{ℕ, List}
 use contract.Lifetimes.{Lfts}
-use Rattle.std.specs.Borrow.{Bor}
+use Rattle.std.specs.Borrow.{MutBor}
 use Rattle.board_call.specs.declared.Call.{Call}
 use Rattle.board_hart_calls.proofs.reset.Reads as reset
 use Rattle.board_wired_calls.proofs.wire.Reads as wire
@@ -47,7 +47,7 @@ use Rattle.board.proofs.apply.Statement as apply_code
 -- function of C that makes it, may be called; of an access of a move Claim-100 says it
 unfoldable pub Claim-113 : Type 0
 Claim-113 =
-    (b g : Bor (List ℕ))
+    (b g : MutBor (List ℕ))
     → ((l : Lfts 2) → reset.Asked l (b, (g, tt)) × vsk-reset.Asked l (b, (g, tt))
     × ((i level : ℕ) → wire.Asked l (b, (g, (i, (level, tt))))
     × vsk-wire.Asked l (b, (g, (i, (level, tt)))))
@@ -64,7 +64,7 @@ Claim-113 =
     × ((h f : ℕ) → top.Asked l (b, (g, (h, (f, tt)))) × vsk-top.Asked l (b, (g, (h, (f, tt)))))
     × ((h f : ℕ) → claim.Asked l (b, (g, (h, (f, tt)))) × vsk-claim.Asked l (b, (g, (h, (f, tt)))))
     × ((h : ℕ) → signals.Asked l (b, (g, (h, tt))) × vsk-signals.Asked l (b, (g, (h, tt)))))
-    × ((l : Lfts 3) (s : Bor (List ℕ)) (c : Call) → apply.Asked l (b, (g, (s, (c, tt)))))
+    × ((l : Lfts 3) (s : MutBor (List ℕ)) (c : Call) → apply.Asked l (b, (g, (s, (c, tt)))))
 
 -- ---- the code meets its contract
 

@@ -10,7 +10,7 @@
 -- The others have none. No axioms.
 use Rattle.std.specs.Prelude.{ℕ, ◌^◌, ◌≤◌, ◌<◌, ◌≡◌, true, false, List, [], ◌≢◌, ◌↔◌, ◌⊎◌, eqb, length, get_or}
 use contract.Lifetimes.{Lfts}
-use Rattle.std.specs.Borrow.{Bor}
+use Rattle.std.specs.Borrow.{MutBor}
 use Rattle.words.specs.Bits.{has_bit}
 use Rattle.words.specs.Sets.{WordsFit}
 use Rattle.file.specs.Shape.{Shaped}
@@ -51,7 +51,7 @@ use Rattle.board.proofs.apply.Reads as apply
 -- what the calls on the wired controller give, for any numbers and any blocks, is the outcome of the call
 unfoldable pub Claim-80 : Type 0
 Claim-80 =
-    (l : Lfts 2) (b b' g g' : Bor (List ℕ)) (r : Answer)
+    (l : Lfts 2) (b b' g g' : MutBor (List ℕ)) (r : Answer)
     → ((i level : ℕ) → wire.Learnt l (b, (g, (i, (level, tt)))) r (b', (g', (i, (level, tt))))
     → Does (Wire i level) b.now g.now r b'.now g'.now)
     × ((d a : ℕ) → domain-read.Learnt l (b, (g, (d, (a, tt)))) r (b', (g', (d, (a, tt))))
@@ -63,7 +63,7 @@ Claim-80 =
 -- [01 C2 C3]
 unfoldable pub Claim-81 : Type 0
 Claim-81 =
-    (l : Lfts 2) (b b' g g' : Bor (List ℕ)) (r : Answer) (h f : ℕ)
+    (l : Lfts 2) (b b' g g' : MutBor (List ℕ)) (r : Answer) (h f : ℕ)
     → ((a : ℕ) → page-read.Learnt l (b, (g, (h, (f, (a, tt))))) r (b', (g', (h, (f, (a, tt)))))
     → Does (PageRead h f a) b.now g.now r b'.now g'.now)
     × ((a v : ℕ)
@@ -80,7 +80,7 @@ Claim-81 =
 -- what reset and the call on a hart's signals give, for any blocks and any hart, is the outcome of the call
 unfoldable pub Claim-82 : Type 0
 Claim-82 =
-    (l : Lfts 2) (b b' g g' : Bor (List ℕ)) (r : Answer)
+    (l : Lfts 2) (b b' g g' : MutBor (List ℕ)) (r : Answer)
     → (reset.Learnt l (b, (g, tt)) r (b', (g', tt))
     → Does Reset b.now g.now r b'.now g'.now)
     × ((h : ℕ) → signals.Learnt l (b, (g, (h, tt))) r (b', (g', (h, tt)))
@@ -90,7 +90,7 @@ Claim-82 =
 -- [01 C1]
 unfoldable pub Claim-90 : Type 0
 Claim-90 =
-    (l : Lfts 3) (b b' g g' s s' : Bor (List ℕ)) (c : Call) (r : Answer)
+    (l : Lfts 3) (b b' g g' s s' : MutBor (List ℕ)) (c : Call) (r : Answer)
     → apply.Learnt l (b, (g, (s, (c, tt)))) r (b', (g', (s', (c, tt))))
     → Gives (outcome c b.now g.now s.now) r b'.now g'.now s'.now
 

@@ -7,7 +7,7 @@
 --   OnlyFile k b b'   b' is b but for file number k
 use Rattle.std.specs.Prelude.{ℕ, ◌≡◌, true, List, ◌≢◌}
 use contract.Lifetimes.{Lfts}
-use Rattle.std.specs.Borrow.{Bor}
+use Rattle.std.specs.Borrow.{MutBor}
 use Rattle.files.specs.Files.{file_number, the_file}
 use Rattle.board_block.specs.Block.{Board, board_sound}
 use Rattle.board_call.specs.declared.Call.{Call}
@@ -88,7 +88,7 @@ Claim-92 =
 -- [01 B16 C1 C17 X1 X4]
 unfoldable pub Claim-93 : Type 0
 Claim-93 =
-    (l : Lfts 2) (b b' g g' : Bor (List ℕ)) (r : VskAnswer)
+    (l : Lfts 2) (b b' g g' : MutBor (List ℕ)) (r : VskAnswer)
     → (vsk-reset.Learnt l (b, (g, tt)) r (b', (g', tt))
     → Tells Reset b.now g.now r b'.now g'.now)
     × ((i level : ℕ) → vsk-wire.Learnt l (b, (g, (i, (level, tt)))) r (b', (g', (i, (level, tt))))

@@ -9,7 +9,7 @@
 -- No axioms.
 use Rattle.std.specs.Prelude.{ℕ, ◌≡◌, Bool, List}
 use contract.Lifetimes.{Lfts}
-use Rattle.std.specs.Borrow.{Bor}
+use Rattle.std.specs.Borrow.{Bor, MutBor}
 use Rattle.file_select.specs.declared.Register.{Register}
 use Rattle.file_select.specs.Select.{select_legal, register_of}
 use Rattle.file_select.specs.Deliveries.{delivery_legal}
@@ -102,5 +102,5 @@ Claim-13 = (l : Lfts 1) (b : Bor (List ℕ)) (at : ℕ) (r : File) → load.Lear
 -- `store` leaves the block with a file's words at a place
 unfoldable pub Claim-14 : Type 0
 Claim-14 =
-    (l : Lfts 1) (b b' : Bor (List ℕ)) (at : ℕ) (f : File)
+    (l : Lfts 1) (b b' : MutBor (List ℕ)) (at : ℕ) (f : File)
     → store.Learnt l (b, (at, (f, tt))) tt (b', (at, (f, tt))) → b'.now ≡ put_file b.now at f

@@ -15,7 +15,7 @@
 -- what the contract ensures. No axioms.
 use Rattle.std.specs.Prelude.{ℕ, ◌+◌, ◌-◌, ◌*◌, ◌/◌, ◌%◌, ◌^◌, ◌≤◌, ◌<◌, ◌≡◌, Bool, true, cond, not, ◌&&◌, ◌||◌, List, [], ◌≢◌, ◌↔◌, eqb, leb, get_or, set}
 use contract.Lifetimes.{Lfts}
-use Rattle.std.specs.Borrow.{Bor}
+use Rattle.std.specs.Borrow.{MutBor}
 use Rattle.words.specs.Bits.{has_bit}
 use Rattle.words.specs.Sets.{member}
 use Rattle.file_select.specs.Halves.{doubleword}
@@ -44,7 +44,7 @@ use Rattle.monitor.proofs.vsk_move.Reads as vsk-move
 -- [01 C4 C17 V1 V2 V3 V4 X2]
 unfoldable pub Claim-100 : Type 0
 Claim-100 =
-    (l : Lfts 3) (b b' g g' s s' : Bor (List ℕ)) (oh of nh nf n : ℕ)
+    (l : Lfts 3) (b b' g g' s s' : MutBor (List ℕ)) (oh of nh nf n : ℕ)
     → let o = outcome (Move oh of nh nf n) b.now g.now s.now in
     make-access.Asked l (b, (g, (s, (oh, (of, (nh, (nf, (n, tt))))))))
     × ((r : Answer)

@@ -72,6 +72,8 @@ pub spelled-2 : (ts : List (List ℕ)) (ns : List ℕ) → Spelled ts ns →
     (are_numbers ts ≡ true) × (numbers_of ts ≡ ns)
 unfolding are_numbers numbers_of
 spelled-2 [] [] s = (refl, refl)
+spelled-2 [] (n ∷ ns) s = elim s [ ]
+spelled-2 (t ∷ ts) [] s = elim s [ ]
 spelled-2 (t ∷ ts) (n ∷ ns) s =
     let more = spelled-2 ts ns s.1 in (
       and_both (is_number t) (are_numbers ts) (decimal-number t n s.0) more.0,

@@ -33,6 +33,8 @@ use Rattle.claims_record.proofs.Written.{written-1}
 spelled-small : (ts : List (List ℕ)) (ns : List ℕ) → Spelled ts ns → (i : ℕ) → i < length ns →
     get_or ns i 0 < 2 ^ 64
 spelled-small [] [] s i h = absurd (omega (arith, h))
+spelled-small [] (n ∷ ns) s i h = elim s [ ]
+spelled-small (t ∷ ts) [] s i h = elim s [ ]
 spelled-small (t ∷ ts) (n ∷ ns) s zero h = s.0.small
 spelled-small (t ∷ ts) (n ∷ ns) s (suc i) h = spelled-small ts ns s.1 i (omega (arith, h))
 

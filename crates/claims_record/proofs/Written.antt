@@ -63,6 +63,8 @@ decimal-lacks t n d i h e = absurd (omega (arith, d.digits i h, e))
 
 spelled-lack : (ts : List (List ℕ)) (ns : List ℕ) → Spelled ts ns → AllLack tab ts
 spelled-lack [] [] s = tt
+spelled-lack [] (n ∷ ns) s = elim s [ ]
+spelled-lack (t ∷ ts) [] s = elim s [ ]
 spelled-lack (t ∷ ts) (n ∷ ns) s = (decimal-lacks t n s.0, spelled-lack ts ns s.1)
 
 abbrev lacks_tab : List ℕ → Bool

@@ -8,7 +8,7 @@
 use Rattle.std.specs.Prelude.{ℕ, suc, ◌+◌, ◌-◌, ◌^◌, ◌≤◌, ◌<◌, ◌≡◌, ◌⊎◌, ◌↔◌, List, [], ◌∷◌, ◌++◌, map, length, take, replicate}
 use Rattle.std.proofs.Math.Seq.{slice}
 use contract.Lifetimes.{Lfts}
-use Rattle.std.specs.Borrow.{Bor}
+use Rattle.std.specs.Borrow.{Bor, MutBor}
 use Rattle.sizes.specs.Sizes.{block_size, log_size}
 use Rattle.record_numbers.specs.Decimal.{text_of}
 use Rattle.record_lines.specs.Lines.{lines_of}
@@ -85,7 +85,7 @@ Claim-200 =
 -- the line so far and the number of lines are those of the run, and the answers are what it prints
 unfoldable pub Claim-201 : Type 0
 Claim-201 =
-    (l : Lfts 6) (b b' g g' s s' n n' c c' o o' : Bor (List ℕ)) (f r : Run)
+    (l : Lfts 6) (b b' g g' s s' n n' : MutBor (List ℕ)) (c c' : Bor (List ℕ)) (o o' : MutBor (List ℕ)) (f r : Run)
     → (length g.now ≡ 63 → length n.now ≡ 201 → f.held ≤ 201 → 1408 ≤ length o.now →
     f.at ≤ length c.now
     → f.number + (length c.now - f.at) < 2 ^ 64

@@ -23,7 +23,7 @@ pub claim-179 : Claim-179
 unfolding Claim-179
 claim-179 M = (
   (set-idelivery-code.met, set-iforce-code.met, set-ithreshold-code.met),
-  λ {𝓤 = 𝓤} 𝓛 m f l r r' v.
+  λ 𝓤 𝓛 m f l r r' v.
       let d = r.now in
       let nothing = id⊢ 𝓤 (emp 𝓤) in (
         (

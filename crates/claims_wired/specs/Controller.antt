@@ -7,7 +7,7 @@
 -- with wires 1 to 63 and registers whose numbers are in their ranges (`Within`). No axioms.
 use Rattle.std.specs.Prelude.{ℕ, ◌≤◌, ◌<◌, ◌≡◌, Bool, true, false, List, [], ◌++◌, ◌⊎◌, ◌≢◌, length, get_or}
 use contract.Lifetimes.{Lfts}
-use Rattle.std.specs.Borrow.{Bor}
+use Rattle.std.specs.Borrow.{MutBor}
 use Rattle.file_message.specs.Message.{file_in}
 use Rattle.domain_region.specs.Region.{Within}
 use Rattle.domain_region.specs.declared.Word.{Word}
@@ -30,13 +30,13 @@ LeftBy o w g g' n = (w ≡ o.wired) × (g' ≡ logged g o.messages) × (n ≡ le
 -- what each function of the wired controller answers, and leaves of its words and of the log
 unfoldable pub Claim-76 : Type 0
 Claim-76 =
-    ((l : Lfts 2) (b b' g g' : Bor (List ℕ)) (i n : ℕ) (level : Bool)
+    ((l : Lfts 2) (b b' g g' : MutBor (List ℕ)) (i n : ℕ) (level : Bool)
     → set-wire.Learnt l (b, (g, (i, (level, tt)))) n (b', (g', (i, (level, tt))))
     → LeftBy (wire_call (wired_of b.now) i level) (wired_of b'.now) g.now g'.now n)
-    × ((l : Lfts 1) (b b' : Bor (List ℕ)) (c : Bool) (r : Word) (v : ℕ)
+    × ((l : Lfts 1) (b b' : MutBor (List ℕ)) (c : Bool) (r : Word) (v : ℕ)
     → read.Learnt l (b, (c, (r, tt))) v (b', (c, (r, tt)))
     → (v ≡ read_in (wired_of b.now) c r) × (wired_of b'.now ≡ (read_call (wired_of b.now) c r).wired))
-    × ((l : Lfts 2) (b b' g g' : Bor (List ℕ)) (c : Bool) (r : Word) (v n : ℕ)
+    × ((l : Lfts 2) (b b' g g' : MutBor (List ℕ)) (c : Bool) (r : Word) (v n : ℕ)
     → write.Learnt l (b, (g, (c, (r, (v, tt))))) n (b', (g', (c, (r, (v, tt)))))
     → LeftBy (write_call (wired_of b.now) c r v) (wired_of b'.now) g.now g'.now n)
 

@@ -16,7 +16,7 @@ use prog.Routine.{Routine}
 use types.Logic.{Logic}
 use contract.Lifetimes.{Lfts}
 use contract.Monad.{Fun, fact}
-use Rattle.std.specs.Borrow.{Bor}
+use Rattle.std.specs.Borrow.{MutBor}
 use Rattle.domain_delivery.specs.declared.Delivery.{Delivery}
 use Rattle.domain_record.specs.contracts.set_idelivery.{clauses as set-idelivery}
 use Rattle.domain_record.specs.contracts.set_iforce.{clauses as set-iforce}
@@ -37,7 +37,7 @@ Claim-179 =
     (M : Type 1)
     → (set-idelivery-code.statement M × set-iforce-code.statement M × set-ithreshold-code.statement M)
     × ((𝓤 : Ura M) (𝓛 : Logic 𝓤) (m : Memory → SProp 𝓤) (f : Routine → Fun 𝓤) (l : Lfts 1)
-    (r r' : Bor Delivery) (v : ℕ)
+    (r r' : MutBor Delivery) (v : ℕ)
     → let d = r.now in
     let d' = r'.now in
     let first = set-idelivery 𝓛 m f l (r, (v, tt)) in

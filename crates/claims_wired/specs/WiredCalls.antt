@@ -7,7 +7,7 @@
 -- 360 words. No axioms.
 use Rattle.std.specs.Prelude.{ℕ, ◌≡◌, Bool, List, ◌≢◌, length, take}
 use contract.Lifetimes.{Lfts}
-use Rattle.std.specs.Borrow.{Bor}
+use Rattle.std.specs.Borrow.{Bor, MutBor}
 use Rattle.domain_region.specs.declared.Word.{Word}
 use Rattle.domain_region.specs.declared.Word.TheVariants.{Sourcecfg}
 use Rattle.domain_region.specs.Region.{word_at}
@@ -39,7 +39,7 @@ Claim-60 = (a : ℕ) (r : Word) → word-at.Learnt tt (a, tt) r (a, tt) → r �
 -- `read` of a domain answers what a register reads, and leaves the domain after that read
 unfoldable pub Claim-61 : Type 0
 Claim-61 =
-    (l : Lfts 1) (b b' : Bor (List ℕ)) (ws : List ℕ) (w : Word) (r : ℕ)
+    (l : Lfts 1) (b b' : MutBor (List ℕ)) (ws : List ℕ) (w : Word) (r : ℕ)
     → read.Learnt l (b, (ws, (w, tt))) r (b', (ws, (w, tt)))
     → (r ≡ register_value (domain_of b.now) ws w) × (domain_of b'.now ≡ claimed_by (domain_of b.now) w)
 
@@ -47,7 +47,7 @@ Claim-61 =
 -- here, for it is written by the function of Claim-69
 unfoldable pub Claim-62 : Type 0
 Claim-62 =
-    (l : Lfts 1) (b b' : Bor (List ℕ)) (c : Bool) (ws : List ℕ) (w : Word) (v : ℕ)
+    (l : Lfts 1) (b b' : MutBor (List ℕ)) (c : Bool) (ws : List ℕ) (w : Word) (v : ℕ)
     → write.Learnt l (b, (c, (ws, (w, (v, tt))))) tt (b', (c, (ws, (w, (v, tt)))))
     → domain_of b'.now ≡ register_written c (domain_of b.now) ws w v
 
@@ -60,7 +60,7 @@ Claim-63 =
 -- `send` answers how many messages a domain sent, and leaves the domain and the log after them
 unfoldable pub Claim-64 : Type 0
 Claim-64 =
-    (l : Lfts 2) (b b' g g' : Bor (List ℕ)) (c : Bool) (r : ℕ)
+    (l : Lfts 2) (b b' g g' : MutBor (List ℕ)) (c : Bool) (r : ℕ)
     → send.Learnt l (b, (c, (g, tt))) r (b', (c, (g', tt)))
     → (domain_of b'.now ≡ (sent c (domain_of b.now)).domain)
     × (g'.now ≡ logged g.now (sent c (domain_of b.now)).messages)
@@ -70,7 +70,7 @@ Claim-64 =
 -- [01 B17]
 unfoldable pub Claim-65 : Type 0
 Claim-65 =
-    (l : Lfts 2) (f f' g : Bor (List ℕ)) (n : ℕ)
+    (l : Lfts 2) (f f' : MutBor (List ℕ)) (g : Bor (List ℕ)) (n : ℕ)
     → deliver.Learnt l (f, (g, (n, tt))) tt (f', (g, (n, tt)))
     → (files_of f'.now ≡ all_reached (files_of f.now) (take n g.now))
     × (length f'.now ≡ 360 → f'.now ≡ words_of (all_reached (files_of f.now) (take n g.now)))
@@ -87,14 +87,14 @@ Claim-67 = (l m : List ℕ) → length l ≡ 290 → length m ≡ 290 → wired_
 -- `set_wire` leaves the controller after a wire was set; nothing is sent yet
 unfoldable pub Claim-68 : Type 0
 Claim-68 =
-    (l : Lfts 1) (b b' : Bor (List ℕ)) (i : ℕ) (level : Bool)
+    (l : Lfts 1) (b b' : MutBor (List ℕ)) (i : ℕ) (level : Bool)
     → set-wire.Learnt l (b, (i, (level, tt))) tt (b', (i, (level, tt)))
     → wired_of b'.now ≡ wire_set (wired_of b.now) i level
 
 -- `write` of the wired registers leaves the controller after a sourcecfg was written; nothing is sent yet
 unfoldable pub Claim-69 : Type 0
 Claim-69 =
-    (l : Lfts 1) (b b' : Bor (List ℕ)) (c : Bool) (i v : ℕ)
+    (l : Lfts 1) (b b' : MutBor (List ℕ)) (c : Bool) (i v : ℕ)
     → wired-write.Learnt l (b, (c, (Sourcecfg i, (v, tt)))) tt (b', (c, (Sourcecfg i, (v, tt))))
     → wired_of b'.now ≡ source_written (wired_of b.now) c i v
 
@@ -102,7 +102,7 @@ Claim-69 =
 -- one that is no sourcecfg written; nothing is sent yet
 unfoldable pub Claim-70 : Type 0
 Claim-70 =
-    (l : Lfts 1) (b b' : Bor (List ℕ)) (c : Bool) (w : Word) (v r : ℕ)
+    (l : Lfts 1) (b b' : MutBor (List ℕ)) (c : Bool) (w : Word) (v r : ℕ)
     → (wired-read.Learnt l (b, (c, (w, tt))) r (b', (c, (w, tt)))
     → (r ≡ read_in (wired_of b.now) c w) × (wired_of b'.now ≡ claimed_in (wired_of b.now) c w))
     × (((i : ℕ) → w ≢ Sourcecfg i) → wired-write.Learnt l (b, (c, (w, (v, tt)))) tt (b', (c, (w, (v, tt))))
@@ -111,7 +111,7 @@ Claim-70 =
 -- `send_genmsi` leaves the log with the message of a write to genmsi, and answers how many
 unfoldable pub Claim-71 : Type 0
 Claim-71 =
-    (l : Lfts 2) (b g g' : Bor (List ℕ)) (c : Bool) (v r : ℕ)
+    (l : Lfts 2) (b : Bor (List ℕ)) (g g' : MutBor (List ℕ)) (c : Bool) (v r : ℕ)
     → send-genmsi.Learnt l (b, (c, (v, (g, tt)))) r (b, (c, (v, (g', tt))))
     → (g'.now ≡ logged g.now (genmsi_sent c (domain_of b.now) v))
     × (r ≡ length (genmsi_sent c (domain_of b.now) v))

@@ -1,6 +1,7 @@
 // A recorded shift, run from reset: a record on standard input, an answer for each of its lines on standard
 // output (docs/RECORD.md). A fault is told on standard error. No arguments are read.
 #![tactic(auto)]
+
 mod turns;
 
 ghost use Rattle.std.specs.Prelude.{◌+◌, ◌≤◌, ◌<◌, ◌^◌, ◌≡◌, map, length};
