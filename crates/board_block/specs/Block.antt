@@ -1,5 +1,5 @@
 -- The board, and the block of 650 words that holds it. 01, "The board", "State rules". Assumes nothing.
---   Board             files: the 20 message files; wired: the wired controller
+--   Board              files: the 20 message files; wired: the wired controller
 --   with_files b fs    b with fs as its message files; with_wired b w: with w as its wired controller
 --   board_of l         the board whose words are l: 360 of the files, then 290 of the wired controller
 --   domain_words d     the words of a domain, in their order

@@ -1,7 +1,7 @@
 -- The board as a reset leaves it: files 0 and 1 of every hart have delivery 0x40000000, no wire is high, and
 -- all other numbers are 0. 01, "State rules". Assumes nothing.
 --   start_file k          file number k
---   start_files_from k n   n files from number k on
+--   start_files_from k n  n files from number k on
 --   start_domain          either domain
 --   start_board           the board
 use Rattle.std.specs.Prelude.{ℕ, zero, suc, cond, List, [], ◌∷◌, replicate}

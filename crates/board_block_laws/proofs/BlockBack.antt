@@ -51,7 +51,8 @@ module _ (l : List ℕ) (long : length l ≡ block_size) where
       }
 
 -- two blocks with the same board are the same
-pub blocks-same : (l m : List ℕ) → length l ≡ block_size → length m ≡ block_size → board_of l ≡ board_of m → l ≡ m
+pub blocks-same : (l m : List ℕ) → length l ≡ block_size → length m ≡ block_size → board_of l ≡ board_of m → l
+    ≡ m
 blocks-same l m hl hm e = sym (block_back l hl) ∙ ap block_of e ∙ block_back m hm
 
 -- ---- from the board to the block and back

@@ -41,7 +41,8 @@ start-files-sound = refl
 start-wired-sound : wired_sound start_board.wired ≡ true
 unfolding start_board start_domain wired_sound domain_sound domaincfg_range genmsi_range structure_range
     source_zero_rule genmsi_rule source_rule delegated_rule source_sound source_steady sent_rule candidate
-    mode_range target_range inactive_rule level_rule is_delegated kept_domaincfg structure_at source_at domaincfg_of
+    mode_range target_range inactive_rule level_rule is_delegated kept_domaincfg structure_at source_at
+    domaincfg_of
     is_enabled by_messages genmsi_of delivery_sound kept_genmsi is_active is_level kept_mode source_word every
     member has_bit bit_of hart_of number_of field_of packed
 start-wired-sound = refl

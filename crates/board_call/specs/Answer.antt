@@ -2,7 +2,7 @@
 --   refusal_number r   the refusal, 0 if it is done
 --   answer_value r     the value, 0 if it is refused
 --   answer_count r     the number of messages, 0 if it is refused
---   Refuses r n       r is the refusal n, with 0 and 0; with the number 0 it is done, and no test fails
+--   Refuses r n        r is the refusal n, with 0 and 0; with the number 0 it is done, and no test fails
 use Rattle.std.specs.Prelude.{ℕ, ◌≡◌}
 use Rattle.board_call.specs.declared.Answer.{Answer}
 use Rattle.board_call.specs.declared.Answer.TheVariants.{Done, StateLength, LogLength, BrokenRule}

@@ -2,11 +2,11 @@
 -- board; the standard, chapters 3 and 4. Assumes nothing.
 --   Changed               the board, the value answered, the messages sent at once, which genmsi's are, and
 --                         the saved numbers of a move
---   kind_of k              how a register is accessed: read (0), written (1), bits set (2), bits cleared (3)
---   signal_at b h f        file f of hart h signals: by itself with delivery 1; by its domain, the machine
+--   kind_of k             how a register is accessed: read (0), written (1), bits set (2), bits cleared (3)
+--   signal_at b h f       file f of hart h signals: by itself with delivery 1; by its domain, the machine
 --                         domain for file 0 and the child for file 1, with delivery 0x40000000
---   signals_to b h n       the lowest n bits of the signals of hart h: bit f for file f
---   on_wired, on_file       what a call does to the wired controller, or to one file, and answers
+--   signals_to b h n      the lowest n bits of the signals of hart h: bit f for file f
+--   on_wired, on_file     what a call does to the wired controller, or to one file, and answers
 --   change c b s          what the call c changes in b and in the saved numbers s, which only a move does
 -- Only what refusal_of accepts has a meaning: a hart, file or domain that is there, a legal select number.
 use Rattle.std.specs.Prelude.{ℕ, zero, suc, Bool, cond, ◌&&◌, ◌||◌, List, [], eqb, ltb}

@@ -1,9 +1,9 @@
 -- One access of a move, made of the accesses to a file's registers and to a target that the other calls make.
 -- 01, "The move, with its premises"; the standard 6.1.2. Assumes nothing.
---   register_on b h f k s v     an access of kind k to register s of file f of hart h: its answer, and the
+--   register_on b h f k s v    an access of kind k to register s of file f of hart h: its answer, and the
 --                              file
---   with_one b h f x            b with x as file f of hart h
---   retargeted_in .. w i        w after target[i] of the child, if it names old, was written to name new, with
+--   with_one b h f x           b with x as file f of hart h
+--   retargeted_in .. w i       w after target[i] of the child, if it names old, was written to name new, with
 --                              the same identity
 --   Acted                      the board and the saved numbers
 --   acted a .. b s             b and the saved numbers s after the act a

@@ -1,10 +1,10 @@
 -- Which numbers name something. 01, "The board", "Calls and their refusals". Assumes nothing.
---   is_wire w level       there is such a wire, 1 to 63, and such a level, 0 or 1
---   is_file h f           there is such a hart, 0 to 3, and such a file, 0 to 4
---   is_guest_file h f      there is such a hart, and f is a guest's file, 2 to 4
---   is_move .. n          old and new, each a hart and a file, are two different guest files, and there is an
+--   is_wire w level      there is such a wire, 1 to 63, and such a level, 0 or 1
+--   is_file h f          there is such a hart, 0 to 3, and such a file, 0 to 4
+--   is_guest_file h f    there is such a hart, and f is a guest's file, 2 to 4
+--   is_move .. n         old and new, each a hart and a file, are two different guest files, and there is an
 --                        access n, 1 to 89
---   is_page_address a      a is a multiple of 4 in a page of 4,096 bytes
+--   is_page_address a    a is a multiple of 4 in a page of 4,096 bytes
 use Rattle.std.specs.Prelude.{ℕ, ◌%◌, Bool, not, ◌&&◌, eqb, leb, ltb}
 use Rattle.sizes.specs.Sizes.{hart_count, hart_files, first_guest, source_count}
 use Rattle.board_move_steps.specs.Steps.{accesses}

@@ -79,7 +79,8 @@ module _ (l : List ℕ) (long : length l ≡ block_size) (h f : ℕ) (x : File) 
       → board_of (files_put l ys) ≡ only_file (board_of l) (file_number h f) x
   file-stored ys kept e =
       put-files l ys long (kept ∙ files-long l long)
-      ∙ ap (with_files (board_of l)) (e ∙ ap₂ (λ (fs : List File) (k : ℕ). with_file fs k x) (files-part l long)
+      ∙ ap (with_files (board_of l))
+      (e ∙ ap₂ (λ (fs : List File) (k : ℕ). with_file fs k x) (files-part l long)
       (number_read h f))
 
 -- ---- what each call tests

@@ -55,7 +55,8 @@ module _ (c : Call) (l g : List ℕ) where
 
 module _ (c : Call) (l g : List ℕ) where
   -- r is what the test of the blocks answered
-  pub gives-blocks : (r : Answer) → Refuses r (block_refusal (tests_rules c) l g) → NotDone r → Does c l g r l g
+  pub gives-blocks : (r : Answer) → Refuses r (block_refusal (tests_rules c) l g) → NotDone r
+      → Does c l g r l g
   gives-blocks r e d =
       gives-number c l g (refusal_number r) (refused-blocks (row_of c).tests l g (refusal_number r) e.number
       (refused-case r d))

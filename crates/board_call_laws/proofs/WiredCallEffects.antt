@@ -81,7 +81,8 @@ module _ (l g : List ℕ) (z : block_refusal true l g ≡ 0) where
     domain_read-done l' v long none value board =
         tests-done (tests-domain_read d a) l g z (lt-ltb d 2 n) b refl _ _
         (λ s. step-domain_read (board_of l) d a s
-        ∙ ap (λ (ms : List ℕ). wired_sent (board_of l) (read_call (board_of l).wired (eqb d 1) (word_at a)).wired
+        ∙ ap (λ (ms : List ℕ). wired_sent (board_of l)
+        (read_call (board_of l).wired (eqb d 1) (word_at a)).wired
         (read_in (board_of l).wired (eqb d 1) (word_at a)) ms s) none) v value l' long board
 
     pub domain_write-done : (v : ℕ) (l' g' : List ℕ) (m : ℕ) → length l' ≡ block_size

@@ -54,10 +54,12 @@ module _ (n : ℕ) (g : Bool) (f : File) (kind : Access) (v : ℕ) where
     abbrev eie : ℕ
     eie = eie0 + 2 * k
 
-    eip-access : (r : Register) → register_of n eip ≡ r → accessed n g f kind eip v ≡ accessed_at n g f kind r v
+    eip-access : (r : Register) → register_of n eip ≡ r → accessed n g f kind eip v
+        ≡ accessed_at n g f kind r v
     eip-access r = access eip r (even-legal eip (omega arith) (omega arith) (omega arith))
 
-    eie-access : (r : Register) → register_of n eie ≡ r → accessed n g f kind eie v ≡ accessed_at n g f kind r v
+    eie-access : (r : Register) → register_of n eie ≡ r → accessed n g f kind eie v
+        ≡ accessed_at n g f kind r v
     eie-access r = access eie r (even-legal eie (omega arith) (omega arith) (omega arith))
 
     pub pending-there : k ≤ n / 64 → accessed n g f kind eip v ≡ accessed_at n g f kind (Pending k) v

@@ -4,7 +4,7 @@
 --   Sized n             n is one less than a multiple of 64, and the sets of a file have room for n
 --   Within n f          no identity past n is pending or enabled in f
 --   stays n i           identity i is kept: it is one of 1 to n
---   kept_of n ws k v i   i is in the set ws after v was written to its word k, of 64 bits
+--   kept_of n ws k v i  i is in the set ws after v was written to its word k, of 64 bits
 --   Clear n f i         i is one of 1 to n, or it is neither pending nor enabled in f
 use Prim.Native.Nat.{ℕ, ◌+◌, ◌*◌, ◌/◌, ◌%◌, ◌≤◌, ◌<◌}
 use mathlib.Core.Path.{◌≡◌, refl, sym, ap, ◌∙◌}

@@ -1,14 +1,15 @@
 -- The old and the new file and the saved numbers in the middle of a move, beside the old file of a board with
 -- no move. No contract and no claim cites this file. 01, "The move, with its premises". Assumes nothing.
 --   Three              the old file, the new file, and the saved numbers
---   acted_on n a x      x after the act a, where the files have n identities; a target concerns no file
+--   acted_on n a x     x after the act a, where the files have n identities; a target concerns no file
 --   Identity n i       i is one of the identities of a file that has n
 --   Related n m x c    x after m accesses, where c is the old file of the board with no move and all files
 --                      have n identities; in four parts: Untouched, Shared, Noted, Restored
 -- Up to access 2 the old file is c; until the new file is cleared, all that is pending is in the old one;
 -- from then on it is in the old or in the new, since senders change over; what is read of the old file is
 -- saved; and a word that was set in the new file has all that is pending.
-use Rattle.std.specs.Prelude.{ℕ, ◌+◌, ◌/◌, ◌%◌, ◌≤◌, ◌<◌, ◌≡◌, true, false, cond, ◌||◌, List, length, get_or, set}
+use Rattle.std.specs.Prelude.{ℕ, ◌+◌, ◌/◌, ◌%◌, ◌≤◌, ◌<◌, ◌≡◌, true, false, cond, ◌||◌, List, length, get_or}
+use Rattle.std.specs.Prelude.{set}
 use Rattle.words.specs.Bits.{has_bit}
 use Rattle.words.specs.Sets.{member}
 use Rattle.file.specs.declared.File.{File}

@@ -101,7 +101,8 @@ answered-lt : (g : Bool) (f : File) (k : Access) (s v : ℕ) → Shaped f
 unfolding accessed
 answered-lt g f k s v shaped = tested (select_legal s) (λ t. rw t (at k)) (λ u. rw u (omega arith))
   where
-    at : (k : Access) → reply_value (accessed_at identities g f k (register_of identities s) v).answer < 2 ^ 64
+    at : (k : Access) → reply_value
+        (accessed_at identities g f k (register_of identities s) v).answer < 2 ^ 64
     at Read = unfold accessed_at in held-lt f (register_of identities s) shaped
     at Write = unfold accessed_at in omega arith
     at Set = unfold accessed_at in held-lt f (register_of identities s) shaped
@@ -128,7 +129,8 @@ module _ (b : Board) (fit : Fit b) where
       (accessed-rules identities (is_guest n) x v (omega arith) small (fit.files n below) k s
       (fit-rules b fit n below))
 
-  module _ (oh of nh nf : ℕ) (old : is_guest_file oh of ≡ true) (new : is_guest_file nh nf ≡ true) (s : List ℕ)
+  module _ (oh of nh nf : ℕ) (old : is_guest_file oh of ≡ true) (new : is_guest_file nh nf ≡ true)
+      (s : List ℕ)
       (small : SavedFit s) where
     pub acted-fit : (a : Act) → act_within a ≡ true → Fit (acted a oh of nh nf b s).board
     unfolding acted act_within

@@ -1,7 +1,7 @@
 -- The file that a target of the child domain names, and the target with another file. 01, "The wired
 -- controller", "The move, with its premises"; the standard 4.5.16, 4.9.1. Assumes nothing.
 --   names_file t h f    the target t names file f of hart h
---   renamed t h f      t with file f of hart h in the place of its own, the same identity
+--   renamed t h f       t with file f of hart h in the place of its own, the same identity
 -- The child sends to file 1 + guest index, so its targets name files 1 to 4.
 use Rattle.std.specs.Prelude.{ℕ, ◌+◌, ◌-◌, Bool, ◌&&◌, eqb}
 use Rattle.source_target.specs.Target.{hart_at, guest_at}

@@ -9,8 +9,8 @@
 --   Zero c r            0 is written to register r, of new if c is true and else of old
 --   Target i            the target of source i, if it names old, is rewritten to name new
 --   Put k r p           the saved number at place p goes to register r of new, written or set as k says
---   act_of n             what access n does, for n of 1 to 89
---   act_within a         the source that a names is one of 1 to 63, its place one of the saved numbers'
+--   act_of n            what access n does, for n of 1 to 89
+--   act_within a        the source that a names is one of 1 to 63, its place one of the saved numbers'
 use Rattle.std.specs.Prelude.{ℕ, ◌+◌, ◌-◌, ◌*◌, Bool, true, false, cond, ◌&&◌, eqb, leb, ltb}
 use Rattle.sizes.specs.Sizes.{saved_size, source_count}
 use Rattle.file_select.specs.Select.{eidelivery, eithreshold, eip0, eie0}

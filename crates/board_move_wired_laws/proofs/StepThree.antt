@@ -68,7 +68,8 @@ written-targets : (d : Domain) (i v : ℕ)
     target_written true d i v ≡ with_targets d (set d.target i t)
 unfolding target_written
 written-targets d i v =
-    ap (with_source d i) (retargeted-is (source_at d i) true (by_messages d) v) ∙ sym (with_source-target d i _)
+    ap (with_source d i) (retargeted-is (source_at d i) true (by_messages d) v) ∙ sym
+    (with_source-target d i _)
 
 -- a write to a target of the child
 written-only : (w : Wired) (i v : ℕ) → TargetsOnly (written_in w true (Target i) v) w
@@ -202,7 +203,8 @@ module _ (oh of nh nf : ℕ) where
             now-new = own ∙ ap (λ (t : ℕ). renamed t nh nf) e;
           }
 
-      moved-miss : Same oh of nh nf n i (target_in w i) (target_in u i) → names_file (target_in w i) oh of ≡ false
+      moved-miss : Same oh of nh nf n i (target_in w i) (target_in u i) → names_file (target_in w i) oh of
+          ≡ false
           → Same oh of nh nf (suc n) i (now i) (target_in u i)
       moved-miss e f =
           let own = ap (λ (x : Wired). target_in x i) (next-miss oh of nh nf w i f) in

@@ -35,7 +35,8 @@ module _ (t h f : ℕ) where
   number-names p q = and_both (eqb (hart_of t) h) (eqb (guest_of t + 1) f) (eq-eqb _ _ p) (eq-eqb _ _ q)
 
   -- file numbers 5 h + f differ for different pairs, as f is below 5
-  pub names-other : f < 5 → names_file t h f ≡ false → file_number (hart_of t) (guest_of t + 1) ≢ file_number h f
+  pub names-other : f < 5 → names_file t h f ≡ false → file_number (hart_of t)
+      (guest_of t + 1) ≢ file_number h f
   unfolding file_number
   names-other hf n e =
       let small = guest_of-lt t in
@@ -91,7 +92,8 @@ module _ (c : Bool) (t : ℕ) where
   pub message-named : named_by (message_of c t) ≡ file_number (hart_of t) (file_of c t)
   unfolding named_by message_of
   message-named =
-      ap₂ file_number (hart_in-log_word (hart_of t) (file_of c t) (number_of t) (hart_of-lt t) file-lt (number_of-lt
+      ap₂ file_number (hart_in-log_word (hart_of t) (file_of c t) (number_of t) (hart_of-lt t) file-lt
+      (number_of-lt
       t))
       (file_in-log_word (hart_of t) (file_of c t) (number_of t) (hart_of-lt t) file-lt (number_of-lt t))
 

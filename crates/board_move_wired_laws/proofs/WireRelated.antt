@@ -11,7 +11,8 @@ use Rattle.words.specs.Sets.{member, put}
 use Rattle.words.proofs.TestsLaws.{tested, and_first, and_second}
 use Rattle.source_target.specs.Target.{message_of}
 use Rattle.source.specs.Pending.{settled, wire_changed}
-use Rattle.domain.specs.Domain.{Domain, domaincfg_of, is_enabled, by_messages, sends, with_targets, with_pendings}
+use Rattle.domain.specs.Domain.{Domain, domaincfg_of, is_enabled, by_messages, sends, with_targets}
+use Rattle.domain.specs.Domain.{with_pendings}
 use Rattle.domain.specs.Slot.{source_at}
 use Rattle.domain.proofs.DomainLaws.{domain-path}
 use Rattle.domain_laws.proofs.SlotEffects.{with_source-pending, with_source-unpended}

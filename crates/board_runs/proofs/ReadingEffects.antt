@@ -125,7 +125,8 @@ module _ (b : Board) (sound : board_sound b ≡ true) (u : List ℕ) where
       still-domain_read d a
       (claims-not role (not-true (claims_by role) (and_first (not (claims_by role)) true r)))
   still_read (DomainWrite d a v) r = absurd (false≢true r)
-  still_read (PageRead h f a) r = quiet-still (PageRead h f a) b _ (step-page_read b sound h f _ refl a u) refl
+  still_read (PageRead h f a) r = quiet-still (PageRead h f a) b _
+      (step-page_read b sound h f _ refl a u) refl
   still_read (PageWrite h f a v) r = absurd (false≢true r)
   still_read (Register h f k s v) r =
       tested (eqb k 0) (still-register h f k s v) (λ n. absurd (false≢true (rw n at r)))

@@ -1,7 +1,7 @@
 -- What the calls of a shift bring: logs of 63 words; and to each access of a move the saved numbers that the
 -- last access gave. 01, "Calls and their refusals", "The move, with its premises". Assumes nothing.
---   is_access c        c is an access of a move: no other call looks at saved numbers
---   saved_by s ms l    what the accesses among ms, made in turn from the block l on, leave of the saved
+--   is_access c       c is an access of a move: no other call looks at saved numbers
+--   saved_by s ms l   what the accesses among ms, made in turn from the block l on, leave of the saved
 --                     numbers s
 --   HandedOn s ms l   each access among ms brings the numbers that the last one gave, and the first one s
 --   LogsLong ms       each of the calls ms brings a log of 63 words

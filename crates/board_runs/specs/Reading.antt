@@ -1,11 +1,11 @@
 -- The calls that only read, and the calls of a run that do not. 01, "Calls and their refusals". Assumes
 -- nothing.
---   claims_by r      a read of a register of a domain whose role is r stores: a claimi claims, the others do
---                   nothing
+--   claims_by r       a read of a register of a domain whose role is r stores: a claimi claims, the others do
+--                     nothing
 --   no_file, no_part  what a row of the table may change of the files, or of the wired controller, is nothing
---   only_reads c     c may change nothing: it is a page read, a top, the signals, a read of a register of a
---                   file, or a read of a word of a domain that is no claimi
---   storing ms      the calls of ms that do not only read, in order
+--   only_reads c      c may change nothing: it is a page read, a top, the signals, a read of a register of a
+--                     file, or a read of a word of a domain that is no claimi
+--   storing ms        the calls of ms that do not only read, in order
 use Rattle.std.specs.Prelude.{Bool, true, false, cond, not, ◌&&◌, List, [], ◌∷◌}
 use Rattle.domain_region.specs.declared.role.Role.{Role}
 use Rattle.domain_region.specs.declared.role.Role.TheVariants.{Claims, Configures, Generates, Plain}

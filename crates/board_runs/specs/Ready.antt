@@ -1,9 +1,9 @@
 -- What is lent to a call that tests nothing in vain: the right lengths, and a board that is fit. Assumes
 -- nothing.
 --   Ready x          650 words of a board that is Fit, a log of 63 words, and saved numbers of 64 bits
---   board_in x        that board
+--   board_in x       that board
 --   AllSmall cs      each of the calls cs has a value of 64 bits at most
---   at_reset          what a run from reset is lent first: the block of a reset, and zeros as the log and as
+--   at_reset         what a run from reset is lent first: the block of a reset, and zeros as the log and as
 --                    the saved numbers
 use Rattle.std.specs.Prelude.{◌≡◌, List, [], ◌∷◌, length, replicate}
 use Rattle.sizes.specs.Sizes.{block_size, log_size, saved_size}

@@ -2,12 +2,12 @@
 -- brings a log and saved numbers of its own; that all three are handed on is a case of it. 01, "Calls and
 -- their refusals". Assumes nothing.
 --   Made               a call as it is made: with the log and the saved numbers of a move that it brings
---   made_on m l         what it does with the block l
---   left_by ms l        what the calls ms leave of the block l, in order
---   Said, said_of o     what a call answers: refusal, value and count
---   said_where p ms l   what those of the calls ms answer that p picks, in order
+--   made_on m l        what it does with the block l
+--   left_by ms l       what the calls ms leave of the block l, in order
+--   Said, said_of o    what a call answers: refusal, value and count
+--   said_where p ms l  what those of the calls ms answer that p picks, in order
 --   Lent               the block, the log and the saved numbers that a call is lent
---   outcome_on c x      what the call c does with x
+--   outcome_on c x     what the call c does with x
 --   after c x          what it leaves of x
 --   ran cs x           what the calls cs leave of x, in order, if log and saved numbers are handed on too
 --   handing cs x       these calls as they are made

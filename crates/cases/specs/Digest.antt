@@ -1,6 +1,6 @@
 -- The number that stands for all that is lent. second/README.md, "Recorded cases". Assumes nothing.
 --   digested d w     the digest d with one word more
---   digest_of d ws    the digest d with the words ws
+--   digest_of d ws   the digest d with the words ws
 --   halves ns        the words of 64-bit numbers: of each its low half, then its high one
 use Rattle.std.specs.Prelude.{List, [], ◌∷◌, ℕ, ◌+◌, ◌*◌}
 use Rattle.words.specs.Parts.{low, high}

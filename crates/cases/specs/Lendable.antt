@@ -1,7 +1,7 @@
 -- How much of the state and of the log a call can be lent. Assumes nothing.
---   state_room, log_room   the words that there are: some more than the board needs, so that a length can be
---                        too large
---   Lendable s l         s words of the state and l of the log can be lent
+--   state_room, log_room  the words that there are: some more than the board needs, so that a length can be
+--                         too large
+--   Lendable s l          s words of the state and l of the log can be lent
 use Rattle.std.specs.Prelude.{ℕ, ◌+◌, ◌≤◌}
 use Rattle.sizes.specs.Sizes.{block_size, log_size}
 

@@ -54,7 +54,8 @@ module _ (g ms : List ℕ) where
   logged-later k h =
       let place : k ≡ length ms + (k - length ms) = omega (arith, h) in
       ap (λ (i : ℕ). get_or (ms ++ drop (length ms) g) i 0) place
-      ∙ get_or-append-add ms (drop (length ms) g) (k - length ms) 0 ∙ get_or-drop (length ms) g (k - length ms) 0
+      ∙ get_or-append-add ms (drop (length ms) g) (k - length ms) 0 ∙ get_or-drop (length ms) g
+      (k - length ms) 0
       ∙ ap (λ (i : ℕ). get_or g i 0) (sym place)
 
 pub claim-171 : Claim-171
@@ -145,7 +146,11 @@ claim-173 b many sound s = (
     as-wired b s _ _ _ (step-domain_read b 0 a s),
     as-wired b s _ _ _ (step-domain_read b 1 a s),
   )),
-  (λ a v. (as-wired b s _ _ _ (step-domain_write b 0 a v s), as-wired b s _ _ _ (step-domain_write b 1 a v s))),
+  (λ a v. (
+    as-wired b s _ _ _ (step-domain_write b 0 a v s),
+    as-wired b s _ _ _
+        (step-domain_write b 1 a v s),
+  )),
 )
 
 -- what a read of a register answers is what the register reads

@@ -137,7 +137,8 @@ at-start c n e s =
     ∙ e
 
 pub claim-117 : Claim-117
-unfolding Claim-117 name_refusal_by name_tests first_failed row_of is_wire is_file is_page_address address_legal
+unfolding Claim-117 name_refusal_by name_tests first_failed row_of is_wire is_file is_page_address
+    address_legal
     select_legal
 claim-117 = (
   (

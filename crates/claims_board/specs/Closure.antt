@@ -4,16 +4,17 @@
 --   touches call w c     what the call may change of the domain c of the wired controller w, before anything
 --                        is sent: the tables of Claim-155; c says that the domain is the child
 --   retargets .. w i     access n of a move is that of source i, and the child's target of it names old
---   touches_wire call j   the call may change wire j
---   may_send c            the call c may send: only a wire that is set, and a write to a domain
---   touches_file c k      the call c may change file number k, which is 5 h + f for file f of hart h, before
+--   touches_wire call j  the call may change wire j
+--   may_send c           the call c may send: only a wire that is set, and a write to a domain
+--   touches_file c k     the call c may change file number k, which is 5 h + f for file f of hart h, before
 --                        its messages arrive
 --   part..               the same of what a row of the table of the calls names
 -- Premises: the call is not refused, `name_refusal call b ≡ 0`, but in Claim-151, which has none. Claims 150
 -- and 156 have `BoardShaped b`, the lists have their lengths, as those of every block of 650 words have;
 -- claims 152 and 154 have `Fit b`, a board that calls can be made on, as every accepted call leaves it
 -- (Claim-86). No axioms.
-use Rattle.std.specs.Prelude.{ℕ, ◌+◌, ◌*◌, ◌≤◌, ◌<◌, ◌≡◌, Bool, true, false, cond, not, ◌&&◌, ◌||◌, List, [], ◌≢◌, eqb}
+use Rattle.std.specs.Prelude.{ℕ, ◌+◌, ◌*◌, ◌≤◌, ◌<◌, ◌≡◌, Bool, true, false, cond, not, ◌&&◌, ◌||◌, List, []}
+use Rattle.std.specs.Prelude.{◌≢◌, eqb}
 use Rattle.words.specs.Sets.{member}
 use Rattle.files.specs.Files.{the_file}
 use Rattle.files_laws.specs.Messages.{any_of}
@@ -143,7 +144,8 @@ Claim-156 =
     → let t = (source_at d' i).target in
     ((source_at d i).pending ≡ true) × ((source_at d' i).pending ≡ false)
     × (is_enabled d' ≡ true) × (by_messages d' ≡ true)
-    × (any_of (eqb (hart_of t * 2048 + cond c (guest_of t + 1) 0 * 256 + number_of t)) (step call b s).messages
+    × (any_of (eqb (hart_of t * 2048 + cond c (guest_of t + 1) 0 * 256 + number_of t))
+    (step call b s).messages
     ≡ true))
 
 abbrev pub part_sends : WiredPart → Bool

@@ -88,7 +88,8 @@ abbrev broken : List ℕ
 broken = 2 ∷ replicate 649 0
 
 broken-breaks : board_sound (board_of broken) ≡ false
-unfolding board_sound board_of files_of files_from files_sound every sound_at the_file file_at is_guest rules.file_sound
+unfolding board_sound board_of files_of files_from files_sound every sound_at the_file file_at is_guest
+    rules.file_sound
     rules.delivery_rule delivery_legal
 broken-breaks = refl
 

@@ -8,7 +8,8 @@
 -- and saved numbers of 64 bits, as every block, value and saved number of a program is, and that the call is
 -- accepted; of Claim-88 650 words, or a board with its lengths (`BoardShaped`); of Claim-89 a file 0 to 4.
 -- The others have none. No axioms.
-use Rattle.std.specs.Prelude.{ℕ, ◌^◌, ◌≤◌, ◌<◌, ◌≡◌, true, false, List, [], ◌≢◌, ◌↔◌, ◌⊎◌, eqb, length, get_or}
+use Rattle.std.specs.Prelude.{ℕ, ◌^◌, ◌≤◌, ◌<◌, ◌≡◌, true, false, List, [], ◌≢◌, ◌↔◌, ◌⊎◌, eqb, length}
+use Rattle.std.specs.Prelude.{get_or}
 use contract.Lifetimes.{Lfts}
 use Rattle.std.specs.Borrow.{MutBor}
 use Rattle.words.specs.Bits.{has_bit}

@@ -3,8 +3,8 @@
 -- everything. 01, "Calls and their refusals", "What the auditor will try".
 -- Premises: of Claim-91 that the board keeps the state rules; of Claim-93 what the contract ensures,
 -- `X.Learnt`, for which nothing is asked (Claim-113). The others have none. No axioms.
---   Given c n       there are a block and a log with which the call c gets the number n
---   OnlyFile k b b'   b' is b but for file number k
+--   Given c n        there are a block and a log with which the call c gets the number n
+--   OnlyFile k b b'  b' is b but for file number k
 use Rattle.std.specs.Prelude.{ℕ, ◌≡◌, true, List, ◌≢◌}
 use contract.Lifetimes.{Lfts}
 use Rattle.std.specs.Borrow.{MutBor}

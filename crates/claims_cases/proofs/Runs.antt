@@ -1,6 +1,6 @@
 -- Claim 163: a run is computed on boards and not on blocks; that it is ready for the next call is shown once
 -- for every run. Assumes nothing.
---   Held              the board, the log and the saved numbers of what is lent
+--   Held               the board, the log and the saved numbers of what is lent
 --   step_on c y        what the call c makes of them: refused, it leaves them
 --   board_run cs y     what the calls cs make of them, in order
 --   answers_on c y     what the call c answers: refusal, value, count, and the first word of the log
@@ -91,16 +91,20 @@ unfolding bit_of has_bit with_bit without_bit member insert remove put low high 
     packed select_legal register_of registers_from doubleword put_halves put_doubleword arrived page_written
     passes qualifies lowest top_identity top_of held written accessed_at accessed log_word hart_in file_in
     identity_in file_number is_guest the_file with_file named_by reached all_reached is_active is_level
-    is_rectified kept_mode source_word hart_of guest_of number_of start_target priority_of receiver_of kept_target
+    is_rectified kept_mode source_word hart_of guest_of number_of start_target priority_of receiver_of
+    kept_target
     message_of settled pended cleared switched changed moded redelivered retargeted lets address_legal
     registers name_in word_in word_at domaincfg_of is_enabled by_messages genmsi_of with_domaincfg with_genmsi
     source_at with_source structure_at with_structure number_changed changed_at target_written kept_domaincfg
-    redelivered_at redelivered_from mode_settled domaincfg_written candidate served_at messages_at sent_from sent
+    redelivered_at redelivered_from mode_settled domaincfg_written candidate served_at messages_at sent_from
+    sent
     logged standing eligible precedes top_from top_source topi_of unforced released hart_claimed
     register_value claimed_as claimed_by register_written domain_in with_domain is_delegated source_moded
     child_written machine_written source_written written_as written_in flushed genmsi_as genmsi_by start_file
-    start_files_from start_domain start_board kind_of change is_file is_page_address row_of first_failed name_tests
-    name_refusal_by then_sent step input_bit inputs_to input_word wire_changed source_wired wire_set is_wire put_bit
+    start_files_from start_domain start_board kind_of change is_file is_page_address row_of first_failed
+    name_tests
+    name_refusal_by then_sent step input_bit inputs_to input_word wire_changed source_wired wire_set is_wire
+    put_bit
 answers_on c y =
     let z = step c y.board y.saved in
     let n = name_refusal c y.board in

@@ -34,9 +34,11 @@ use Rattle.claims_cases.specs.Table.{Claim-170, table, same, holds}
 pub table-holds : holds table ≡ true
 unfolding holds table same top_of top_identity lowest qualifies passes member has_bit bit_of page_written
     arrived insert with_bit reversed file_words accessed accessed_at select_legal register_of held topi_of
-    top_source top_from standing eligible precedes lets structure_at source_at by_messages domaincfg_of hart_of
+    top_source top_from standing eligible precedes lets structure_at source_at by_messages domaincfg_of
+    hart_of
     guest_of number_of field_of kept_target receiver_of packed message_of log_word read_of domaincfg_written
-    mode_settled kept_domaincfg with_domaincfg with_genmsi redelivered_from redelivered_at redelivered with_source
+    mode_settled kept_domaincfg with_domaincfg with_genmsi redelivered_from redelivered_at redelivered
+    with_source
     is_active put remove without_bit word_at word_in name_in registers name_refusal_by name_tests first_failed
     row_of address_legal
 table-holds = refl

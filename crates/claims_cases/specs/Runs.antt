@@ -1,9 +1,9 @@
 -- Claim 163: the table cases of the paper, T1 to T11, by whole calls: what the last call of a run answers, on
 -- the block after a reset. 01, "Table cases", "Calls and their refusals".
---   answered cs c     what the call c answers after the calls cs: refusal, value, count, and then the first
---                     word of the log
---   five_and_nine_at t   identities 5 and 9 enabled and sent to guest file 1 of hart 0, and its threshold t
---   detached i t      source i of the machine domain detached, its target t, enabled and pending
+--   answered cs c       what the call c answers after the calls cs: refusal, value, count, and then the first
+--                       word of the log
+--   five_and_nine_at t  identities 5 and 9 enabled and sent to guest file 1 of hart 0, and its threshold t
+--   detached i t        source i of the machine domain detached, its target t, enabled and pending
 -- In a register access 0 reads and 1 writes; domain 0 is the machine domain and 1 its child.
 -- Premises: none. No axioms.
 use Rattle.std.specs.Prelude.{ℕ, ◌+◌, ◌*◌, ◌≡◌, List, [], ◌∷◌, ◌++◌, get_or}

@@ -66,9 +66,11 @@ unfoldable pub Claim-48 : Type 0
 Claim-48 =
     (d : Domain) (h i : ℕ)
     → ((eligible d h i ≡ true)
-    ↔ (((source_at d i).pending ≡ true) × ((source_at d i).enabled ≡ true) × (hart_of (source_at d i).target ≡ h)
+    ↔ (((source_at d i).pending ≡ true) × ((source_at d i).enabled ≡ true) ×
+    (hart_of (source_at d i).target ≡ h)
     × (((structure_at d h).ithreshold ≡ 0) ⊎ (priority d i < (structure_at d h).ithreshold))))
-    × ((structure_at d h).ithreshold ≢ 0 → priority d i ≡ (structure_at d h).ithreshold → eligible d h i ≡ false)
+    × ((structure_at d h).ithreshold ≢ 0 → priority d i ≡ (structure_at d h).ithreshold → eligible d h i
+    ≡ false)
 
 -- a claimi that does not answer 0 takes the pending bit of the top source, if that is no level source, and
 -- changes nothing else

@@ -1,7 +1,7 @@
 -- Claims 130 and 131, on the region of a domain: which register stands at which address, that every other
 -- address has none, and what reads 0 and ignores writes. 01, "The wired controller", "Direct delivery and
 -- signals". c says that a domain is the child.
---   address_of r    the address of register r, in the paper's numbers
+--   address_of r   the address of register r, in the paper's numbers
 --   Numbered r     the number that r carries is one that there is; Unused is no register
 --   Unnamed a      no register has the address a
 -- Premises: none but the ranges of numbers. No axioms.

@@ -3,7 +3,8 @@
 -- pending and its enable bit up, by ascending number, and the pending bit falls. c says that the domain is
 -- the child.
 -- Premises: none but IE and DM, as each line says. No axioms.
-use Rattle.std.specs.Prelude.{ℕ, ◌+◌, ◌*◌, ◌/◌, ◌%◌, ◌≤◌, ◌<◌, ◌≡◌, Bool, true, false, cond, not, ◌&&◌, List, [], ◌∷◌, map, ◌↔◌, eqb, length, get_or}
+use Rattle.std.specs.Prelude.{ℕ, ◌+◌, ◌*◌, ◌/◌, ◌%◌, ◌≤◌, ◌<◌, ◌≡◌, Bool, true, false, cond, not, ◌&&◌, List}
+use Rattle.std.specs.Prelude.{[], ◌∷◌, map, ◌↔◌, eqb, length, get_or}
 use Rattle.words.specs.Sets.{member}
 use Rattle.source_mode.specs.Mode.{is_active}
 use Rattle.source_target.specs.Target.{hart_of, number_of, message_of}
@@ -27,7 +28,8 @@ Claim-50 =
     × ((is_enabled d && by_messages d) ≡ false → ((sent c d).messages ≡ []) × ((sent c d).domain ≡ d))
 
 -- the sources that a domain sends are in ascending order, and exactly those of 1 to 63 that are active,
--- pending and enabled. `candidate` says of one source that it is all three, and `any_of` of a list that a test
+-- pending and enabled. `candidate` says of one source that it is all three, and `any_of` of a list that a
+-- test
 -- holds somewhere in it
 -- [01 W47]
 unfoldable pub Claim-147 : Type 0

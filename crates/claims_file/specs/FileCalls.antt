@@ -81,7 +81,8 @@ Claim-9 = (s : ℕ) (r : Register) → register-of.Learnt tt (s, tt) r (s, tt) �
 
 -- `delivery_legal` answers whether a delivery is legal
 unfoldable pub Claim-10 : Type 0
-Claim-10 = (g r : Bool) (d : ℕ) → delivery-legal.Learnt tt (g, (d, tt)) r (g, (d, tt)) → r ≡ delivery_legal g d
+Claim-10 = (g r : Bool) (d : ℕ) → delivery-legal.Learnt tt (g, (d, tt)) r (g, (d, tt)) → r
+    ≡ delivery_legal g d
 
 -- `access` gives the answer of an access to a register, and the file after it
 -- [01 X2]

@@ -7,7 +7,8 @@
 -- what single bits or stored words become; in Claim 32 a file that keeps its state rules, and numbers of 64
 -- bits for its registers; in Claim 34 a file that lies within the block.
 -- No axioms.
-use Rattle.std.specs.Prelude.{ℕ, ◌+◌, ◌*◌, ◌/◌, ◌%◌, ◌^◌, ◌≤◌, ◌<◌, ◌≡◌, Bool, true, false, not, cond, ◌&&◌, ◌||◌, List, ◌≢◌, ◌↔◌, ◌⊎◌, eqb, leb, length}
+use Rattle.std.specs.Prelude.{ℕ, ◌+◌, ◌*◌, ◌/◌, ◌%◌, ◌^◌, ◌≤◌, ◌<◌, ◌≡◌, Bool, true, false, not, cond, ◌&&◌}
+use Rattle.std.specs.Prelude.{◌||◌, List, ◌≢◌, ◌↔◌, ◌⊎◌, eqb, leb, length}
 use Rattle.words.specs.Bits.{has_bit, without_bit}
 use Rattle.words.specs.Sets.{member, WordsFit}
 use Rattle.file_select.specs.declared.Register.TheVariants.{Delivery, Threshold, Pending, Enable}

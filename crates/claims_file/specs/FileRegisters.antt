@@ -6,7 +6,8 @@
 -- Premises: `Shaped f` (eight words of 32 bits in each set, as every file of a block has) where a claim
 -- speaks of pending or enable bits. g says that the file is a guest's.
 -- No axioms.
-use Rattle.std.specs.Prelude.{ℕ, ◌+◌, ◌*◌, ◌/◌, ◌%◌, ◌^◌, ◌≤◌, ◌<◌, ◌≡◌, Bool, true, not, cond, ◌&&◌, ◌||◌, List, ◌↔◌, ◌⊎◌, eqb, leb}
+use Rattle.std.specs.Prelude.{ℕ, ◌+◌, ◌*◌, ◌/◌, ◌%◌, ◌^◌, ◌≤◌, ◌<◌, ◌≡◌, Bool, true, not, cond, ◌&&◌, ◌||◌}
+use Rattle.std.specs.Prelude.{List, ◌↔◌, ◌⊎◌, eqb, leb}
 use Rattle.words.specs.Bits.{has_bit}
 use Rattle.words.specs.Sets.{member}
 use Rattle.file_select.specs.Select.{select_legal}

@@ -6,7 +6,8 @@
 -- numbers) where a claim speaks of bits; a number that is written at offset 4 or reversed has 32 bits, one
 -- for a register 64.
 -- No axioms.
-use Rattle.std.specs.Prelude.{ℕ, ◌-◌, ◌*◌, ◌/◌, ◌%◌, ◌^◌, ◌≤◌, ◌<◌, ◌≡◌, Bool, true, false, ◌&&◌, ◌||◌, List, ◌≢◌, ◌↔◌, ◌⊎◌, eqb, leb, length, get_or}
+use Rattle.std.specs.Prelude.{ℕ, ◌-◌, ◌*◌, ◌/◌, ◌%◌, ◌^◌, ◌≤◌, ◌<◌, ◌≡◌, Bool, true, false, ◌&&◌, ◌||◌, List}
+use Rattle.std.specs.Prelude.{◌≢◌, ◌↔◌, ◌⊎◌, eqb, leb, length, get_or}
 use Rattle.words.specs.Bits.{has_bit}
 use Rattle.words.specs.Parts.{reversed}
 use Rattle.words.specs.Sets.{member, WordsFit}

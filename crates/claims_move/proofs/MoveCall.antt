@@ -226,7 +226,8 @@ module _ (b : Board) (fit : Fit b) (oh of nh nf n : ℕ) (there : is_move oh of 
   set-pending k h e =
       leaves _
       (acted-set identities n before (omega arith) (omega arith)
-      ∙ ap (λ (j : ℕ). with_new before (guest_access identities f Set (eip0 + 2 * j) (get_or s (2 + j) 0)).file)
+      ∙ ap (λ (j : ℕ). with_new before
+      (guest_access identities f Set (eip0 + 2 * j) (get_or s (2 + j) 0)).file)
       (omega arith))
 
   write-enable : (k : ℕ) → k < 4 → n ≡ 84 + k

@@ -44,7 +44,8 @@ module _ (f g : File) (h i : ℕ) where
   fs = start_board.files
 
   stands-first : Arranged (board_having f g (wired_to h i)) f idle g (renamed 7 h i) (renamed 70 h i)
-  unfolding file_number is_guest the_file with_file start_board start_files_from start_file start_domain board_having
+  unfolding file_number is_guest the_file with_file start_board start_files_from start_file start_domain
+      board_having
       wired_to machine_domain child_to
   stands-first =
       record {
@@ -59,7 +60,8 @@ module _ (f g : File) (h i : ℕ) where
       }
 
   stands-last : Arranged (board_end f g (wired_to h i)) f other g (renamed 7 h i) (renamed 70 h i)
-  unfolding file_number is_guest the_file with_file start_board start_files_from start_file start_domain board_having
+  unfolding file_number is_guest the_file with_file start_board start_files_from start_file start_domain
+      board_having
       board_end wired_to machine_domain child_to holding insert with_bit has_bit bit_of
   stands-last =
       record {

@@ -2,7 +2,7 @@
 -- when it is barred, what it does to the file old, to the file new and to the saved numbers, and that it does
 -- nothing else. 01, "The move, with its premises"; the standard 6.1.2.
 --   Fit b                  b has its lengths, its files have words of 32 bits, and it keeps the state rules
---   is_move .. n            what Claim-101 says of old, new and n, without the child domain
+--   is_move .. n           what Claim-101 says of old, new and n, without the child domain
 --   WordOf ws k w          w is word k of the set ws, 64 identities to a word: bit j is identity 64 k + j
 --   PendingBecame f f' p   f' is the file f but for its pending set, which has just the identities that p has
 --   EnableBecame f f' p    the same of the enable set
@@ -11,9 +11,11 @@
 -- the ten saved numbers: at 0 the delivery, at 1 the threshold, at 2 to 5 the words of pending bits, at 6
 -- to 9 those of enable bits. What is past the end of a shorter list is read as 0 and is not stored.
 -- Premises: of claims 102 and 103 `Fit b`, as the board of every block of words of 32 bits is that is not
--- refused, and that old, new and n are not barred (`is_move`). Claims 100 and 101 have none but, in Claim-100,
+-- refused, and that old, new and n are not barred (`is_move`). Claims 100 and 101 have none but, in
+-- Claim-100,
 -- what the contract ensures. No axioms.
-use Rattle.std.specs.Prelude.{ℕ, ◌+◌, ◌-◌, ◌*◌, ◌/◌, ◌%◌, ◌^◌, ◌≤◌, ◌<◌, ◌≡◌, Bool, true, cond, not, ◌&&◌, ◌||◌, List, [], ◌≢◌, ◌↔◌, eqb, leb, get_or, set}
+use Rattle.std.specs.Prelude.{ℕ, ◌+◌, ◌-◌, ◌*◌, ◌/◌, ◌%◌, ◌^◌, ◌≤◌, ◌<◌, ◌≡◌, Bool, true, cond, not, ◌&&◌}
+use Rattle.std.specs.Prelude.{◌||◌, List, [], ◌≢◌, ◌↔◌, eqb, leb, get_or, set}
 use contract.Lifetimes.{Lfts}
 use Rattle.std.specs.Borrow.{MutBor}
 use Rattle.words.specs.Bits.{has_bit}

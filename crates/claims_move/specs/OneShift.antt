@@ -103,7 +103,8 @@ Claim-111 =
     ++ (page 1 3 4 0x64000000 ∷ access ∷ page 1 3 0 10 ∷ wire 1 0 ∷ [])))))))))
     × Premises stations start.block start.saved shift
     -- its end: both sources send to new; without the move old is the station's file, and new is as before
-    × Arranged (board_in (ran (with_move stations 0 shift) start)) left_old other station_after 0x42007 0x42046
+    × Arranged (board_in (ran
+    (with_move stations 0 shift) start)) left_old other station_after 0x42007 0x42046
     × Arranged (board_in (ran (without_move stations shift) start)) station_after other before 0x1007 0x1046
     × (said_where is_access (handing (with_move stations 0 shift) start) start.block
     ≡ replicate 89 (record { number = 0; value = 0; count = 0 }))

@@ -10,7 +10,8 @@
 -- alone, and Claim-178 says what is enough for them.
 -- Premises: of the first part of Claim-178 the lengths of the block and of the log, words of 32 bits that
 -- keep the rules and saved numbers of 64 bits. The rest of it and Claim-175 have none. No axioms.
-use Rattle.std.specs.Prelude.{ℕ, ◌+◌, ◌-◌, ◌^◌, ◌≤◌, ◌<◌, ◌≡◌, true, List, [], ◌∷◌, ◌≢◌, ◌⊎◌, ◌↔◌, length, get_or}
+use Rattle.std.specs.Prelude.{ℕ, ◌+◌, ◌-◌, ◌^◌, ◌≤◌, ◌<◌, ◌≡◌, true, List, [], ◌∷◌, ◌≢◌, ◌⊎◌, ◌↔◌, length}
+use Rattle.std.specs.Prelude.{get_or}
 use Rattle.source_target.specs.Target.{hart_of, guest_of}
 use Rattle.domain.specs.Domain.{by_messages}
 use Rattle.domain.specs.Slot.{source_at}

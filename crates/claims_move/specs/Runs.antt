@@ -1,8 +1,10 @@
 -- Claims 183 and 184: calls one after the other, each with a log and saved numbers of its own. 01, "Calls and
 -- their refusals", "The move, with its premises".
 --   Said           what a call answers: refusal, value and count
---   left_by ms l    the block that the calls ms leave of l; said_where p ms l, what those of them answer that p
---                  picks; saved_by s ms l, the saved numbers that the accesses of a move among them leave of s
+--   left_by ms l    the block that the calls ms leave of l; said_where p ms l, what those of them answer that
+-- p
+--                  picks; saved_by s ms l, the saved numbers that the accesses of a move among them leave of
+-- s
 --   handing cs x   the calls cs, each with the log and the saved numbers that the last one left
 --   board_in x      the board that the block of x has
 -- Premises: of Claim-183 that both logs have one length; of the last part of Claim-184 `Ready x` and
@@ -37,7 +39,8 @@ Claim-183 =
     → (is_access (Move oh of nh nf n) ≡ true) × (is_access Reset ≡ false) × (is_access (Wire w level) ≡ false)
     × (is_access (DomainRead d a) ≡ false) × (is_access (DomainWrite d a v) ≡ false)
     × (is_access (PageRead h f a) ≡ false) × (is_access (PageWrite h f a v) ≡ false)
-    × (is_access (Register h f k s v) ≡ false) × (is_access (Top h f) ≡ false) × (is_access (Claim h f) ≡ false)
+    × (is_access (Register h f k s v) ≡ false) × (is_access (Top h f) ≡ false) ×
+    (is_access (Claim h f) ≡ false)
     × (is_access (Signals h) ≡ false))
 
 -- a run makes its calls in order, each on the block that the last one left and with the log and the saved

@@ -13,7 +13,8 @@
 -- words, and an access the saved numbers that the last one gave; of Claim-110 besides `LaterKept`, what
 -- may be called afterwards; of Claim-190 the same as of 105, but any number of accesses up to 89. Claim-181
 -- has none. No axioms.
-use Rattle.std.specs.Prelude.{ℕ, ◌+◌, ◌-◌, ◌*◌, ◌/◌, ◌%◌, ◌^◌, ◌≤◌, ◌<◌, ◌≡◌, Bool, true, false, List, [], ◌∷◌, ◌≢◌, ◌↔◌, length, get_or, replicate}
+use Rattle.std.specs.Prelude.{ℕ, ◌+◌, ◌-◌, ◌*◌, ◌/◌, ◌%◌, ◌^◌, ◌≤◌, ◌<◌, ◌≡◌, Bool, true, false, List, []}
+use Rattle.std.specs.Prelude.{◌∷◌, ◌≢◌, ◌↔◌, length, get_or, replicate}
 use Rattle.words.specs.Bits.{has_bit}
 use Rattle.words.specs.Sets.{member}
 use Rattle.file.specs.Top.{top_of}
@@ -203,7 +204,8 @@ Claim-181 =
     → (only_reads (PageRead h f a) ≡ true) × (only_reads (Top h f) ≡ true) × (only_reads (Signals h) ≡ true)
     × ((only_reads (Register h f k s v) ≡ true) ↔ (k ≡ 0))
     × ((only_reads (DomainRead d a) ≡ true) ↔ ((i : ℕ) → word_at a ≢ Claimi i))
-    × (only_reads Reset ≡ false) × (only_reads (Wire w level) ≡ false) × (only_reads (DomainWrite d a v) ≡ false)
+    × (only_reads Reset ≡ false) × (only_reads (Wire w level) ≡ false) ×
+    (only_reads (DomainWrite d a v) ≡ false)
     × (only_reads (PageWrite h f a v) ≡ false) × (only_reads (Claim h f) ≡ false)
     × (only_reads (Move oh of nh nf n) ≡ false))
     × ((c : Call) (l g s : List ℕ) → only_reads c ≡ true

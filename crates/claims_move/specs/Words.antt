@@ -1,7 +1,8 @@
 -- Claims 187 and 188: what the claims on the move are told with, in plain numbers: calls on other files, how
 -- a move ends, the premises together, and the weaker premises and the shifts of claims 112 and 186. 01, "The
 -- move, with its premises". Premises: none. No axioms.
-use Rattle.std.specs.Prelude.{ℕ, ◌+◌, ◌-◌, ◌*◌, ◌^◌, ◌≤◌, ◌<◌, ◌≡◌, true, false, List, [], ◌∷◌, ◌≢◌, ◌⊎◌, ◌↔◌, length, get_or}
+use Rattle.std.specs.Prelude.{ℕ, ◌+◌, ◌-◌, ◌*◌, ◌^◌, ◌≤◌, ◌<◌, ◌≡◌, true, false, List, [], ◌∷◌, ◌≢◌, ◌⊎◌, ◌↔◌}
+use Rattle.std.specs.Prelude.{length, get_or}
 use Rattle.files.specs.Files.{file_number, the_file}
 use Rattle.board_block.specs.Block.{Board, board_of}
 use Rattle.board_call.specs.declared.Call.{Call}

@@ -7,7 +7,8 @@ use Rattle.record_call.specs.Table.{table, same_bytes, call_in, line_of}
 use Rattle.claims_record.specs.Examples.{Claim-202}
 
 pub claim-202 : Claim-202
-unfolding Claim-202 line_of call_in table same_bytes numbers_of are_numbers texts_of name_of fields_of rest_by ended_by
+unfolding Claim-202 line_of call_in table same_bytes numbers_of are_numbers texts_of name_of fields_of rest_by
+    ended_by
     is_number value_onto all_digits
 claim-202 = (
   refl,

@@ -102,7 +102,8 @@ module _ (n : ℕ) (ns : List ℕ) where
       ∙ append_assoc body (line_feed ∷ []) bs
 
   line-told : (bs : List ℕ) →
-      map fields_of (lines_of (line_shown (n ∷ ns) ++ bs)) ≡ map text_of (n ∷ ns) ∷ map fields_of (lines_of bs)
+      map fields_of (lines_of (line_shown (n ∷ ns) ++ bs)) ≡ map text_of (n ∷ ns) ∷ map fields_of
+      (lines_of bs)
   line-told bs =
       ap (λ (ls : List ℕ). map fields_of (lines_of ls)) (line-body bs)
       ∙ ap (map fields_of) (lines-first body bs body-lacks)

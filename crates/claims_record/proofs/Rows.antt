@@ -157,7 +157,8 @@ all_say = (
                         ltb-true d (2 ^ 32) w;
                   }),
                   (
-                    five register_row refl (λ a b c d f w. record { name = refl; numbers = refl; words = tt }),
+                    five register_row refl
+                        (λ a b c d f w. record { name = refl; numbers = refl; words = tt }),
                     (
                       five move_row refl (λ a b c d f w. record { name = refl; numbers = refl; words = tt }),
                       tt,

@@ -74,7 +74,8 @@ lacks_tab (x ∷ xs) = not (eqb x tab) && lacks_tab xs
 lacks-tested : (t : List ℕ) → lacks_tab t ≡ true → Lacks tab t
 lacks-tested [] e = lacks-none tab
 lacks-tested (x ∷ xs) e =
-    lacks-cons tab x xs (eqb-false x tab (not-true (eqb x tab) (and_first (not (eqb x tab)) (lacks_tab xs) e)))
+    lacks-cons tab x xs (eqb-false x tab
+    (not-true (eqb x tab) (and_first (not (eqb x tab)) (lacks_tab xs) e)))
     (lacks-tested xs (and_second (not (eqb x tab)) (lacks_tab xs) e))
 
 name-tested : (c : Call) → (lacks_tab (call_name c) ≡ true) × (length (call_name c) ≤ 12) × (length
@@ -114,7 +115,8 @@ module _ (l : List ℕ) (c : Call) where
               texts = texts_of l;
               line = fields-1 l ∙ ap (λ (n : List ℕ). n ++ behind_tabs (texts_of l)) (sym row.name);
               numbers = subst (Spelled (texts_of l)) (sym row.numbers)
-                  (spelled-1 (texts_of l) (and_second (leb (length l) line_size) (are_numbers (texts_of l)) t));
+                  (spelled-1 (texts_of l)
+                  (and_second (leb (length l) line_size) (are_numbers (texts_of l)) t));
               words = row.words;
             },
           )
@@ -135,7 +137,8 @@ claim-192 l c = (written-1 l c, λ p. written_2 l c p.0 p.1)
 
 -- ---- a line for each call
 
-texts-spelled : (ns : List ℕ) → ((i : ℕ) → i < length ns → get_or ns i 0 < 2 ^ 64) → Spelled (map text_of ns) ns
+texts-spelled : (ns : List ℕ) → ((i : ℕ) → i < length ns → get_or ns i 0 < 2 ^ 64) → Spelled
+    (map text_of ns) ns
 texts-spelled [] h = tt
 texts-spelled (n ∷ ns) h = (
   text-decimal n (h 0 (omega arith)),

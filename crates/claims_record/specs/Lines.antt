@@ -1,14 +1,15 @@
 -- Claims 195 and 196, on the lines of a record, and on bytes that come in pieces. 02, M-100; docs/RECORD.md.
 --   NoFeed l           no byte of l is an LF
 --   AllNoFeed ls       of none of the lines ls
---   with_ends ls        the lines ls, each with an LF behind it
+--   with_ends ls       the lines ls, each with an LF behind it
 --   Parted ls bs       bs are the lines ls, each with its end; but the last may have none, if it has a byte
 --   together ps        the pieces ps, one after the other
 --   begun              a run that has read nothing
---   after_pieces ps h   where the run h is after the pieces ps; printed_in ps h: what it has printed then
+--   after_pieces ps h  where the run h is after the pieces ps; printed_in ps h: what it has printed then
 --   finished h         what is lent after the last line, which has no end; last_printed h: what that prints
 -- Premises: none. No axioms.
-use Rattle.std.specs.Prelude.{ℕ, suc, ◌+◌, ◌≤◌, ◌<◌, ◌≡◌, ◌↔◌, ◌⊎◌, ◌≢◌, List, [], ◌∷◌, ◌++◌, map, length, get_or}
+use Rattle.std.specs.Prelude.{ℕ, suc, ◌+◌, ◌≤◌, ◌<◌, ◌≡◌, ◌↔◌, ◌⊎◌, ◌≢◌, List, [], ◌∷◌, ◌++◌, map, length}
+use Rattle.std.specs.Prelude.{get_or}
 use Rattle.record_lines.specs.Lines.{lines_of, last_of}
 use Rattle.record_call.specs.Table.{line_of}
 use Rattle.record_runs.specs.Replay.{said_in, calls_in, answers_from, Held, gone_on, printed_by}
@@ -30,7 +31,8 @@ with_ends (l ∷ ls) = l ++ (10 ∷ with_ends ls)
 abbrev pub Parted : List (List ℕ) → List ℕ → Type 0
 Parted ls bs =
     (bs ≡ with_ends ls)
-    ⊎ ((ks : List (List ℕ)) × (l : List ℕ) × (ls ≡ ks ++ (l ∷ [])) × (1 ≤ length l) × (bs ≡ with_ends ks ++ l))
+    ⊎ ((ks : List (List ℕ)) × (l : List ℕ) × (ls ≡ ks ++ (l ∷ [])) × (1 ≤ length l) ×
+    (bs ≡ with_ends ks ++ l))
 
 -- the lines of a record are what its LFs part, and only those: each has its end, but the last may lack it
 -- unless it is empty; a line may be empty

@@ -1,11 +1,12 @@
 -- Claims 197 to 201, on a record that is run: what it leaves, what is printed, which refusals there can
 -- be, and what the functions give that do it. 02, M-100; docs/RECORD.md.
---   line_by_line ss x      what the lines ss leave of x, one after the other: a line that cannot be read
+--   line_by_line ss x    what the lines ss leave of x, one after the other: a line that cannot be read
 --                        leaves all
 --   told s x             the numbers that a line is answered by, behind its own number
---   fields_told n ss x    the fields of the answers to the lines ss, if the first has the number n
+--   fields_told n ss x   the fields of the answers to the lines ss, if the first has the number n
 -- Premises: of claims 200 and 201 what the contract ensures, `X.Learnt`. No axioms.
-use Rattle.std.specs.Prelude.{ℕ, suc, ◌+◌, ◌-◌, ◌^◌, ◌≤◌, ◌<◌, ◌≡◌, ◌⊎◌, ◌↔◌, List, [], ◌∷◌, ◌++◌, map, length, take, replicate}
+use Rattle.std.specs.Prelude.{ℕ, suc, ◌+◌, ◌-◌, ◌^◌, ◌≤◌, ◌<◌, ◌≡◌, ◌⊎◌, ◌↔◌, List, [], ◌∷◌, ◌++◌, map}
+use Rattle.std.specs.Prelude.{length, take, replicate}
 use Rattle.std.proofs.Math.Seq.{slice}
 use contract.Lifetimes.{Lfts}
 use Rattle.std.specs.Borrow.{Bor, MutBor}
@@ -39,7 +40,8 @@ Claim-197 =
     ((bs : List ℕ) → line_by_line (lines_of bs) at_reset ≡ ran (calls_in (said_in bs)) at_reset)
     × ((c : Call) (x : Lent) → passed_on (lines.Call c) x ≡ after c x)
     × ((x : Lent) → passed_on lines.Unreadable x ≡ x)
-    × ((ss ts : List Line) (c : Call) → calls_in (ss ++ (lines.Call c ∷ ts)) ≡ calls_in ss ++ (c ∷ calls_in ts))
+    × ((ss ts : List Line) (c : Call) → calls_in (ss ++ (lines.Call c ∷ ts)) ≡ calls_in ss ++
+    (c ∷ calls_in ts))
     × ((ss ts : List Line) → calls_in (ss ++ (lines.Unreadable ∷ ts)) ≡ calls_in (ss ++ ts))
     × ((x : Lent) → length x.block ≡ block_size → x.log ≡ replicate log_size 0 → x.saved ≡ replicate 10 0
     → after Reset x ≡ at_reset)
@@ -85,7 +87,8 @@ Claim-200 =
 -- the line so far and the number of lines are those of the run, and the answers are what it prints
 unfoldable pub Claim-201 : Type 0
 Claim-201 =
-    (l : Lfts 6) (b b' g g' s s' n n' : MutBor (List ℕ)) (c c' : Bor (List ℕ)) (o o' : MutBor (List ℕ)) (f r : Run)
+    (l : Lfts 6) (b b' g g' s s' n n' : MutBor (List ℕ)) (c c' : Bor (List ℕ)) (o o' : MutBor (List ℕ))
+    (f r : Run)
     → (length g.now ≡ 63 → length n.now ≡ 201 → f.held ≤ 201 → 1408 ≤ length o.now →
     f.at ≤ length c.now
     → f.number + (length c.now - f.at) < 2 ^ 64

@@ -3,12 +3,13 @@
 --   worth t            what digits are worth: each by its place
 --   Decimal t n        t is n in decimal: a digit or more, nothing else, worth n, which has 64 bits
 --   Spelled ts ns      the fields ts are the numbers ns, in order
---   behind_tabs ts      the fields ts, each behind one tab
---   call_name c         the name of the call c; call_numbers c: its numbers, in the order of the header
+--   behind_tabs ts     the fields ts, each behind one tab
+--   call_name c        the name of the call c; call_numbers c: its numbers, in the order of the header
 --   WordsSmall c       what the call takes as a word has 32 bits
 --   Written c l        l is the name of c and its numbers, and nothing else
 -- Premises: none. No axioms.
-use Rattle.std.specs.Prelude.{ℕ, ◌+◌, ◌-◌, ◌*◌, ◌^◌, ◌≤◌, ◌<◌, ◌≡◌, ◌↔◌, ◌≢◌, List, [], ◌∷◌, ◌++◌, length, get_or}
+use Rattle.std.specs.Prelude.{ℕ, ◌+◌, ◌-◌, ◌*◌, ◌^◌, ◌≤◌, ◌<◌, ◌≡◌, ◌↔◌, ◌≢◌, List, [], ◌∷◌, ◌++◌, length}
+use Rattle.std.specs.Prelude.{get_or}
 use Rattle.record_numbers.specs.Decimal.{text_of}
 use Rattle.record_call.specs.declared.Line.TheVariants as lines
 use Rattle.record_call.specs.Table.{line_of}

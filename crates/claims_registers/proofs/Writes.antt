@@ -103,7 +103,8 @@ module _ (d : Domain) (wires : List ℕ) (v : ℕ) (shaped : DomainShaped d) whe
   other-mode : by_messages d ≢ has_bit v 2
       → Became d (domaincfg_written d wires v) (kept_domaincfg v) 0
       (λ j s. redelivered s (has_bit v 2) (member wires j))
-  other-mode n = rw (beq-differs (by_messages d) (has_bit v 2) n) at (became-domaincfg_written d wires v shaped)
+  other-mode n = rw (beq-differs (by_messages d) (has_bit v 2) n) at
+      (became-domaincfg_written d wires v shaped)
 
 pub claim-56 : Claim-56
 unfolding Claim-56

@@ -2,9 +2,10 @@
 -- before anything is sent, and that a read changes nothing but for a claimi. 01, "The wired controller",
 -- "Direct delivery and signals". c says that the domain is the child.
 --   read_back w c v r    what register r of that domain reads after v was written to it
---   ReadsBack w c v     one line for each register
+--   ReadsBack w c v      one line for each register
 -- Premises: 138 has `Sound w`, the state rules; 140 none. No axioms.
-use Rattle.std.specs.Prelude.{ℕ, ◌+◌, ◌*◌, ◌/◌, ◌%◌, ◌^◌, ◌≤◌, ◌<◌, ◌≡◌, Bool, true, false, cond, not, ◌&&◌, ◌||◌, ◌≢◌, eqb}
+use Rattle.std.specs.Prelude.{ℕ, ◌+◌, ◌*◌, ◌/◌, ◌%◌, ◌^◌, ◌≤◌, ◌<◌, ◌≡◌, Bool, true, false, cond, not, ◌&&◌}
+use Rattle.std.specs.Prelude.{◌||◌, ◌≢◌, eqb}
 use Rattle.words.specs.Bits.{has_bit}
 use Rattle.words.specs.Sets.{member}
 use Rattle.source_mode.specs.Mode.{is_active, is_level, is_rectified}
@@ -66,7 +67,8 @@ pub record ReadsBack (w : Wired) (c : Bool) (v : ℕ) : Type 0 where
       × (read_back w c v Setienum ≡ 0) × (read_back w c v Clrienum ≡ 0)
       × (read_back w c v SetipnumLe ≡ 0) × (read_back w c v SetipnumBe ≡ 0)
   -- hart and identity
-  pub genmsi : read_back w c v Genmsi ≡ cond (by_messages (domain_in w c)) (v / 2 ^ 18 % 4 * 2 ^ 18 + v % 256) 0
+  pub genmsi : read_back w c v Genmsi ≡ cond (by_messages (domain_in w c))
+      (v / 2 ^ 18 % 4 * 2 ^ 18 + v % 256) 0
   -- hart and priority, a written 0 becoming 1; by messages hart, in the child guest index, and identity
   pub target : (i : ℕ) → 1 ≤ i → i ≤ 63 → is_active (source_at (domain_in w c) i).mode ≡ true
       → read_back w c v (Target i)
@@ -80,7 +82,8 @@ pub record ReadsBack (w : Wired) (c : Bool) (v : ℕ) : Type 0 where
       → (v ≤ 1 → read_back w c v (Idelivery h) ≡ v)
       × (1 < v → read_back w c v (Idelivery h) ≡ read_in w c (Idelivery h))
   pub iforce : (h : ℕ) → h < 4 → by_messages (domain_in w c) ≡ false
-      → (v ≤ 1 → read_back w c v (Iforce h) ≡ v) × (1 < v → read_back w c v (Iforce h) ≡ read_in w c (Iforce h))
+      → (v ≤ 1 → read_back w c v (Iforce h) ≡ v) ×
+      (1 < v → read_back w c v (Iforce h) ≡ read_in w c (Iforce h))
   pub ithreshold : (h : ℕ) → h < 4 → by_messages (domain_in w c) ≡ false
       → read_back w c v (Ithreshold h) ≡ v % 256
   pub by-messages : (h : ℕ) → h < 4 → by_messages (domain_in w c) ≡ true

@@ -9,7 +9,8 @@
 -- Premises: 132 has none for the bits, and `WordsFit` (each word has 32 bits, as every word of a block has)
 -- where it says that a word has no others; 133 and 203 have `Sound w`, the state rules, and 203 a source that
 -- is there; 139 and 145 none. No axioms.
-use Rattle.std.specs.Prelude.{ℕ, ◌+◌, ◌*◌, ◌/◌, ◌%◌, ◌^◌, ◌<◌, ◌≤◌, ◌≡◌, Bool, true, false, cond, List, ◌≢◌, ◌↔◌, ◌⊎◌}
+use Rattle.std.specs.Prelude.{ℕ, ◌+◌, ◌*◌, ◌/◌, ◌%◌, ◌^◌, ◌<◌, ◌≤◌, ◌≡◌, Bool, true, false, cond, List, ◌≢◌}
+use Rattle.std.specs.Prelude.{◌↔◌, ◌⊎◌}
 use Rattle.words.specs.Sets.{member, WordsFit}
 use Rattle.source_mode.specs.Mode.{is_active, is_level, is_rectified}
 use Rattle.domain_region.specs.declared.Word.{Word}

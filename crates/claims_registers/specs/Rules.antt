@@ -2,14 +2,15 @@
 -- paper, and that every operation keeps them. 01, "State rules".
 --   Long w                      the lists of w have their lengths, as those of 290 words have
 --   Sound w                     they have, and w passes the test
---   all_sent w                   w after each domain sent what it had to send (claims 50 to 53)
+--   all_sent w                  w after each domain sent what it had to send (claims 50 to 53)
 --   ModeStored, TargetStored    a number that a write of a sourcecfg or a target stores
 --   SourceRules, DomainRules, WiredRules
 --                               the rules in plain statements
 -- c says that a domain is the child; m is its delivery mode, true by messages; sends: it has IE and DM.
 -- Premises: 72 has none but the length of the words; 73 has `Long w`; 74 and 75 have `Sound w`, with sources
 -- 1 to 63 and registers whose numbers are in their ranges (`Within`). No axioms.
-use Rattle.std.specs.Prelude.{ℕ, ◌+◌, ◌*◌, ◌^◌, ◌≤◌, ◌<◌, ◌≡◌, Bool, true, false, cond, ◌&&◌, List, ◌≢◌, ◌↔◌, ◌⊎◌, length}
+use Rattle.std.specs.Prelude.{ℕ, ◌+◌, ◌*◌, ◌^◌, ◌≤◌, ◌<◌, ◌≡◌, Bool, true, false, cond, ◌&&◌, List, ◌≢◌, ◌↔◌}
+use Rattle.std.specs.Prelude.{◌⊎◌, length}
 use contract.Lifetimes.{Lfts}
 use Rattle.std.specs.Borrow.{Bor}
 use Rattle.words.specs.Sets.{member}
@@ -58,7 +59,8 @@ ModeStored c v = ((v ≤ 7) × (v ≢ 2) × (v ≢ 3)) ⊎ ((c ≡ false) × (v 
 -- identity
 abbrev pub TargetStored : Bool → Bool → ℕ → Type 0
 TargetStored c m t =
-    (t ≡ hart_of t * 2 ^ 18 + cond (m && c) (guest_of t) 0 * 2 ^ 12 + number_of t) × (m ≡ false → 1 ≤ number_of t)
+    (t ≡ hart_of t * 2 ^ 18 + cond (m && c) (guest_of t) 0 * 2 ^ 12 + number_of t) ×
+    (m ≡ false → 1 ≤ number_of t)
 
 pub record SourceRules (c m sends wire : Bool) (s : Source) : Type 0 where
   pub mode : ModeStored c s.mode
@@ -78,7 +80,8 @@ pub record DomainRules (c : Bool) (wires : List ℕ) (d : Domain) : Type 0 where
   -- genmsi is 0 in direct mode
   pub direct : by_messages d ≡ false → genmsi_of d ≡ 0
   pub structures : (h : ℕ) → h < 4
-      → ((structure_at d h).idelivery ≤ 1) × ((structure_at d h).iforce ≤ 1) × ((structure_at d h).ithreshold ≤ 255)
+      → ((structure_at d h).idelivery ≤ 1) × ((structure_at d h).iforce ≤ 1) ×
+      ((structure_at d h).ithreshold ≤ 255)
   -- there is no source 0, and no wire 0
   pub zero : (member d.pending 0 ≡ false) × (member d.enable 0 ≡ false)
   pub sources : (i : ℕ) → 1 ≤ i → i ≤ 63

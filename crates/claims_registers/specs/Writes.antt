@@ -9,7 +9,8 @@
 -- Premises: 55, 56 and 58 have `DomainShaped d`, the lists of d have their lengths, as those of 144 words
 -- have; 57 has `Sound w`, the state rules; what 56 says of one source, and 58 of one target, has none.
 -- No axioms.
-use Rattle.std.specs.Prelude.{ℕ, ◌+◌, ◌/◌, ◌%◌, ◌^◌, ◌≤◌, ◌<◌, ◌≡◌, Bool, true, false, cond, ◌&&◌, List, ◌≢◌, eqb}
+use Rattle.std.specs.Prelude.{ℕ, ◌+◌, ◌/◌, ◌%◌, ◌^◌, ◌≤◌, ◌<◌, ◌≡◌, Bool, true, false, cond, ◌&&◌, List, ◌≢◌}
+use Rattle.std.specs.Prelude.{eqb}
 use Rattle.words.specs.Bits.{has_bit}
 use Rattle.words.specs.Sets.{member}
 use Rattle.source_mode.specs.Mode.{is_active, is_level, is_rectified}
@@ -47,7 +48,8 @@ unfoldable pub Claim-55 : Type 0
 Claim-55 =
     (d : Domain) (wires : List ℕ) (family : Change) (v : ℕ) → DomainShaped d
     → ((k : ℕ) → k < 2 → SourcesBecame d (word_changed d wires family k v)
-    (λ j s. cond (eqb (j / 32) k && has_bit v (j % 32)) (changed s family (by_messages d) (member wires j)) s))
+    (λ j s. cond (eqb (j / 32) k && has_bit v (j % 32))
+    (changed s family (by_messages d) (member wires j)) s))
     × (SourcesBecame d (number_changed d wires family v)
     (λ j s. cond (eqb v j) (changed s family (by_messages d) (member wires j)) s))
 

@@ -210,7 +210,8 @@ module _ (d : Domain) (shaped : DomainShaped d) where
       → Spares (sources none none (eqb i) none) d (target_written c d i v)
   kept_target c i v l h =
       kept-targets (eqb i) (λ j s. retargeted s c (by_messages d) v)
-      (touched-target_written c d i v shaped l (omega arith)) (λ j s. retargeted-pending s c (by_messages d) v)
+      (touched-target_written c d i v shaped l (omega arith))
+      (λ j s. retargeted-pending s c (by_messages d) v)
       (λ j s. retargeted-enabled s c (by_messages d) v) (λ j s. retargeted-mode s c (by_messages d) v)
 
   -- ---- a delivery structure

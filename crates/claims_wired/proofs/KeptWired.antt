@@ -36,7 +36,8 @@ use Rattle.domain_writes_laws.proofs.WritesEffects.{touched-word_changed, touche
 use Rattle.domain_topi.proofs.TopLaws.{top_source-lt}
 use Rattle.domain_direct.specs.declared.Setting.{Setting}
 use Rattle.domain_direct.specs.declared.Setting.TheVariants as setting
-use Rattle.domain_direct.specs.Direct.{top_source, unforced, released, hart_claimed, written_at, setting_written}
+use Rattle.domain_direct.specs.Direct.{top_source, unforced, released, hart_claimed, written_at}
+use Rattle.domain_direct.specs.Direct.{setting_written}
 use Rattle.domain_direct.proofs.DirectLaws.{claimed-messages, claimed-none, claimed-some, written-messages}
 use Rattle.domain_direct.proofs.DirectLaws.{written-direct}
 use Rattle.domain_registers.specs.Write.{register_written}
@@ -195,7 +196,8 @@ module _ (w : Wired) (long : Long w) where
       let d = domain_in w e in
       subst (Spares (sources (eqb i) none none none) d) (sym (at e))
       (kept-pendings (eqb i) (λ j s. wire_changed s (by_messages d) was level)
-      (touched-with_source d i (λ j s. wire_changed s (by_messages d) was level) (shaped_in e) l (omega arith))
+      (touched-with_source d i (λ j s. wire_changed s (by_messages d) was level) (shaped_in e) l
+      (omega arith))
       (λ j s. unfold wire_changed settled in refl) (λ j s. unfold wire_changed settled in refl)
       (λ j s. unfold wire_changed settled in refl))
     where

@@ -41,7 +41,8 @@ module _ (d : Domain) (wires : List ℕ) (family : Change) (shaped : DomainShape
   abbrev made : Source
   made = changed (source_at d i) family (by_messages d) (member wires i)
 
-  word-does : (v : ℕ) → has_bit v (i % 32) ≡ true → source_at (word_changed d wires family (i / 32) v) i ≡ made
+  word-does : (v : ℕ) → has_bit v (i % 32) ≡ true → source_at (word_changed d wires family (i / 32) v) i
+      ≡ made
   unfolding named
   word-does v b =
       (touched-word_changed d wires family v shaped (i / 32) (omega arith)).source i l h

@@ -5,8 +5,8 @@
 --                        domaincfg; genmsi; the three settable numbers of hart h
 --   sources p e t m      pending bits of p, enable bits of e, targets of t, sourcecfg words of m
 --   harts d f t          idelivery of the harts of d, iforce of f, ithreshold of t
---   in_word k v i         v, written to word k of a family, has the bit of source i
---   while_direct d h      hart h, if the domain d is in direct mode
+--   in_word k v i        v, written to word k of a family, has the bit of source i
+--   while_direct d h     hart h, if the domain d is in direct mode
 --   writes d r v         a write of v to register r of d: what it may change in d
 --   reads d r            a read of register r of d: what it may change in d
 --   writes_in w c r v e, reads_in w c r e
@@ -181,7 +181,8 @@ pub record Spares (t : Touch) (d d' : Domain) : Type 0 where
       → (source_at d' i).pending ≡ (source_at d i).pending
   pub enabled : (i : ℕ) → 1 ≤ i → i ≤ 63 → t.enabled i ≡ false
       → (source_at d' i).enabled ≡ (source_at d i).enabled
-  pub target : (i : ℕ) → 1 ≤ i → i ≤ 63 → t.target i ≡ false → (source_at d' i).target ≡ (source_at d i).target
+  pub target : (i : ℕ) → 1 ≤ i → i ≤ 63 → t.target i ≡ false → (source_at d' i).target ≡
+      (source_at d i).target
   pub mode : (i : ℕ) → 1 ≤ i → i ≤ 63 → t.mode i ≡ false → (source_at d' i).mode ≡ (source_at d i).mode
   pub domaincfg : t.domaincfg ≡ false → domaincfg_of d' ≡ domaincfg_of d
   pub genmsi : t.genmsi ≡ false → genmsi_of d' ≡ genmsi_of d

@@ -41,7 +41,8 @@ RegistersDo =
     → Does d (written (Setip (i / 32)) v) i raised × Does d (written (InClrip (i / 32)) v) i clrip)
     × Does d (written Setipnum i) i raised × Does d (written SetipnumLe i) i raised
     × Does d (written SetipnumBe (reversed i)) i raised × Does d (written Clripnum i) i clrip
-    × ((h : ℕ) → h < 4 → by_messages d ≡ false → top_source d h ≡ i → Does d (claimed_by d (Claimi h)) i claim)
+    × ((h : ℕ) → h < 4 → by_messages d ≡ false → top_source d h ≡ i → Does d
+    (claimed_by d (Claimi h)) i claim)
     × ((is_enabled d && by_messages d) ≡ true → candidate (source_at d i) ≡ true
     → Does d (sending.sent c d).domain i sent)
 

@@ -1,7 +1,7 @@
 -- Claim-179, on the settable numbers of a delivery structure as a record that is lent and changed in place,
 -- by `set_idelivery`, `set_iforce` and `set_ithreshold`. 01, "Direct delivery and signals".
 --   X-code.statement M           the code of X meets its contract, with resources M
---   X 𝓛 m f l (r, (v, tt))   the contract of X for a call that is lent r and given v: what it `requires`,
+--   X 𝓛 m f l (r, (v, tt))       the contract of X for a call that is lent r and given v: what it `requires`,
 --                                and what it `ensures` where r is r' afterwards. What else a contract may
 --                                speak of, the heap, memory, other code and lifetimes, these do not
 --   Says 𝓤 asked ensured φ       what is asked is had for nothing, and φ follows from what is ensured

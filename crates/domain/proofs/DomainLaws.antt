@@ -17,7 +17,8 @@ domain-path s t p e x =
     λ k. record { source = s k; target = t k; pending = p k; enable = e k; delivery = x k }
 
 module _ (l : List ℕ) (i v : ℕ) where
-  pub store-source : i < 64 → domain_of (set l i v) ≡ with_sources (domain_of l) (set (domain_of l).source i v)
+  pub store-source : i < 64 → domain_of (set l i v) ≡ with_sources (domain_of l)
+      (set (domain_of l).source i v)
   unfolding domain_of
   store-source h =
       domain-path (take-set-lt 64 l i v h) (segment-before l 64 64 i v (omega arith))

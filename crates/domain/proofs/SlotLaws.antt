@@ -51,7 +51,8 @@ module _ (l : List ℕ) (i : ℕ) (h : i < 64) where
       ap (λ (w : ℕ). has_bit w (i % 32)) (read-enable l (i / 32) (omega arith))
       ∙ member-word (domain_of l).enable i
 
-  pub slot_read : (p e : Bool) → p ≡ (source_at (domain_of l) i).pending → e ≡ (source_at (domain_of l) i).enabled
+  pub slot_read : (p e : Bool) → p ≡ (source_at (domain_of l) i).pending → e ≡
+      (source_at (domain_of l) i).enabled
       → record { mode = get_or l i 0; target = get_or l (64 + i) 0; pending = p; enabled = e } ≡ source_at
       (domain_of l) i
   unfolding source_at

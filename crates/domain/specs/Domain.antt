@@ -1,13 +1,13 @@
 -- A domain of the wired controller. 01, "The wired controller"; the standard 4.5. Assumes nothing.
 --   Domain                 source: domaincfg, then sourcecfg[1] to [63]; target: genmsi, then target[1] to
 --                          [63]; pending, enable: sets of sources; delivery: three numbers of each hart
---   domain_of l             the domain whose 144 words are l
---   ie_bit, dm_bit           where domaincfg has IE and DM
---   domaincfg_of d          the stored domaincfg: IE at bit 8, DM at bit 2
---   is_enabled d            IE
---   by_messages d           DM: true by messages, false direct
+--   domain_of l            the domain whose 144 words are l
+--   ie_bit, dm_bit         where domaincfg has IE and DM
+--   domaincfg_of d         the stored domaincfg: IE at bit 8, DM at bit 2
+--   is_enabled d           IE
+--   by_messages d          DM: true by messages, false direct
 --   sends d                the domain sends: IE and DM
---   genmsi_of d             the stored genmsi
+--   genmsi_of d            the stored genmsi
 -- There is no source 0: place 0 of source has domaincfg, and place 0 of target genmsi, as in the region.
 use Rattle.std.specs.Prelude.{ℕ, Bool, ◌&&◌, List, get_or, take, drop, set}
 use Rattle.sizes.specs.Sizes.{slot_count, source_set_size, structures_size, targets_place, pendings_place}

@@ -2,7 +2,7 @@
 -- nothing.
 --   source_at d i        source i: its sourcecfg and target words, its pending and enable bits
 --   with_source d i s    d with source i as s
---   standing d i        source i is pending and enabled
+--   standing d i         source i is pending and enabled
 use Rattle.std.specs.Prelude.{ℕ, Bool, ◌&&◌, get_or, set}
 use Rattle.words.specs.Sets.{member, put}
 use Rattle.source.specs.declared.Source.{Source}

@@ -1,13 +1,13 @@
 -- A hart's delivery structure: its three settable numbers, and what follows from them. 01, "Direct delivery
 -- and signals"; the standard 4.8.1, 4.8.2. Assumes nothing.
---   switch_of old v        what a register that stores only 0 and 1 holds after v was written, old before
---   with_idelivery d v     d after a write to idelivery (4.8.1.1)
---   with_iforce d v        d after a write to iforce (4.8.1.2)
---   with_ithreshold d v    d after a write to ithreshold, of which the low 8 bits are kept (4.8.1.3)
---   without_force d        d after a claimi that answered 0 (4.8.1.5)
---   delivery_sound d       the numbers lie in their ranges: the first two 0 or 1, the threshold below 256
---   lets d p              the threshold lets priority p through (4.8.1.3)
---   structure_signals d e t   the signal to the hart, with IE e and topi t, in direct mode (4.8.2)
+--   switch_of old v          what a register that stores only 0 and 1 holds after v was written, old before
+--   with_idelivery d v       d after a write to idelivery (4.8.1.1)
+--   with_iforce d v          d after a write to iforce (4.8.1.2)
+--   with_ithreshold d v      d after a write to ithreshold, of which the low 8 bits are kept (4.8.1.3)
+--   without_force d          d after a claimi that answered 0 (4.8.1.5)
+--   delivery_sound d         the numbers lie in their ranges: the first two 0 or 1, the threshold below 256
+--   lets d p                 the threshold lets priority p through (4.8.1.3)
+--   structure_signals d e t  the signal to the hart, with IE e and topi t, in direct mode (4.8.2)
 -- All 32 bits of a written v count for the first two.
 use Rattle.std.specs.Prelude.{ℕ, ◌%◌, Bool, cond, not, ◌&&◌, ◌||◌, eqb, leb, ltb}
 use Rattle.words.specs.Threshold.{passes}

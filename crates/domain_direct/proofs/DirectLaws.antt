@@ -35,7 +35,8 @@ module _ (d : Domain) (h : ℕ) where
   unfolding hart_claimed
   claimed-none m z = simp (m, eq-eqb (top_source d h) 0 z)
 
-  pub claimed-some : by_messages d ≡ false → top_source d h ≢ 0 → hart_claimed d h ≡ released d (top_source d h)
+  pub claimed-some : by_messages d ≡ false → top_source d h ≢ 0 → hart_claimed d h ≡ released d
+      (top_source d h)
   unfolding hart_claimed
   claimed-some m n = simp (m, ne_eqb (top_source d h) 0 n)
 

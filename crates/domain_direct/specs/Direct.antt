@@ -1,7 +1,7 @@
 -- The delivery structures at work: claimi, the settable numbers, the signal to a hart; topi is in Top. 01,
 -- "Direct delivery and signals"; the standard 4.8.1, 4.8.2.
---   unforced d h              d with iforce of hart h cleared
---   released d i              d with the pending bit of source i cleared as 4.7 allows in direct mode
+--   unforced d h               d with iforce of hart h cleared
+--   released d i               d with the pending bit of source i cleared as 4.7 allows in direct mode
 --   hart_claimed d h           d after a claimi: the top released; with no top, iforce cleared (4.8.1.5)
 --   signal_of d h              the signal of d to hart h (4.8.2)
 --   number_at x g              the settable number g of a structure x

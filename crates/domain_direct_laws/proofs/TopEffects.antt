@@ -166,7 +166,8 @@ module _ (d : Domain) (h : ℕ) where
   pub topi_of-lt : topi_of d h < 2 ^ 32
   topi_of-lt =
       tested (by_messages d) (λ m. omega (arith, word.topi-messages d h m))
-      (λ m. tested (eqb (top_source d h) 0) (λ t. omega (arith, (topi-zero m).1 (eqb-true (top_source d h) 0 t)))
+      (λ m. tested (eqb (top_source d h) 0)
+      (λ t. omega (arith, (topi-zero m).1 (eqb-true (top_source d h) 0 t)))
       (λ f. omega (
         arith,
         topi-is m (eqb-false (top_source d h) 0 f),

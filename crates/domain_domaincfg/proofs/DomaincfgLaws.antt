@@ -56,7 +56,8 @@ module _ (d : Domain) (ws : List ℕ) (i : ℕ) where
   pub source-inactive : is_active (source_at d i).mode ≡ false → d ≡ redelivered_at d ws i
   unfolding redelivered_at
   source-inactive a =
-      sym (ap (with_source d i) (redelivered-inactive _ (by_messages d) (member ws i) a) ∙ with_source-back d i)
+      sym (ap (with_source d i) (redelivered-inactive _ (by_messages d) (member ws i) a)
+      ∙ with_source-back d i)
 
   module _ (active : is_active (source_at d i).mode ≡ true) where
     -- e is the domain after its target, and e' after its pending bit too

@@ -1,10 +1,10 @@
 -- What genmsi stores, reads and sends. 01, "The wired controller"; the standard 4.5.15. Assumes nothing.
---   kept_genmsi v          what a write of v keeps: hart and identity
---   genmsi_message c v     the message that it sends: to file 1 of the hart in the child, to file 0 in the
+--   kept_genmsi v         what a write of v keeps: hart and identity
+--   genmsi_message c v    the message that it sends: to file 1 of the hart in the child, to file 0 in the
 --                         machine domain
---   genmsi_written d v     d after v was written to genmsi, which only counts by messages
---   genmsi_read d          what genmsi of d reads: 0 in direct mode
---   genmsi_sent c d v      the messages of a write of v to genmsi of d: one in message mode, whatever IE is
+--   genmsi_written d v    d after v was written to genmsi, which only counts by messages
+--   genmsi_read d         what genmsi of d reads: 0 in direct mode
+--   genmsi_sent c d v     the messages of a write of v to genmsi of d: one in message mode, whatever IE is
 -- c says that the domain is the child.
 use Rattle.std.specs.Prelude.{ℕ, Bool, cond, List, [], ◌∷◌}
 use Rattle.source_target.specs.Target.{hart_at}

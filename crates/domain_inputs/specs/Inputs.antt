@@ -1,9 +1,9 @@
 -- What in_clrip reads: the rectified value of each source, which is low for an inactive or detached one. 02,
 -- M-101; the standard 4.5.7. Assumes nothing.
---   input_bit d ws i      source i reads as 1: the mode that it has in d makes a high value of its wire, one
+--   input_bit d ws i     source i reads as 1: the mode that it has in d makes a high value of its wire, one
 --                        of the wires ws
---   inputs_to d ws k n    the lowest n bits of word k
---   input_word d ws k     word k
+--   inputs_to d ws k n   the lowest n bits of word k
+--   input_word d ws k    word k
 use Rattle.std.specs.Prelude.{ℕ, zero, suc, ◌+◌, ◌*◌, Bool, ◌&&◌, List, leb}
 use Rattle.words.specs.Bits.{put_bit}
 use Rattle.words.specs.Sets.{member}

@@ -73,6 +73,7 @@ module _ (f : ℕ → Source → Source) where
       (λ j _ _. rw (among_none i j))
   touched-with_each d i (suc n) shaped l h =
       let one = touched-with_source d i f shaped l (omega arith) in
-      let rest = touched-with_each (with_source d i (f i (source_at d i))) (suc i) n one.shaped (omega arith) (omega arith) in
+      let rest = touched-with_each (with_source d i (f i (source_at d i))) (suc i) n one.shaped (omega arith)
+      (omega arith) in
       touched-as (became-touched one rest) (λ j s. cond (among i (suc n) j) (f j s) s)
       (λ j _ _. once (f j) (source_at d j) i n j (ℕ_discrete i j))

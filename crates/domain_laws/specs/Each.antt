@@ -1,6 +1,6 @@
 -- Several sources of a domain replaced, one after the other. Assumes nothing.
 --   with_each f d i n    d with each source j of the n from i on as f j makes it
---   among i n j         j is one of the n numbers from i on
+--   among i n j          j is one of the n numbers from i on
 use Rattle.std.specs.Prelude.{ℕ, zero, suc, ◌+◌, Bool, ◌&&◌, leb, ltb}
 use Rattle.source.specs.declared.Source.{Source}
 use Rattle.domain.specs.Domain.{Domain}

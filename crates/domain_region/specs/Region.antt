@@ -1,16 +1,17 @@
 -- The registers of a domain's region by their addresses. 01, "The wired controller", "Direct delivery and
 -- signals"; the standard 4.5, Table 4.1, and 4.8.1. Assumes nothing.
 --   address_legal a       a is a multiple of 4 below 0x5000, the size of a region
---   Row                  registers that differ by a number: name k is at base + step k, k from first to last
---   one b w              the row of w alone, at b
+--   Row                   registers that differ by a number: name k is at base + step k, k from first to last
+--   one b w               the row of w alone, at b
 --   words_from b m n r    the row of r k at b + 4 k, k from m to n
---   structures o r       the row of r h at o in the delivery structure of hart h, 0 to 3: 0x4000 + 32 h + o
---   registers            every register that there is, no two at one address
+--   structures o r        the row of r h at o in the delivery structure of hart h, 0 to 3: 0x4000 + 32 h + o
+--   registers             every register that there is, no two at one address
 --   name_in r a w         the register that the row r has at a, or w
 --   word_in rs a          the register that the rows rs have at a, or Unused
 --   word_at a             the register at a, or Unused if a is not named here, or is no multiple of 4
---   Within w             the number that w carries is in its range
-use Rattle.std.specs.Prelude.{ℕ, ◌+◌, ◌-◌, ◌*◌, ◌/◌, ◌%◌, ◌≤◌, ◌<◌, Bool, cond, ◌&&◌, List, [], ◌∷◌, eqb, leb, ltb}
+--   Within w              the number that w carries is in its range
+use Rattle.std.specs.Prelude.{ℕ, ◌+◌, ◌-◌, ◌*◌, ◌/◌, ◌%◌, ◌≤◌, ◌<◌, Bool, cond, ◌&&◌, List, [], ◌∷◌, eqb, leb}
+use Rattle.std.specs.Prelude.{ltb}
 use Rattle.sizes.specs.Sizes.{hart_count, source_count, source_set_size}
 use Rattle.domain_region.specs.declared.Word.{Word}
 use Rattle.domain_region.specs.declared.Word.TheVariants.{Domaincfg, Sourcecfg, Setip, Setipnum}

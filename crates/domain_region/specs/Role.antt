@@ -1,7 +1,7 @@
 -- What is special about a register: a claimi claims when it is read, a sourcecfg concerns both domains when
 -- it is written, genmsi sends at once. 01, "The wired controller", "Direct delivery and signals"; the
 -- standard 4.5.15, 4.8.1.5. Assumes nothing.
---   role_of w    the role of register w: Claims h for the claimi of hart h, Configures i for the sourcecfg of
+--   role_of w   the role of register w: Claims h for the claimi of hart h, Configures i for the sourcecfg of
 --               source i, Generates for genmsi, and Plain for every other register
 use Rattle.domain_region.specs.declared.Word.{Word}
 use Rattle.domain_region.specs.declared.Word.TheVariants.{Domaincfg, Sourcecfg, Setip, Setipnum}

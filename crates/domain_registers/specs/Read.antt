@@ -1,7 +1,7 @@
 -- What a read of a register does besides; what it gives is in Rattle.domain_values. 01, "The wired
 -- controller",
 -- "Direct delivery and signals". Assumes nothing.
---   register_value d ws w           what a register reads: Rattle.domain_values
+--   register_value d ws w     what a register reads: Rattle.domain_values
 --   claimed_as d r            d after a register of role r was read: a claimi claims, the others do nothing
 --   claimed_by d w            d after register w was read
 use Rattle.domain_region.specs.declared.Word.{Word}

@@ -79,7 +79,8 @@ standing-served d i j n =
 
 pub walk-served : (d : Domain) {all rest i : ℕ} → Walk (standing d) all rest i → rest ≢ 0 → (d' : Domain)
     → d' ≡ served_at d (i + count_trailing_zeros 64 rest)
-    → Walk (standing d') all (rest / 2 ^ count_trailing_zeros 64 rest / 2) (i + count_trailing_zeros 64 rest + 1)
+    → Walk (standing d') all (rest / 2 ^ count_trailing_zeros 64 rest / 2)
+    (i + count_trailing_zeros 64 rest + 1)
 walk-served d w some d' e =
     walk-next w some (standing d')
     (λ j n. standing-served d _ j (λ q. omega arith) ∙ ap (λ (x : Domain). standing x j) (sym e))
@@ -87,7 +88,8 @@ walk-served d w some d' e =
 -- ---- one turn, as the code counts
 
 module _ (c : Bool) (d : Domain) (i : ℕ) (h : i < 64) where
-  turn-domain : (sent_from c d i (64 - i)).domain ≡ (sent_from c (served_at d i) (i + 1) (64 - (i + 1))).domain
+  turn-domain : (sent_from c d i (64 - i)).domain ≡
+      (sent_from c (served_at d i) (i + 1) (64 - (i + 1))).domain
   turn-domain =
       ap (λ (k : ℕ). (sent_from c d i k).domain) (omega arith) ∙ from-domain c d i (64 - (i + 1))
       ∙ ap (λ (k : ℕ). (sent_from c (served_at d i) k (64 - (i + 1))).domain) (omega arith)
@@ -96,7 +98,8 @@ module _ (c : Bool) (d : Domain) (i : ℕ) (h : i < 64) where
       ≡ messages_at c d i ++ (sent_from c (served_at d i) (i + 1) (64 - (i + 1))).messages
   turn-messages =
       ap (λ (k : ℕ). (sent_from c d i k).messages) (omega arith) ∙ from-messages c d i (64 - (i + 1))
-      ∙ ap (λ (k : ℕ). messages_at c d i ++ (sent_from c (served_at d i) k (64 - (i + 1))).messages) (omega arith)
+      ∙ ap (λ (k : ℕ). messages_at c d i ++ (sent_from c (served_at d i) k (64 - (i + 1))).messages)
+      (omega arith)
 
 -- sources that are not to be sent, as the code counts
 skipped : (c : Bool) (d : Domain) (i k : ℕ) → i ≤ k → k ≤ 64

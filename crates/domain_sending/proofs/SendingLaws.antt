@@ -50,12 +50,14 @@ module _ (c : Bool) (d : Domain) (i : ℕ) where
   unfolding sent_from
   from_zero = refl
 
-  pub from-domain : (n : ℕ) → (sent_from c d i (suc n)).domain ≡ (sent_from c (served_at d i) (suc i) n).domain
+  pub from-domain : (n : ℕ) → (sent_from c d i (suc n)).domain ≡
+      (sent_from c (served_at d i) (suc i) n).domain
   unfolding sent_from
   from-domain n = refl
 
   pub from-messages : (n : ℕ)
-      → (sent_from c d i (suc n)).messages ≡ messages_at c d i ++ (sent_from c (served_at d i) (suc i) n).messages
+      → (sent_from c d i (suc n)).messages ≡ messages_at c d i ++
+      (sent_from c (served_at d i) (suc i) n).messages
   unfolding sent_from
   from-messages n = refl
 

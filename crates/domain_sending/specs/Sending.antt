@@ -2,9 +2,9 @@
 -- Assumes nothing.
 --   candidate s         a source that is to be sent: Rattle.source
 --   Sent                a domain after the pass over its sources, and the messages sent, in order
---   served_at d i        d after the turn of source i: if it was to be sent, its pending bit is clear
---   messages_at c d i    what source i sends at its turn: one message if it is to be sent, else none
---   sent_from c d i n    the pass over the n sources from i on
+--   served_at d i       d after the turn of source i: if it was to be sent, its pending bit is clear
+--   messages_at c d i   what source i sends at its turn: one message if it is to be sent, else none
+--   sent_from c d i n   the pass over the n sources from i on
 --   sent c d            the pass over sources 1 to 63, of a domain with IE and DM; any other sends nothing
 --   logged l ms         the log l after the messages ms: they come first, the later words stay
 -- c says that the domain is the child.

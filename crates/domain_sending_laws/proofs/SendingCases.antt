@@ -29,14 +29,18 @@ some v =
 
 -- with IE and DM source 7 is sent, in the child as T8 says, in the machine domain to file 0
 case-sent : ((sent true (some 0x104)).messages ≡ 4648 ∷ []) × ((sent false (some 0x104)).messages ≡ 4136 ∷ [])
-unfolding sent sent_from served_at messages_at candidate source_at with_source domaincfg_of is_enabled by_messages
-    is_active message_of log_word hart_of guest_of number_of field_of member put remove without_bit has_bit bit_of
+unfolding sent sent_from served_at messages_at candidate source_at with_source domaincfg_of is_enabled
+    by_messages
+    is_active message_of log_word hart_of guest_of number_of field_of member put remove without_bit has_bit
+    bit_of
 case-sent = (refl, refl)
 
 -- and only its pending bit is cleared
 case-cleared : (sent true (some 0x104)).domain.pending ≡ 4 ∷ 0 ∷ []
-unfolding sent sent_from served_at candidate source_at with_source domaincfg_of is_enabled by_messages is_active
-    messages_at message_of log_word hart_of guest_of number_of field_of member put remove without_bit has_bit bit_of
+unfolding sent sent_from served_at candidate source_at with_source domaincfg_of is_enabled by_messages
+    is_active
+    messages_at message_of log_word hart_of guest_of number_of field_of member put remove without_bit has_bit
+    bit_of
 case-cleared = refl
 
 -- with DM alone, or IE alone, nothing is

@@ -21,7 +21,8 @@ use Rattle.domain.specs.Slot.{source_at}
 use Rattle.domain.proofs.SlotLaws.{source-path}
 use Rattle.domain_laws.proofs.SetsBack.{member-within}
 use Rattle.domain_laws.proofs.SlotEffects.{with_source-unpended}
-use Rattle.domain_sending.specs.Sending.{candidate, Sent, sent_nothing, served_at, messages_at, sent_from, sent}
+use Rattle.domain_sending.specs.Sending.{candidate, Sent, sent_nothing, served_at, messages_at, sent_from}
+use Rattle.domain_sending.specs.Sending.{sent}
 use Rattle.domain_sending.proofs.SendingLaws.{served-hit, served-miss, messages-hit, messages-miss}
 use Rattle.domain_sending.proofs.SendingLaws.{messages-le}
 use Rattle.domain_sending.proofs.SendingLaws.{from-none, sent-on, sent-off}
@@ -144,7 +145,8 @@ module _ (c : Bool) where
   abbrev after : Domain → ℕ → ℕ → ℕ → Source
   after d i n j = source_at (sent_from c d i n).domain j
 
-  from-other : (d : Domain) (i n j : ℕ) → ((k : ℕ) → i ≤ k → k < i + n → j ≢ k) → after d i n j ≡ source_at d j
+  from-other : (d : Domain) (i n j : ℕ) → ((k : ℕ) → i ≤ k → k < i + n → j ≢ k) → after d i n j
+      ≡ source_at d j
   unfolding sent_from
   from-other d i zero j apart = refl
   from-other d i (suc n) j apart =
@@ -187,7 +189,8 @@ messages-front : (c : Bool) (d : Domain) (i : ℕ) (is : List ℕ)
     ≡ map (message_at c d) (those_with (λ k. candidate (source_at d k)) (i ∷ is))
 unfolding those_with
 messages-front c d i is =
-    tested (candidate (source_at d i)) (λ t. rw (messages-hit c d i t, t)) (λ f. rw (messages-miss c d i f, f))
+    tested (candidate (source_at d i)) (λ t. rw (messages-hit c d i t, t))
+    (λ f. rw (messages-miss c d i f, f))
 
 -- e is d after the turns before i: the sources from i on are those of d
 pub from-messages-of : (c : Bool) (d e : Domain) (i n : ℕ) → ((j : ℕ) → i ≤ j → source_at e j ≡ source_at d j)

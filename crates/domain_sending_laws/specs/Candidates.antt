@@ -1,13 +1,13 @@
 -- The sources that a pass sends, by number, and what a pass leaves of them. 01, "The wired controller"; the
 -- standard 4.7, 4.9. Assumes nothing.
---   numbers_from i n       the n numbers from i on, ascending
---   those_with p l         the numbers of l that p holds of, in the order of l
---   candidates d          the sources of 1 to 63 that are active, pending and enabled, ascending
---   message_at c d i       the message that source i would send, in the child (c) or the machine domain
---   spent s               a source after its turn: if it was to be sent, its pending bit is clear
---   DomainPendingOnly d d'   d' is d in all but its pending bits
---   Names c m             the log word m names a file that the domain sends to: file 0 for the machine
---                         domain, a file of 1 to 4 for the child
+--   numbers_from i n        the n numbers from i on, ascending
+--   those_with p l          the numbers of l that p holds of, in the order of l
+--   candidates d            the sources of 1 to 63 that are active, pending and enabled, ascending
+--   message_at c d i        the message that source i would send, in the child (c) or the machine domain
+--   spent s                 a source after its turn: if it was to be sent, its pending bit is clear
+--   DomainPendingOnly d d'  d' is d in all but its pending bits
+--   Names c m               the log word m names a file that the domain sends to: file 0 for the machine
+--                           domain, a file of 1 to 4 for the child
 use Rattle.std.specs.Prelude.{ℕ, zero, suc, ◌≤◌, ◌<◌, ◌≡◌, Bool, true, false, cond, List, [], ◌∷◌}
 use Rattle.sizes.specs.Sizes.{hart_files, source_count}
 use Rattle.file_message.specs.Message.{file_in}

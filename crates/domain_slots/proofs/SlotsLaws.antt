@@ -110,7 +110,8 @@ pub so-far-end : (c : Bool) (d : Domain) (i : ℕ) {g : Gathered} → i ≡ 64 �
 so-far-end c d i {g} e s = transport (λ j. SoFar c d (e j) g) s
 
 module _ (c : Bool) (d : Domain) (i : ℕ) (g r : Gathered) (h : 0 < i) where
-  pub so_far_more : SoFar c d i g → Slotted c (by_messages d) (source_at d i).mode (source_at d i).target i g r
+  pub so_far_more : SoFar c d i g → Slotted c (by_messages d) (source_at d i).mode
+      (source_at d i).target i g r
       → SoFar c d (i + 1) r
   unfolding slot_at
   so_far_more s n = record {

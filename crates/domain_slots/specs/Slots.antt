@@ -1,6 +1,6 @@
 -- What one pass over the words of a domain's sources gathers; the words of one source are in SourceParts. No
 -- claim cites this file. Assumes nothing.
---   slot_at c d i       the words of source i are in range (slot_sound)
+--   slot_at c d i      the words of source i are in range (slot_sound)
 --   has q d i          i is a source whose sourcecfg word has q
 --   SoFar c d i g      g is what the sources below i give
 --   Slotted .. g r     r is g with one source more

@@ -34,7 +34,8 @@ module _ {d : Domain} {h all rest i best : ℕ} (l : Left d h all rest i best) w
       (λ j n m. eligible-unstanding d h j (walk_none l.walk none j n (omega arith)))
 
   pub left-next : rest ≢ 0 → (best' : ℕ) → best' ≡ better d h (i + count_trailing_zeros 64 rest) best
-      → Left d h all (rest / 2 ^ count_trailing_zeros 64 rest / 2) (i + count_trailing_zeros 64 rest + 1) best'
+      → Left d h all (rest / 2 ^ count_trailing_zeros 64 rest / 2)
+      (i + count_trailing_zeros 64 rest + 1) best'
   left-next some best' e =
       let next = i + count_trailing_zeros 64 rest in
       let high : next < 64 = walk-lt l.walk some in

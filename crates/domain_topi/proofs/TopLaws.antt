@@ -3,8 +3,8 @@
 --   eligible-..        what counts, test by test
 --   precedes-..        what goes before what
 --   better-..          one step of the search
---   top_from-..         the search from a source on: step by step, in two parts, where nothing counts
---   top_source-..       the search over all sources
+--   top_from-..        the search from a source on: step by step, in two parts, where nothing counts
+--   top_source-..      the search over all sources
 use Prim.Native.Nat.{ℕ, zero, suc, ◌+◌, ◌-◌, ◌≤◌, ◌<◌}
 use mathlib.Core.Path.{◌≡◌, refl, sym, ap, ap₂, ◌∙◌}
 use mathlib.Core.Bool.{true, false, cond, ◌&&◌, and-false}
@@ -102,7 +102,8 @@ module _ (d : Domain) (h : ℕ) where
       → top_from d h i n b ≡ b
   top_from-none i zero b none = top_from-end i b
   top_from-none i (suc n) b none =
-      top_from-next i n b ∙ ap (top_from d h (suc i) n) (better-other i b (none i (omega arith) (omega arith)))
+      top_from-next i n b ∙ ap (top_from d h (suc i) n)
+      (better-other i b (none i (omega arith) (omega arith)))
       ∙ top_from-none (suc i) n b (λ j l m. none j (omega arith) (omega arith))
 
   -- sources that do not count are passed over

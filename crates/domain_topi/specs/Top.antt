@@ -4,10 +4,10 @@
 --   eligible d h i            source i counts for hart h: it is pending and enabled, its target names h, and
 --                             the threshold of h lets its priority through (4.8.1.3, 4.8.1.4)
 --   precedes d i b            source i goes before b: there is no b (0), or i has the lesser priority number
---   top_from d h i n b         the best of b and the n sources from i on that count for h
---   top_source d h             the source that topi names, or 0: of those of 1 to 63 that count for h the one
+--   top_from d h i n b        the best of b and the n sources from i on that count for h
+--   top_source d h            the source that topi names, or 0: of those of 1 to 63 that count for h the one
 --                             with the least priority number, the lowest among equals
---   topi_of d h                topi: source × 65536 + priority, or 0 (4.8.1.4)
+--   topi_of d h               topi: source × 65536 + priority, or 0 (4.8.1.4)
 -- By messages topi reads 0. It looks at neither IE nor idelivery. Assumes nothing.
 use Rattle.std.specs.Prelude.{ℕ, zero, suc, ◌+◌, ◌*◌, Bool, cond, ◌&&◌, ◌||◌, eqb, ltb}
 use Rattle.sizes.specs.Sizes.{source_count}

@@ -24,7 +24,8 @@ use Rattle.domain_laws.proofs.OwnEffects.{by_messages-with_source}
 use Rattle.domain_laws.proofs.BecameEffects.{became-with_domaincfg, became-with_genmsi, became-joined}
 use Rattle.domain_laws.proofs.BecameEffects.{became-touched, became-as, became-messages, became-enabled}
 use Rattle.domain_laws.proofs.BecameEffects.{touched_none, touched-as}
-use Rattle.domain_domaincfg.specs.Domaincfg.{kept_domaincfg, redelivered_at, redelivered_from, domaincfg_written}
+use Rattle.domain_domaincfg.specs.Domaincfg.{kept_domaincfg, redelivered_at, redelivered_from}
+use Rattle.domain_domaincfg.specs.Domaincfg.{domaincfg_written}
 use Rattle.domain_domaincfg.proofs.DomaincfgLaws.{mode-same, mode-changed}
 use Rattle.domain_genmsi.specs.Genmsi.{genmsi_written}
 use Rattle.domain_genmsi.proofs.GenmsiLaws.{genmsi-messages, genmsi-direct}

@@ -1,7 +1,7 @@
 -- What the writes of specs/Writes.antt make of each source, and that they leave the rest of the domain. No
 -- contract cites this file. Assumes nothing.
 --   touched-..     the whole of it, as specs/Became.antt of domain_laws has it
---   source_at-..    one source of it: -same the one that was named, -other any other
+--   source_at-..   one source of it: -same the one that was named, -other any other
 use Prim.Native.Nat.{ℕ, zero, suc, ◌+◌, ◌/◌, ◌%◌, ◌≤◌, ◌<◌}
 use mathlib.Core.Path.{◌≡◌, refl, sym, ◌∙◌}
 use mathlib.Core.Bool.{Bool, true, false, cond, ◌&&◌}
@@ -136,7 +136,8 @@ module _ (d : Domain) (ws : List ℕ) (c : Change) (v : ℕ) (shaped : DomainSha
       (changing d ws c (named k v))
       (λ j lj hj. rw (same j lj hj) (cond-and (eqb (j / 32) k) (has_bit v (j % 32)) _ _)))
 
-  pub touched-word_changed : (k : ℕ) → k < 2 → Touched d (word_changed d ws c k v) (changing d ws c (named k v))
+  pub touched-word_changed : (k : ℕ) → k < 2 → Touched d (word_changed d ws c k v)
+      (changing d ws c (named k v))
   touched-word_changed zero h =
       rw (word_first d ws c v 0 refl)
       (word-touched 0 1 31 (omega arith) (omega arith) (λ j lj hj. word-zero j lj))

@@ -3,7 +3,7 @@
 --   named k v j            v, written to word k of a family, names source j
 --   changing d ws c p j    what a write of the family c that names the sources of p makes of source j of d;
 --                          ws are the wires
---   keeps_mode d v          v, written to domaincfg, has the DM that d has
+--   keeps_mode d v         v, written to domaincfg, has the DM that d has
 use Rattle.std.specs.Prelude.{ℕ, ◌/◌, ◌%◌, Bool, cond, ◌&&◌, List, eqb}
 use Rattle.std.specs.Bool.{beq}
 use Rattle.domain.specs.Domain.{dm_bit}

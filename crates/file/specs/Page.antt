@@ -1,5 +1,5 @@
 -- A file's page. 01, "One message file"; the standard 3.5. Assumes nothing.
---   arrived n f i          f after a message with the number i: pending bit i set if 1 ≤ i ≤ n, else f
+--   arrived n f i           f after a message with the number i: pending bit i set if 1 ≤ i ≤ n, else f
 --   page_written n f a v    f after v was written at offset a: 0 takes the number, 4 with its bytes reversed
 --   page_read f a           what a read at offset a gives: always 0
 -- Delivery plays no part in arrival, and a write at any other offset does nothing.

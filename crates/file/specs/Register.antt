@@ -2,7 +2,7 @@
 -- the crate file_select. 01, "One message file", "Calls and their refusals". Assumes nothing.
 --   held f r                   what register r of f reads
 --   written n g f r v          f after v was written to r; g says that f is a guest's file
---   accessed_at n g f k r v     an access of kind k to register r: the answer and the file after it
+--   accessed_at n g f k r v    an access of kind k to register r: the answer and the file after it
 --   accessed n g f k s v       the same by select number s; an illegal one has an answer of its own
 use Rattle.std.specs.Prelude.{ℕ, ◌+◌, ◌%◌, Bool, cond}
 use Rattle.words.specs.Bits.{union, without}

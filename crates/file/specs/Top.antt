@@ -3,8 +3,8 @@
 --   passes t i         threshold t lets identity i through: Rattle.words
 --   qualifies f i      i is pending and enabled, and the threshold lets it through
 --   lowest p i k       the least of the k numbers from i on at which p holds, or 0: Rattle.file_search
---   top_identity n f    the lowest identity of 1 to n that qualifies, or 0
---   top_of n f          the same twice, as identity × 65536 + identity
+--   top_identity n f   the lowest identity of 1 to n that qualifies, or 0
+--   top_of n f         the same twice, as identity × 65536 + identity
 --   claimed n f        f after a claim: the top's pending bit cleared; with no top, f
 --   signals n f        f signals by itself: delivery is 1 and the top is not 0
 use Rattle.std.specs.Prelude.{ℕ, ◌+◌, ◌*◌, Bool, cond, not, ◌&&◌, eqb}

@@ -291,4 +291,5 @@ module _ (n : ℕ) (g : Bool) (f : File) (v : ℕ) (small : n < 2 ^ 32) (fits : 
 
   pub accessed-rules : (k : Access) (x : ℕ) → Rules n g f → Rules n g (accessed n g f k x v).file
   unfolding accessed
-  accessed-rules k x e = tested (select_legal x) (λ t. simp t (at-rules k (register_of n x) e)) (λ u. simp u e)
+  accessed-rules k x e = tested (select_legal x) (λ t. simp t (at-rules k (register_of n x) e))
+      (λ u. simp u e)

@@ -81,7 +81,8 @@ module _ (ws : List ℕ) (j v : ℕ) (fits : 2 * j + 1 < length ws) where
   unfolding put_doubleword
   doubleword-put = doubleword-halves ws j kept fits
 
-  pub member-put : (k : ℕ) → k < 64 → 64 * j + k ≢ 0 → member (put_doubleword ws j v) (64 * j + k) ≡ has_bit v k
+  pub member-put : (k : ℕ) → k < 64 → 64 * j + k ≢ 0 → member (put_doubleword ws j v) (64 * j + k)
+      ≡ has_bit v k
   unfolding put_doubleword
   member-put k h z = member-halves ws j kept fits k h ∙ at (ℕ_discrete j 0)
     where

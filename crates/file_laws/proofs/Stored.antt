@@ -46,7 +46,8 @@ sets-inside (v ∷ vs) l at (suc k) h m =
 
 -- two stretches of n words are equal if their words are
 part_same : (l m : List ℕ) (at at' n : ℕ) → at + n ≤ length l → at' + n ≤ length m
-    → ((i : ℕ) → i < n → get_or l (at + i) 0 ≡ get_or m (at' + i) 0) → take n (drop at l) ≡ take n (drop at' m)
+    → ((i : ℕ) → i < n → get_or l (at + i) 0 ≡ get_or m (at' + i) 0) → take n (drop at l) ≡ take n
+    (drop at' m)
 part_same l m at at' n hl hm h =
     ext_get_or 0 (take n (drop at l)) (take n (drop at' m)) (segment-long l at n hl
     ∙ sym (segment-long m at' n hm))
@@ -106,7 +107,8 @@ module _ (l : List ℕ) (at : ℕ) (f : File) where
   unfolding file_at file_words
   long-back s h =
       let m = put_file l at f in
-      let place : (j i : ℕ) → j + i < fields_size → get_or m (at + j + i) 0 ≡ get_or (file_words f) (j + i) 0 =
+      let place : (j i : ℕ) → j + i < fields_size → get_or m (at + j + i) 0 ≡ get_or (file_words f)
+      (j + i) 0 =
       λ j i r. ap (λ (k : ℕ). get_or m k 0) (add_assoc at j i) ∙ put_word s h (j + i) r in
       file-path
       (ap (λ (k : ℕ). get_or m k 0) (sym (add-zero at)) ∙ put_word s h 0 (omega arith))
@@ -199,7 +201,8 @@ words-loaded l at h =
     ap (take fields_size) (drop-cons l at 0 (omega arith) ∙ ap (λ (r : List ℕ). get_or l at 0 ∷ r) second)
     ∙ ap (λ (r : List ℕ). get_or l at 0 ∷ get_or l (at + threshold_place) 0 ∷ r)
     (take-add 8 8 (drop (at + pending_place) l)
-    ∙ ap (λ (r : List ℕ). take 8 (drop (at + pending_place) l) ++ take 8 r) (drop-drop 8 (at + pending_place) l
+    ∙ ap (λ (r : List ℕ). take 8 (drop (at + pending_place) l) ++ take 8 r)
+    (drop-drop 8 (at + pending_place) l
     ∙ ap (λ (k : ℕ). drop k l) next))
 
 -- what is loaded is stored back as it was

@@ -23,7 +23,8 @@ pub has_bit-doubleword : (ws : List ℕ) (k i : ℕ) → WordsFit ws → i / 64 
     → has_bit (doubleword ws k) (i % 64) ≡ member ws i
 unfolding doubleword member WordsFit
 has_bit-doubleword ws k i fit e =
-    ap (λ (a : ℕ). has_bit (joined (get_or ws a 0) (get_or ws (2 * k + 1) 0)) (i % 64)) (sym (add-zero (2 * k)))
+    ap (λ (a : ℕ). has_bit (joined (get_or ws a 0) (get_or ws (2 * k + 1) 0)) (i % 64))
+    (sym (add-zero (2 * k)))
     ∙ has_bit-joined (λ (a : ℕ). get_or ws (2 * k + a) 0) (fit (2 * k + 0)) (i % 64) (omega arith)
     ∙ ap₂ (λ (a b : ℕ). has_bit (get_or ws a 0) b) (omega arith) (omega arith)
 

@@ -1,6 +1,6 @@
 -- A message on its way to a file, as a word of the log. 01, "The wired controller". Assumes nothing.
---   log_word hart file identity         the message that brings identity to that file of that hart
---   hart_in m, file_in m, identity_in m   the parts of a log word: bits 12:11, bits 10:8, and bits 7:0
+--   log_word hart file identity          the message that brings identity to that file of that hart
+--   hart_in m, file_in m, identity_in m  the parts of a log word: bits 12:11, bits 10:8, and bits 7:0
 use Rattle.std.specs.Prelude.{ℕ, ◌+◌, ◌*◌, ◌/◌, ◌%◌}
 
 -- [01 W49]

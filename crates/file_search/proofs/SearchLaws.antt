@@ -1,10 +1,11 @@
--- Laws of `first_bit` and `lowest_shared` of specs/Search.antt: the search of a word bit after bit, and what it
+-- Laws of `first_bit` and `lowest_shared` of specs/Search.antt: the search of a word bit after bit, and what
+-- it
 -- says of the identities of that word. No contract cites this file. Assumes nothing.
---   first_bit-hit-to, first_bit-miss-to   one step of the search, as the code counts
---   rest-bit, rest-next, rest_lt        what is left of a word that the code has shifted
+--   first_bit-hit-to, first_bit-miss-to  one step of the search, as the code counts
+--   rest-bit, rest-next, rest_lt         what is left of a word that the code has shifted
 --   first_bit-none                       with no bit left there is none
---   shared_start, shared-end            where the search of all words starts, and where it ends
---   shared-hit, shared-miss             a word that has a shared identity, and one that has none
+--   shared_start, shared-end             where the search of all words starts, and where it ends
+--   shared-hit, shared-miss              a word that has a shared identity, and one that has none
 use Prim.Native.Nat.{ℕ, zero, suc, ◌+◌, ◌-◌, ◌*◌, ◌/◌, ◌^◌, ◌≤◌, ◌<◌}
 use mathlib.Core.Path.{◌≡◌, refl, sym, ap, ap₂, ◌∙◌}
 use mathlib.Core.Bool.{Bool, true, false, ◌&&◌}
@@ -50,7 +51,8 @@ module _ (w : ℕ) where
 module _ (w rest k : ℕ) (left : rest ≡ w / 2 ^ k) where
   pub rest-bit : has_bit rest 0 ≡ has_bit w k
   rest-bit =
-      has_bit-bit_of rest 0 w k (ap (λ (x : ℕ). bit_of x 0) left ∙ bit_of-shr w k 0 ∙ ap (bit_of w) (omega arith))
+      has_bit-bit_of rest 0 w k
+      (ap (λ (x : ℕ). bit_of x 0) left ∙ bit_of-shr w k 0 ∙ ap (bit_of w) (omega arith))
 
   pub rest-next : rest / 2 ≡ w / 2 ^ (k + 1)
   rest-next = ap (λ (x : ℕ). x / 2) left ∙ shr-shr w k 1

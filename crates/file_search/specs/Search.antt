@@ -1,6 +1,6 @@
 -- The lowest identity that is both pending and enabled, before any threshold. 01, "One message file"; the
 -- standard 3.9. Assumes nothing.
---   lowest p i k          the least of the k numbers from i on at which p holds, or 0
+--   lowest p i k           the least of the k numbers from i on at which p holds, or 0
 --   lowest_shared ps es    the lowest identity, from 1 on, that is in both sets, or 0
 --   first_bit w k n        the lowest of the n bits of w from bit k on that is 1, or k + n
 -- Number 0 has a bit in every set and is no identity: it is never the one that is shared.

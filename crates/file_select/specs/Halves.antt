@@ -1,5 +1,5 @@
 -- The two words of a set that one 64-bit register shows. 01, "One message file". Assumes nothing.
---   doubleword ws j            words 2j and 2j+1 as one 64-bit number; past the last word, 0
+--   doubleword ws j             words 2j and 2j+1 as one 64-bit number; past the last word, 0
 --   put_halves ws j v           these two words replaced by v; past the last word, nothing
 --   put_doubleword ws j v       the same, but that identity 0 stays 0
 use Rattle.std.specs.Prelude.{ℕ, ◌+◌, ◌*◌, cond, List, eqb, get_or, set}

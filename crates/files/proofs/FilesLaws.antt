@@ -45,7 +45,8 @@ the_file-files_from l k (suc n) zero h = ap (λ (j : ℕ). file_at l (file_size 
 the_file-files_from l k (suc n) (suc i) h =
     the_file-files_from l (suc k) n i (omega arith) ∙ ap (λ (j : ℕ). file_at l (file_size * j)) (omega arith)
 
-pub the_file-files_of : (l : List ℕ) (k : ℕ) → k < file_count → the_file (files_of l) k ≡ file_at l (file_size * k)
+pub the_file-files_of : (l : List ℕ) (k : ℕ) → k < file_count → the_file (files_of l) k ≡ file_at l
+    (file_size * k)
 unfolding files_of
 the_file-files_of l k h =
     the_file-files_from l 0 file_count k h ∙ ap (λ (j : ℕ). file_at l (file_size * j)) (omega arith)
@@ -83,11 +84,13 @@ apart : (i k : ℕ) → i ≢ k
     → (file_size * i + fields_size ≤ file_size * k) ⊎ (file_size * k + fields_size ≤ file_size * i)
 apart i k n = at (dec_lt i k)
   where
-    at : Dec (i < k) → (file_size * i + fields_size ≤ file_size * k) ⊎ (file_size * k + fields_size ≤ file_size * i)
+    at : Dec (i < k) → (file_size * i + fields_size ≤ file_size * k) ⊎
+        (file_size * k + fields_size ≤ file_size * i)
     at (yes h) = inl (omega arith)
     at (no h) = inr (omega arith)
 
-module _ (l : List ℕ) (long : length l ≡ files_size) (k : ℕ) (h : k < file_count) (f : File) (s : Long f) where
+module _ (l : List ℕ) (long : length l ≡ files_size) (k : ℕ) (h : k < file_count) (f : File)
+    (s : Long f) where
   abbrev put : List ℕ
   put = put_file l (file_size * k) f
 

@@ -8,12 +8,13 @@
 --   the_file fs k        file number k of fs; past the last, zero_file
 --   with_file fs k f     fs with f as number k; past the last, fs
 --   named_by m           the number of the file that the log word m names
---   reached fs m        fs after the message m arrived at its file; identity 0 changes nothing
+--   reached fs m         fs after the message m arrived at its file; identity 0 changes nothing
 --   all_reached fs ms    fs after the messages ms, in order
---   Named l n           the first n words of the log l name files that exist, of 0 to 4
+--   Named l n            the first n words of the log l name files that exist, of 0 to 4
 --   sound_at fs k        file number k keeps its own state rules
 --   files_sound fs       each of the 20 does
-use Rattle.std.specs.Prelude.{ℕ, zero, suc, ◌+◌, ◌*◌, ◌%◌, ◌<◌, Bool, List, [], ◌∷◌, ◌++◌, leb, get_or, set, replicate}
+use Rattle.std.specs.Prelude.{ℕ, zero, suc, ◌+◌, ◌*◌, ◌%◌, ◌<◌, Bool, List, [], ◌∷◌, ◌++◌, leb, get_or, set}
+use Rattle.std.specs.Prelude.{replicate}
 use Rattle.sizes.specs.Sizes.{hart_files, first_guest, file_count, file_set_size, file_size}
 use Rattle.words.specs.Every.{every}
 use Rattle.sizes.specs.Sizes.{identities}

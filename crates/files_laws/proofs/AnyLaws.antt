@@ -33,7 +33,8 @@ module _ (p : ℕ → Bool) where
   any_of-false (m ∷ ms) e zero h = or-first (p m) (any_of p ms) e
   any_of-false (m ∷ ms) e (suc j) h = any_of-false ms (or-second (p m) (any_of p ms) e) j (omega arith)
 
-  pub any_of-none : (ms : List ℕ) → ((j : ℕ) → j < length ms → p (get_or ms j 0) ≡ false) → any_of p ms ≡ false
+  pub any_of-none : (ms : List ℕ) → ((j : ℕ) → j < length ms → p (get_or ms j 0) ≡ false) → any_of p ms
+      ≡ false
   unfolding any_of
   any_of-none [] each = refl
   any_of-none (m ∷ ms) each =

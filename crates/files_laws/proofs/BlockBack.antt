@@ -35,7 +35,8 @@ unfolding files_of
 words_back l long = words_of-files_from file_count 0 l (omega arith) ∙ take_all files_size l (omega arith)
 
 -- two blocks with the same files are the same
-pub blocks-same : (l m : List ℕ) → length l ≡ files_size → length m ≡ files_size → files_of l ≡ files_of m → l ≡ m
+pub blocks-same : (l m : List ℕ) → length l ≡ files_size → length m ≡ files_size → files_of l ≡ files_of m → l
+    ≡ m
 blocks-same l m hl hm e = sym (words_back l hl) ∙ ap words_of e ∙ words_back m hm
 
 -- ---- from the files to the words and back
@@ -69,7 +70,8 @@ file_at-words_of (f ∷ fs) zero long h = file_at-words f (words_of fs) (long 0 
 file_at-words_of (f ∷ fs) (suc k) long h =
     let place : file_size * suc k ≡ length (file_words f) + file_size * k =
     omega (arith, words_long f (long 0 (omega arith))) in
-    ap (file_at (file_words f ++ words_of fs)) place ∙ file_at-behind (file_words f) (words_of fs) (file_size * k)
+    ap (file_at (file_words f ++ words_of fs)) place ∙ file_at-behind (file_words f) (words_of fs)
+    (file_size * k)
     ∙ file_at-words_of fs k (λ j q. long (suc j) (omega arith)) (omega arith)
 
 pub files-back : (fs : List File) → length fs ≡ file_count → ((k : ℕ) → k < file_count → Long (the_file fs k))

@@ -52,7 +52,8 @@ module _ (l : List ℕ) (at d : ℕ) (h : at + fields_size ≤ length l) where
 
 -- the word stored in file number k
 pub delivery-set : (l : List ℕ) (k d : ℕ) → length l ≡ files_size → k < file_count
-    → files_of (set l (file_size * k) d) ≡ with_file (files_of l) k (with_delivery (the_file (files_of l) k) d)
+    → files_of (set l (file_size * k) d) ≡ with_file (files_of l) k
+    (with_delivery (the_file (files_of l) k) d)
 delivery-set l k d long h =
     let f = the_file (files_of l) k in
     let s = files_of-long l long k h in
@@ -72,4 +73,5 @@ pub the_file-zeros : (k : ℕ) → k < file_count
     ≡ record { delivery = 0; threshold = 0; pending = replicate 8 0; enable = replicate 8 0 }
 unfolding the_file zero_file
 the_file-zeros k h =
-    ap (λ (fs : List File). get_or fs k zero_file) files_of-zeros ∙ get_or-replicate file_count k zero_file zero_file h
+    ap (λ (fs : List File). get_or fs k zero_file) files_of-zeros
+    ∙ get_or-replicate file_count k zero_file zero_file h

@@ -112,7 +112,8 @@ module _ (fs : List File) (m : ℕ) where
     where
       at : Dec (k ≡ named_by m) → Dec (k < length fs) → P (the_file (reached fs m) k)
       at (no n) d = subst P (sym (the_file-reached-other k n)) p
-      at (yes e) (yes h) = subst P (sym (the_file-reached-same k e h)) (keeps (the_file fs k) (identity_in m) p)
+      at (yes e) (yes h) = subst P (sym (the_file-reached-same k e h))
+          (keeps (the_file fs k) (identity_in m) p)
       at (yes e) (no h) =
           subst P (sym (ap (λ (gs : List File). the_file gs k) (reached-past (omega arith)))) p
 

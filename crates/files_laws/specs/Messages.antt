@@ -1,7 +1,7 @@
 -- What a list of messages brings to a file. 01, "The board"; the standard 3.5. Assumes nothing.
 --   names k m            the message m names file number k
 --   brings k i m         it names file number k, with identity i
---   any_of p ms           p holds of a message of ms
+--   any_of p ms          p holds of a message of ms
 --   PendingOnly f f'     f' is f in all but its pending set
 use Rattle.std.specs.Prelude.{ℕ, ◌≡◌, Bool, false, ◌&&◌, ◌||◌, List, [], ◌∷◌, eqb}
 use Rattle.file_message.specs.Message.{identity_in}

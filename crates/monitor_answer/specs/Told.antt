@@ -1,9 +1,9 @@
 -- What an exported function answers to C: the numbers of the paper, not an enum. 01, "Calls and their
 -- refusals". Assumes nothing.
---   Numbers r a        r has the refusal, the value and the count of the answer a
---   Told o r l g s     a function that answers r and leaves the block l, the log g and the saved numbers s
---                      does as o says
---   Tells c l g r l' g'   the same of one that is lent no saved numbers: any saved numbers stay as they are
+--   Numbers r a          r has the refusal, the value and the count of the answer a
+--   Told o r l g s       a function that answers r and leaves the block l, the log g and the saved numbers s
+--                        does as o says
+--   Tells c l g r l' g'  the same of one that is lent no saved numbers: any saved numbers stay as they are
 use Rattle.std.specs.Prelude.{◌≡◌, List, ℕ}
 use Rattle.board_call.specs.declared.Answer.{Answer}
 use Rattle.board_call.specs.Answer.{refusal_number, answer_value, answer_count}

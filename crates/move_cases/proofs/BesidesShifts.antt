@@ -12,7 +12,8 @@ use Rattle.words.specs.Every.{every}
 use Rattle.file.specs.declared.File.{File}
 use Rattle.source.specs.Pending as source
 use Rattle.domain.specs.Domain.{by_messages, with_domaincfg, with_genmsi}
-use Rattle.domain_domaincfg.specs.Domaincfg.{redelivered_at, redelivered_from, mode_settled, domaincfg_written}
+use Rattle.domain_domaincfg.specs.Domaincfg.{redelivered_at, redelivered_from, mode_settled}
+use Rattle.domain_domaincfg.specs.Domaincfg.{domaincfg_written}
 use Rattle.board_block.specs.Block.{Board}
 use Rattle.board_call.specs.declared.Call.{Call}
 use Rattle.board_call.specs.declared.Call.TheVariants.{Reset, DomainWrite, Register, Claim, Move}
@@ -137,7 +138,8 @@ made_direct = replicate 40 access ++ (call (DomainWrite 1 0 0) ∷ page 0 2 0 9 
 
 pub needs-no-domaincfg : NeedsNoDomaincfg
 unfolding NeedsNoDomaincfg AllAccesses accesses_in PagesKept Besides on_old station_there EventsSmall row_of
-    domaincfg_written mode_settled redelivered_from redelivered_at source.redelivered with_domaincfg with_genmsi
+    domaincfg_written mode_settled redelivered_from redelivered_at source.redelivered with_domaincfg
+    with_genmsi
     with_move without_move fresh_test block_tests board_run
 needs-no-domaincfg =
     letting _ board good_old refl refl made_direct refl

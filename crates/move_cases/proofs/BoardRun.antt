@@ -59,15 +59,19 @@ step_on c y =
     cond (eqb (name_refusal c y.board) 0) w y
 
 unfoldable pub board_run : List Call → Acted → Acted
-unfolding step_on step then_sent change acted retargeted_in act_of name_refusal_by name_tests first_failed row_of
-    is_wire is_file is_guest_file is_move is_page_address names_file renamed flushed hart_in file_in identity_in
+unfolding step_on step then_sent change acted retargeted_in act_of name_refusal_by name_tests first_failed
+    row_of
+    is_wire is_file is_guest_file is_move is_page_address names_file renamed flushed hart_in file_in
+    identity_in
     candidate served_at messages_at sent_from sent source_wired wire_set domain_in with_domain written_as
     written_in register_written target_written register_value source_at with_source domaincfg_of is_enabled
     by_messages source.settled source.wire_changed source.retargeted hart_of guest_of number_of receiver_of
-    kept_target log_word message_of is_active is_level is_rectified file_number is_guest the_file with_file named_by
+    kept_target log_word message_of is_active is_level is_rectified file_number is_guest the_file with_file
+    named_by
     reached all_reached held written accessed_at accessed arrived page_written delivery_legal doubleword
     put_halves put_doubleword select_legal register_of registers_from reversed low high joined field_of packed
-    member insert remove put bit_of has_bit with_bit without_bit union kind_of passes lowest qualifies top_identity
+    member insert remove put bit_of has_bit with_bit without_bit union kind_of passes lowest qualifies
+    top_identity
     top_of claimed address_legal registers name_in word_in word_at genmsi_as genmsi_by
 board_run [] y = y
 board_run (c ∷ cs) y = board_run cs (step_on c y)

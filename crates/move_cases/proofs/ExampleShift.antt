@@ -136,14 +136,16 @@ unfolding shift early edge_over level_over looked_on late EventsSmall row_of
 shift_small = (omega arith, (tt, (tt, tt)))
 
 ran-with : (computed shift shift_small).board ≡ board_end old_end station_end (wired_to 1 3)
-unfolding shift early edge_over level_over looked_on late old_end station_end board_end with_move block_tests board_run
+unfolding shift early edge_over level_over looked_on late old_end station_end board_end with_move block_tests
+    board_run
 ran-with = refl
 
 abbrev alone : call.Acted
 alone = board_run (without_move stations shift) (start_of board)
 
 ran-without : alone.board ≡ board_end station_end stale (wired_to 0 2)
-unfolding shift early edge_over level_over looked_on late station_end board_end without_move block_tests board_run
+unfolding shift early edge_over level_over looked_on late station_end board_end without_move block_tests
+    board_run
 ran-without = refl
 
 without : held_by (ran (without_move stations shift) start) ≡ alone
@@ -162,7 +164,8 @@ begins = refl
 
 -- each equation that ends in refl computes
 pub example : Example
-unfolding shift early edge_over level_over looked_on late old_end station_end logged with_move row_of block_tests
+unfolding shift early edge_over level_over looked_on late old_end station_end logged with_move row_of
+    block_tests
     board_run signals_to signal_at signal_of structure_signals signals put_bit
 example =
     record {

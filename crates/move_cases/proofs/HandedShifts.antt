@@ -2,7 +2,7 @@
 -- contract cites this file. Assumes nothing.
 --   broken           the board of the examples, but with a delivery of 2 in old, which breaks a rule
 --   forgetful c      the call c with a log of zeros, and zeros as the saved numbers
---   forget_run cs b   what such calls make of the board b, in order
+--   forget_run cs b  what such calls make of the board b, in order
 use Prim.Native.Nat.{ℕ, zero, suc, ◌^◌}
 use mathlib.Core.Path.{◌≡◌, refl, sym, ap, ◌∙◌}
 use mathlib.Core.Bool.{true, false, false≢true}

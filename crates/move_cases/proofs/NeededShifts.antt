@@ -144,7 +144,8 @@ abbrev sent_to_new : List Event
 sent_to_new = replicate 8 access ++ (wire 1 1 ∷ replicate 81 access)
 
 pub needs-fresh : NeedsFresh
-unfolding NeedsFresh AllAccesses accesses_in PagesKept CallsKept LogLong lent EventsSmall with_move without_move
+unfolding NeedsFresh AllAccesses accesses_in PagesKept CallsKept LogLong lent EventsSmall with_move
+    without_move
     block_tests board_run
 needs-fresh =
     record {

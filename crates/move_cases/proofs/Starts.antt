@@ -4,7 +4,7 @@
 --   block_tests b       the block of b has 650 words of 32 bits, and b keeps the state rules
 --   fresh_test m b i    source i of the child is not active, or does not name new
 --   start_of b          the board b, and ten zeros as the saved numbers
---   Good b             b passes block_tests, and is the board of its block
+--   Good b              b passes block_tests, and is the board of its block
 -- To unfold block_tests is to unfold all that the state rules compute with, and the words of a board.
 use Prim.Native.Nat.{ℕ, zero, suc, ◌^◌, ◌<◌}
 use mathlib.Core.Path.{◌≡◌, refl, sym, ap, ◌∙◌}
@@ -24,7 +24,8 @@ use Rattle.file_select.specs.Deliveries.{delivery_legal}
 use Rattle.file.specs.declared.File.{File}
 use Rattle.file.specs.Rules as file
 use Rattle.file_words.specs.Stored.{file_words, file_at}
-use Rattle.files.specs.Files.{file_number, is_guest, files_from, files_of, words_of, the_file, with_file, sound_at}
+use Rattle.files.specs.Files.{file_number, is_guest, files_from, files_of, words_of, the_file, with_file}
+use Rattle.files.specs.Files.{sound_at}
 use Rattle.files.specs.Files.{files_sound}
 use Rattle.source_mode.specs.Mode.{is_active, is_level, is_rectified, kept_mode, source_word}
 use Rattle.source_target.specs.Target.{hart_of, guest_of, number_of, receiver_of, kept_target}
@@ -71,14 +72,20 @@ below_each n (w ∷ ws) h e zero = ltb-true w n (and_first (ltb w n) (all_below 
 below_each n (w ∷ ws) h e (suc k) = below_each n ws h (and_second (ltb w n) (all_below n ws) e) k
 
 unfoldable pub block_tests : Board → Bool
-unfolding all_below every words_of file_words domain_words wired_words block_of file.file_sound file.delivery_rule
+unfolding all_below every words_of file_words domain_words wired_words block_of file.file_sound
+    file.delivery_rule
     file.threshold_rule file.zero_rule sound_at files_sound kept_mode source_word kept_genmsi delivery_sound
-    genmsi_of structure_at kept_domaincfg is_delegated mode_range target_range inactive_rule level_rule source_steady
+    genmsi_of structure_at kept_domaincfg is_delegated mode_range target_range inactive_rule level_rule
+    source_steady
     sent_rule candidate source_sound domaincfg_range genmsi_range structure_range source_zero_rule genmsi_rule
-    source_rule domain_sound delegated_rule wired_sound board_sound source_at domaincfg_of is_enabled by_messages
-    hart_of guest_of number_of receiver_of kept_target is_active is_level is_rectified is_guest the_file delivery_legal
-    field_of packed member bit_of has_bit start_file start_files_from start_domain start_board renamed file_number
-    with_file insert with_bit holding station stale machine_domain child_to wired_to board_having board_with board_of
+    source_rule domain_sound delegated_rule wired_sound board_sound source_at domaincfg_of is_enabled
+    by_messages
+    hart_of guest_of number_of receiver_of kept_target is_active is_level is_rectified is_guest the_file
+    delivery_legal
+    field_of packed member bit_of has_bit start_file start_files_from start_domain start_board renamed
+    file_number
+    with_file insert with_bit holding station stale machine_domain child_to wired_to board_having board_with
+    board_of
     files_of files_from file_at wired_of domain_of
 block_tests b = eqb (length (block_of b)) block_size && all_below (2 ^ 32) (block_of b) && board_sound b
 
@@ -161,7 +168,8 @@ module _ (b : Board) (good : Good b) where
       (t : File → Bool)
       → t (new_in m (board_run (with_move m 0 es) (start_of b)).board) ≡ false
       → t (old_in m (board_run (without_move m es') (start_of b)).board) ≡ true
-      → Moved m (board_in (ran (with_move m 0 es) (lent b 63))) (board_in (ran (without_move m es') (lent b 63)))
+      → Moved m (board_in (ran (with_move m 0 es) (lent b 63)))
+      (board_in (ran (without_move m es') (lent b 63)))
       → ⊥
   lent-differs m es es' small small' t new old e =
       let w = lent-ran (with_move m 0 es) (small-with m es 0 small) in
@@ -173,7 +181,8 @@ module _ (b : Board) (good : Good b) where
   pub lent-breaks : (m : Stations) (es : List Event) → EventsSmall es → (t : File → Bool)
       → t (new_in m (board_run (with_move m 0 es) (start_of b)).board) ≡ false
       → t (old_in m (board_run (without_move m es) (start_of b)).board) ≡ true
-      → Moved m (board_in (ran (with_move m 0 es) (lent b 63))) (board_in (ran (without_move m es) (lent b 63)))
+      → Moved m (board_in (ran (with_move m 0 es) (lent b 63)))
+      (board_in (ran (without_move m es) (lent b 63)))
       → ⊥
   lent-breaks m es small = lent-differs m es es small small
 

@@ -6,7 +6,8 @@
 --   enabled          what the station has enabled
 --   station          the file old at the start: 5, 130 and 250 are pending, it signals by 5, and its
 --                    threshold 200 bars 250
---   stale            the file new at the start: stale_bits, in each word of 64, are pending and enabled in it,
+--   stale            the file new at the start: stale_bits, in each word of 64, are pending and enabled in
+-- it,
 --                    and it signals
 --   slots a b c      words 0 to 63 of a domain: a at 0, b at source 1, c at source 40, and 0 at the others
 --   wired_to h f      the child has IE and DM, and sources 1 and 40 are delegated to it, enabled, and send to

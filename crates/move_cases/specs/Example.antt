@@ -100,7 +100,8 @@ board_end f g w =
 pub record Example : Type 0 where
   pub premises : Premises stations start.block start.saved shift
   -- after access 8 old has what the device and wire 1 sent, and no bit is pending in new any more
-  pub early-old : old_in stations (board_in (so_far early)) ≡ file_with 0 200 (3 ∷ 5 ∷ 7 ∷ 130 ∷ 250 ∷ []) enabled
+  pub early-old : old_in stations (board_in (so_far early)) ≡ file_with 0 200
+      (3 ∷ 5 ∷ 7 ∷ 130 ∷ 250 ∷ []) enabled
   pub early-new : new_in stations (board_in (so_far early)) ≡ file_with 0 9 [] stale_bits
   -- after access 9 the rise of wire 1 sends one message, 7 to new
   pub edge_count : (outcome_on (rises 1) (so_far (early ++ edge_over))).count ≡ 1
@@ -119,7 +120,8 @@ pub record Example : Type 0 where
   pub done : said_where is_access (handing (with_move stations 0 shift) start) start.block
       ≡ replicate 89 (record { number = 0; value = 0; count = 0 })
   pub ends : board_in (so_far shift) ≡ board_end old_end station_end (wired_to 1 3)
-  pub unmoved : board_in (ran (without_move stations shift) start) ≡ board_end station_end stale (wired_to 0 2)
+  pub unmoved : board_in (ran (without_move stations shift) start) ≡ board_end station_end stale
+      (wired_to 0 2)
   -- 3 and 4 are not enabled, and 250 is not below the threshold; new signals, and old does not
   pub top : (outcome_on (Top 1 3) (so_far shift)).value ≡ 0x00050005
   pub heard : (outcome_on (Signals 1) (so_far shift)).value ≡ 2 ^ 3

@@ -4,7 +4,7 @@
 --   three fs s           the old and the new file of fs, and the saved numbers s
 --   FilesMoved n fs gs s after n accesses fs are the files with the move and s are the saved numbers; gs are
 --                        those without it: old and new are related, and every other file is the same
---   arrived_at fs k i     fs after the identity i arrived at file k
+--   arrived_at fs k i    fs after the identity i arrived at file k
 use Prim.Native.Nat.{ℕ, ◌≤◌, ◌<◌}
 use mathlib.Core.Path.{◌≡◌, refl, sym, ap, subst, ◌∙◌}
 use mathlib.Core.List.{List}
@@ -53,7 +53,8 @@ module _ (ns : ℕ → ℕ) (old new : ℕ) where
       (many : length fs ≡ file_count) (many' : length gs ≡ file_count)
       (shaped : (k : ℕ) → k < file_count → Shaped (the_file fs k))
       (shaped' : (k : ℕ) → k < file_count → Shaped (the_file gs k))
-      (r : FilesMoved n fs gs s) (different : new ≢ old) (old_lt : old < file_count) (new_lt : new < file_count)
+      (r : FilesMoved n fs gs s) (different : new ≢ old) (old_lt : old < file_count)
+      (new_lt : new < file_count)
       (i : ℕ) where
     -- what arrives at file k of each board
     abbrev here : ℕ → File

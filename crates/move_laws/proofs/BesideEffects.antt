@@ -47,7 +47,8 @@ module _ (m : Stations) (g : TwoGuests m) where
   module _ (n : ℕ) (x y : Lent) (r : Beside n x y) where
     -- two calls that are both refused, or both done
     pub both : (c c' : Call) → name_refusal c (board_in x) ≡ name_refusal c' (board_in y)
-        → (name_refusal c (board_in x) ≡ 0 → name_refusal c' (board_in y) ≡ 0 → Beside n (after c x) (after c' y))
+        → (name_refusal c (board_in x) ≡ 0 → name_refusal c' (board_in y) ≡ 0 → Beside n (after c x)
+        (after c' y))
         → Beside n (after c x) (after c' y)
     both c c' same done = at (ℕ_discrete (name_refusal c (board_in x)) 0)
       where
@@ -100,7 +101,8 @@ module _ (m : Stations) (g : TwoGuests m) where
 
     -- ---- a page write, to new here and to old there, or to one file of both
 
-    module _ (h f a v : ℕ) (to_new : is_new m h f ≡ true → 8 ≤ n) (to_old : is_old m h f ≡ true → n < 72) where
+    module _ (h f a v : ℕ) (to_new : is_new m h f ≡ true → 8 ≤ n)
+        (to_old : is_old m h f ≡ true → n < 72) where
       abbrev h' : ℕ
       h' = cond (is_new m h f) m.old_hart h
 
@@ -121,7 +123,8 @@ module _ (m : Stations) (g : TwoGuests m) where
       pub beside-page : Beside n (after (PageWrite h f a v) x) (after (PageWrite h' f' a v) y)
       beside-page = both (PageWrite h f a v) (PageWrite h' f' a v) same written
         where
-          same : name_refusal (PageWrite h f a v) (board_in x) ≡ name_refusal (PageWrite h' f' a v) (board_in y)
+          same : name_refusal (PageWrite h f a v) (board_in x) ≡ name_refusal (PageWrite h' f' a v)
+              (board_in y)
           same =
               unfold name_refusal_by name_tests first_failed row_of in
               ap (λ (b : Bool). cond b (cond (is_page_address a) 0 5) 4) same-file

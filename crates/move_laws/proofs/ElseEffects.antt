@@ -47,7 +47,8 @@ module _ (m : Stations) (g : TwoGuests m) (x y : Lent) (ready : Ready x) (ready'
     same = refusal-apart h f d (board_in x) (board_in y)
 
     -- the file is the same in both, if it is there
-    pub alike : name_refusal c (board_in x) ≡ 0 → the_file (board_in x).files k ≡ the_file (board_in y).files k
+    pub alike : name_refusal c (board_in x) ≡ 0 → the_file (board_in x).files k ≡ the_file
+        (board_in y).files k
     alike e =
         let there = there-on h f d (board_in x) e in
         let low = file-lt h f there in

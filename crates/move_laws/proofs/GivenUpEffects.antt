@@ -168,7 +168,8 @@ module _ (m : Stations) (g : TwoGuests m) where
 
   module _ (n : ℕ) (x y : Lent) (r : Early n x y) where
     -- an event that is no access
-    goes : (x' y' : Lent) → Beside m g r.made x' y' → (board_in x').wired ≡ (board_in y').wired → Early n x' y'
+    goes : (x' y' : Lent) → Beside m g r.made x' y' → (board_in x').wired ≡ (board_in y').wired
+        → Early n x' y'
     goes x' y' b w =
         record { made = r.made; few = r.few; some = r.some; now = r.now; beside = b; wired = w }
 
@@ -189,7 +190,8 @@ module _ (m : Stations) (g : TwoGuests m) where
             ap (λ (b : Board). b.wired) (after-board (Wire i level) z ready e (unfold row_of in tt))
             ∙ ap (λ (s : Stepped). s.board.wired) (step-wire (board_in z) i level z.saved)
 
-        at : Dec (name_refusal c (board_in x) ≡ 0) → (board_in (after c x)).wired ≡ (board_in (after c y)).wired
+        at : Dec (name_refusal c (board_in x) ≡ 0) → (board_in (after c x)).wired ≡
+            (board_in (after c y)).wired
         at (yes e) =
             wired-done x r.beside.ready e
             ∙ ap (λ (w : Wired). (wire_call w i (eqb level 1)).wired) r.wired

@@ -214,7 +214,8 @@ module _ (m : Stations) (g : TwoGuests m) where
 
     pub middle-page : (h f a v : ℕ) → is_file h f ≡ true → (is_new m h f ≡ true → 8 ≤ n)
         → (is_old m h f ≡ true → n < 72)
-        → Middle n (only_file b (file_number h f) (page_written identities (the_file b.files (file_number h f))
+        → Middle n (only_file b (file_number h f)
+        (page_written identities (the_file b.files (file_number h f))
         a v))
         (let k = file_number (cond (is_new m h f) m.old_hart h) (cond (is_new m h f) m.old_file f) in
         only_file b' k (page_written identities (the_file b'.files k) a v)) s

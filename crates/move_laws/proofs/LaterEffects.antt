@@ -173,7 +173,8 @@ module _ (m : Stations) (g : TwoGuests m) where
         (arrived_at identities_at (board_in y).files k i)
     come-same k i h not_the_new never =
         let not_old : k ≢ old_number m = λ q. omega (arith, never q) in (
-          the_file-with_file-other (board_in x).files k _ (new_number m) (λ q. not_the_new (sym q)) ∙ r.station
+          the_file-with_file-other (board_in x).files k _ (new_number m) (λ q. not_the_new (sym q))
+              ∙ r.station
               ∙ sym (the_file-with_file-other (board_in y).files k _ (old_number m) (λ q. not_old (sym q))),
           (λ j l o n. file not_old j l o n (ℕ_discrete j k)),
         )

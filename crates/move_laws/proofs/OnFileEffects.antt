@@ -83,7 +83,8 @@ module _ (h f : ℕ) where
   -- the file of an accepted call is there
   pub there-on : (c : FileCall) (b : Board) → name_refusal (call_on h f c) b ≡ 0 → is_file h f ≡ true
   unfolding row_of
-  there-on (FileCall.page_read a) b e = accepted-present (row_of (call_on h f (FileCall.page_read a))).tests b e
+  there-on (FileCall.page_read a) b e = accepted-present
+      (row_of (call_on h f (FileCall.page_read a))).tests b e
   there-on (FileCall.page_write a v) b e =
       accepted-present (row_of (call_on h f (FileCall.page_write a v))).tests b e
   there-on (FileCall.register k s v) b e =
@@ -105,7 +106,8 @@ module _ (h f : ℕ) where
 
     pub step-on : (c : FileCall) (u : List ℕ)
         → step (call_on h f c) b u
-        ≡ quiet (only_file b k (leaves identities (is_guest k) c here)) (answers identities (is_guest k) c here)
+        ≡ quiet (only_file b k (leaves identities (is_guest k) c here))
+        (answers identities (is_guest k) c here)
         u
     step-on (FileCall.page_read a) u =
         step-page_read b fit.sound h f here refl a u ∙ ap (λ (d : Board). quiet d (page_read here a) u)

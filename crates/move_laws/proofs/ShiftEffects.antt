@@ -247,7 +247,8 @@ module _ (m : Stations) (l s : List ℕ) (es : List Event) (p : Premises m l s e
       (board_in (ran (without_move m es) (lent_from l s)))
   move-keeps = beside_end m p.guests _ _ move-beside
 
-  pub move-done : said_where is_access (handing (with_move m 0 es) (lent_from l s)) l ≡ replicate accesses nothing
+  pub move-done : said_where is_access (handing (with_move m 0 es) (lent_from l s)) l
+      ≡ replicate accesses nothing
   unfolding AllAccesses
   move-done =
       done-run m p.guests es 0 _ _ begun all_made p.pages p.calls

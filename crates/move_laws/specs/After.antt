@@ -3,12 +3,12 @@
 -- question. Assumes nothing.
 --   FileCall         a call on a message file, without the file: its page read or written, a register
 --                    accessed, its top, a claim
---   call_on h f c     the call c on file f of hart h
+--   call_on h f c    the call c on file f of hart h
 --   Later            what then happens: wire i is set to a level; v is written at offset a of the page of
 --                    file f of hart h; the station makes the call c on its file; another one makes it on its
 --                    own, file f of hart h
---   then_here m es    the calls of this, where the station was moved: its own are on new
---   then_there m es   the same where it was not: its own are on old, and page writes to new go to old
+--   then_here m es   the calls of this, where the station was moved: its own are on new
+--   then_there m es  the same where it was not: its own are on old, and page writes to new go to old
 --   LaterKept m es   nobody writes to the page of old, or calls for another station on old or new; and the
 --                    value of each register access has 64 bits
 use Rattle.std.specs.Prelude.{ℕ, ◌≡◌, true, false, cond, List, [], ◌∷◌}

@@ -1,6 +1,6 @@
 -- The answer to the auditor's question: what is the same after a shift with the move and after the same shift
 -- without it. 01, "The move, with its premises". Assumes nothing.
---   old_in, new_in           the file old, and the file new, of a board
+--   old_in, new_in         the file old, and the file new, of a board
 --   Moved m b b'           b, after the shift with the move, and b', after the one without it: the file new
 --                          of b is the file old of b'; every file but these two, every wire and both domains
 --                          are the same, but that a target of the child that names old in b' names new in b,

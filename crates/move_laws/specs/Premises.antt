@@ -12,7 +12,8 @@
 --   CallsKept m es        each call besides only reads, or is one on a file that is neither old nor new, with
 --                         a value of 64 bits. 01 has no such calls: here the other stations go on
 --   Premises m l s es     all of these
--- That the accesses are made once each, in order, with one old and new, is said by with_move; that each brings
+-- That the accesses are made once each, in order, with one old and new, is said by with_move; that each
+-- brings
 -- the saved numbers that the last one gave, by HandedOn of Rattle.board_runs, and that each call brings a log
 -- of 63 words, by Makes there. That no access is refused follows.
 use Rattle.std.specs.Prelude.{ℕ, suc, ◌≤◌, ◌<◌, ◌≡◌, true, false, ◌||◌, List, [], ◌∷◌, length}

@@ -4,14 +4,14 @@
 --   Event              what happens in a shift: wire i is set to a level; v is written at offset a of the
 --                      page of file f of hart h; the next access of the move is made; or a call c is made,
 --                      for another station or to look on
---   access_of m n       the call that makes access n
---   is_old, is_new       file f of hart h is old, or new
---   is_neither          it is neither
---   has_neither m h     hart h has neither
+--   access_of m n      the call that makes access n
+--   is_old, is_new     file f of hart h is old, or new
+--   is_neither         it is neither
+--   has_neither m h    hart h has neither
 --   elsewhere m c      c is a call on one file, which is neither old nor new, or asks for the signals of a
 --                      hart that has neither
---   with_move m n es    the calls of the shift es, n accesses having been made: each access makes the next one
---   without_move m es   the same wire changes, page writes and calls, page writes to new going to old, and no
+--   with_move m n es   the calls of the shift es, n accesses having been made: each access makes the next one
+--   without_move m es  the same wire changes, page writes and calls, page writes to new going to old, and no
 --                      access
 -- A wire or a page that is not there may be among the events: such a call is refused and changes nothing.
 use Rattle.std.specs.Prelude.{ℕ, suc, Bool, false, cond, not, ◌&&◌, ◌||◌, List, [], ◌∷◌, eqb}

@@ -34,7 +34,8 @@ pub fields-one : (n : ℕ) → fields_shown (n ∷ []) ≡ tab ∷ text_of n
 unfolding fields_shown
 fields-one n = ap (λ (bs : List ℕ). tab ∷ bs) (append-nil (text_of n))
 
-pub line-fields : (n : ℕ) (ns : List ℕ) → line_shown (n ∷ ns) ≡ text_of n ++ (fields_shown ns ++ (line_feed ∷ []))
+pub line-fields : (n : ℕ) (ns : List ℕ) → line_shown (n ∷ ns) ≡ text_of n ++
+    (fields_shown ns ++ (line_feed ∷ []))
 unfolding line_shown
 line-fields n ns = refl
 

@@ -117,7 +117,8 @@ module _ (name : List ℕ) where
   pub three-in : (a b c : ℕ) →
       call_in table name (a ∷ b ∷ c ∷ [])
       ≡ cond (named page_read_row) (lines.Call (calls.PageRead a b c))
-      (cond (named domain_write_row && ltb c (2 ^ 32)) (lines.Call (calls.DomainWrite a b c)) lines.Unreadable)
+      (cond (named domain_write_row && ltb c (2 ^ 32))
+      (lines.Call (calls.DomainWrite a b c)) lines.Unreadable)
   unfolding call_in table
   three-in a b c = rw (and-true (named page_read_row))
 

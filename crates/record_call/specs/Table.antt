@@ -1,17 +1,18 @@
 -- What a line says: one table of calls, by name and count of numbers. 02, M-100; docs/RECORD.md.
 -- Assumes nothing.
---   NameRow            a call's name in bytes, how many numbers it has, whether the last is a word of 32
---                      bits, and the call with such numbers
---   first .. fifth     one of some numbers, by its place: 0 if there are fewer
+--   NameRow             a call's name in bytes, how many numbers it has, whether the last is a word of 32
+--                       bits, and the call with such numbers
+--   first .. fifth      one of some numbers, by its place: 0 if there are fewer
 --   reset_row ..        the row of each call
---   table              all of them
+--   table               all of them
 --   same_bytes a b      a and b are the same bytes
 --   last_in ns          the last of the numbers ns: 0 if there is none
---   word_at_end t ns     if t, the last of the numbers ns is a word of 32 bits
---   fits r name ns     r is the row of a line with this name and these numbers
+--   word_at_end t ns    if t, the last of the numbers ns is a word of 32 bits
+--   fits r name ns      r is the row of a line with this name and these numbers
 --   call_in rs name ns  the call of the first row that fits, if there is one
 --   line_of l           what the line l says
-use Rattle.std.specs.Prelude.{ℕ, ◌^◌, Bool, true, false, cond, ◌&&◌, List, [], ◌∷◌, eqb, leb, ltb, length, get_or}
+use Rattle.std.specs.Prelude.{ℕ, ◌^◌, Bool, true, false, cond, ◌&&◌, List, [], ◌∷◌, eqb, leb, ltb, length}
+use Rattle.std.specs.Prelude.{get_or}
 use Rattle.record_lines.specs.Lines.{line_size}
 use Rattle.record_fields.specs.Fields.{name_of, texts_of, are_numbers, numbers_of}
 use Rattle.board_call.specs.declared.Call.{Call}

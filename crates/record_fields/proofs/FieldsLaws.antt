@@ -73,7 +73,8 @@ module _ (l : List ℕ) (k n : ℕ) (e : n ≡ k + 1 + index_of tab (slice (k + 
       e ∙ ap (λ (xs : List ℕ). k + 1 + index_of tab xs) (rest-slice l (k + 1))
       ∙ ap (λ (j : ℕ). j + index_of tab (drop j l)) (add-one k)
 
-  pub text-found : take (n - (k + 1)) (drop (k + 1) l) ≡ (let xs = drop (suc k) l in take (index_of tab xs) xs)
+  pub text-found : take (n - (k + 1)) (drop (k + 1) l) ≡
+      (let xs = drop (suc k) l in take (index_of tab xs) xs)
   text-found =
       let much : n - (k + 1) ≡ index_of tab (drop (suc k) l) = omega (arith, next-found) in
       ap (λ (m : ℕ). take m (drop (k + 1) l)) much

@@ -2,7 +2,7 @@
 -- file. Assumes nothing.
 --   parts_from b p xs   all parts of xs, if p stands before xs
 --   parts_after b l k   the parts that stand behind the byte at place k of l: none if there is no such byte
---   parts_first        the part up to the first byte b, and the parts behind it
+--   parts_first         the part up to the first byte b, and the parts behind it
 use Prim.Native.Nat.{ℕ, zero, suc}
 use mathlib.Core.Path.{◌≡◌, sym, ap, ◌∙◌}
 use mathlib.Core.Bool.{Bool, true, false, cond}

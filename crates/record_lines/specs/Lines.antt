@@ -2,7 +2,7 @@
 --   line_feed         the byte that ends a line
 --   line_size         the most bytes of a line that can be read, without its end
 --   line_room         how many bytes of a line are kept: one more, which tells that it is too long
---   kept p           these bytes of the line p
+--   kept p            these bytes of the line p
 --   last_of p         the line p, which has no end: none if it has no byte
 --   lines_of bs       the lines of bs
 --   CutAt xs f p e q the bytes of xs from f to e, behind p, end no line; q is what is kept of the line then

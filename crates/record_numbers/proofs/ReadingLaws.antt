@@ -1,5 +1,5 @@
 -- Laws of the numbers that are read: one digit after the other. No contract cites this file. Assumes nothing.
---   number_from v bs          what the bytes bs read as behind digits that make v
+--   number_from v bs         what the bytes bs read as behind digits that make v
 --   from-none, from_start    an empty field, and the start of any other
 --   from-below, from-above   a byte that is no digit
 --   from-beyond              a digit that makes more than 64 bits

@@ -1,13 +1,14 @@
 -- A number as decimal digits, in bytes. 02, M-100; docs/RECORD.md. Assumes nothing.
---   is_digit b, all_digits bs    b is one of the digits 0 to 9; every byte of bs is
+--   is_digit b, all_digits bs   b is one of the digits 0 to 9; every byte of bs is
 --   value_onto v bs, value_of bs the number that the digits bs make behind the number v; that they make alone
 --   is_number bs                one digit or more, and a number of 64 bits; zeros may stand in front
 --   number_in bs                the number that bs are, if they are one
 --   digits_of k n               the last k digits of n
---   places_in k n, places_of n   how many digits n takes, if k are enough; if it has 64 bits
+--   places_in k n, places_of n  how many digits n takes, if k are enough; if it has 64 bits
 --   text_of n                   n in decimal, with no zero in front
 --   number_room                 how many digits a number of 64 bits takes at most
-use Rattle.std.specs.Prelude.{ℕ, zero, suc, ◌+◌, ◌-◌, ◌*◌, ◌/◌, ◌%◌, ◌^◌, Bool, true, cond, ◌&&◌, List, [], ◌∷◌, ◌++◌, leb, ltb, length}
+use Rattle.std.specs.Prelude.{ℕ, zero, suc, ◌+◌, ◌-◌, ◌*◌, ◌/◌, ◌%◌, ◌^◌, Bool, true, cond, ◌&&◌, List, []}
+use Rattle.std.specs.Prelude.{◌∷◌, ◌++◌, leb, ltb, length}
 use Rattle.record_numbers.specs.declared.reading.Number.{Number}
 use Rattle.record_numbers.specs.declared.reading.Number.TheVariants.{Value, Unreadable}
 

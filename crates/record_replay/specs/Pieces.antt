@@ -1,5 +1,5 @@
 -- A run by pieces of bytes. 02, M-100. Assumes nothing.
---   held_at ..              where a run is, from what the code holds: the first bytes of a line are kept
+--   held_at ..             where a run is, from what the code holds: the first bytes of a line are kept
 --   Roomy g line held      a log of 63 words, room for a line, and no more held than there is room for
 --   Went xs f h a e h' b   from place f of xs to place e the run went on from h to h', and the answers from a
 --                          to b

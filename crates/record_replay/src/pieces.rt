@@ -41,7 +41,8 @@ fn one(
         (held_at state.new log.new saved.new line.new result.held
         result.number)
         (take result.used out.new) }
-    ensures held_le_line_room { (result.held ≤ line_room) × (result.used ≤ run.used + answer_room) × (run.at < result.at) }
+    ensures held_le_line_room { (result.held ≤ line_room) × (result.used ≤ run.used + answer_room) ×
+        (run.at < result.at) }
 {
     let taken = cut(chunk, run.at, line, run.held);
     let end = taken.at;

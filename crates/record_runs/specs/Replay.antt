@@ -1,18 +1,18 @@
 -- A record that is run, line by line. 02, M-100; docs/RECORD.md. Assumes nothing.
---   said_in bs            what the lines of the bytes bs say, in order: reading, from bytes to lines to calls
---   said_after p bs       what the lines say that end in bs, if p stands before bs
---   call_onto s cs        the calls cs behind the call that the line s says, if it says one
---   calls_in ss           the calls that the lines ss say, in order: a line that cannot be read says none
---   numbers_shown n o     the bytes that tell the outcome o of line n: its numbers, and the messages
---   answer_to n s x       the bytes that line n is answered by, if it says s and is lent x: the numbers of the
+--   said_in bs           what the lines of the bytes bs say, in order: reading, from bytes to lines to calls
+--   said_after p bs      what the lines say that end in bs, if p stands before bs
+--   call_onto s cs       the calls cs behind the call that the line s says, if it says one
+--   calls_in ss          the calls that the lines ss say, in order: a line that cannot be read says none
+--   numbers_shown n o    the bytes that tell the outcome o of line n: its numbers, and the messages
+--   answer_to n s x      the bytes that line n is answered by, if it says s and is lent x: the numbers of the
 --                        answer with the messages; of a line that cannot be read its number alone
---   passed_on s x         what is lent to the next line
---   answers_from n ss x   the bytes that the lines ss are answered by, if the first has the number n
+--   passed_on s x        what is lent to the next line
+--   answers_from n ss x  the bytes that the lines ss are answered by, if the first has the number n
 --   Held                 where a run is: what is kept of the line that has not ended, how many lines have,
 --                        and what is lent to the next
---   lent_of l g s         the block l, the log g and a move's numbers s, lent together
---   gone_on bs h          where the run h is with the bytes bs more
---   printed_by bs h       what it has then printed
+--   lent_of l g s        the block l, the log g and a move's numbers s, lent together
+--   gone_on bs h         where the run h is with the bytes bs more
+--   printed_by bs h      what it has then printed
 use Rattle.std.specs.Prelude.{ℕ, suc, ◌+◌, List, [], ◌∷◌, ◌++◌, map, length, take}
 use Rattle.record_lines.specs.Parted.{ended_by, rest_by}
 use Rattle.record_lines.specs.Lines.{line_feed, kept, lines_of}

@@ -25,7 +25,8 @@ part-more xs m e h h' h'' b so_far w =
 pub part-all : (xs : List ℕ) (e : ℕ) (h h' : Held) → e ≡ length xs → h' ≡ gone_on (slice 0 e xs) h →
     h' ≡ gone_on xs h
 part-all xs e h h' all so_far =
-    so_far ∙ ap (λ (n : ℕ). gone_on (slice 0 n xs) h) all ∙ ap (λ (bs : List ℕ). gone_on bs h) (take-length xs)
+    so_far ∙ ap (λ (n : ℕ). gone_on (slice 0 n xs) h) all ∙ ap (λ (bs : List ℕ). gone_on bs h)
+    (take-length xs)
 
 pub part-number : (xs : List ℕ) (e : ℕ) (h h' : Held) → e ≤ length xs → h' ≡ gone_on (slice 0 e xs) h →
     h'.number ≤ h.number + e

@@ -1,18 +1,18 @@
 -- Every count, size and place of the board's block, each by one name. 01, "The board", "Calls and their
 -- refusals". Assumes nothing.
---   hart_count, hart_files, file_count     4 harts with five files each: machine 0, supervisor 1, guests from
+--   hart_count, hart_files, file_count  4 harts with five files each: machine 0, supervisor 1, guests from
 --                                       first_guest on; 20 in all
---   domain_count                         two domains: the machine domain 0, the child 1
+--   domain_count                        two domains: the machine domain 0, the child 1
 --   identities                          a file has the identities 1 to 255; definitions take the number n
---   source_count                         a domain has the sources 1 to 63
---   file_set_size, source_set_size          the words of a set of identities, and of a set of sources
+--   source_count                        a domain has the sources 1 to 63
+--   file_set_size, source_set_size      the words of a set of identities, and of a set of sources
 --   ..Size                              how many words something takes: a file, the files, a delivery
 --                                       structure, the four of a domain, a domain, the wired controller,
 --                                       the block, the log; saved_size: the 64-bit numbers that a move saves
---   fields_size                          the words of a file's four fields, which stand first among its words
---   slot_count                           a domain has a word at each number 0 to 63, twice: number 0 is the
+--   fields_size                         the words of a file's four fields, which stand first among its words
+--   slot_count                          a domain has a word at each number 0 to 63, twice: number 0 is the
 --                                       domain's own, the others are the sources'
---   ..Place, wired_end                   the first word of a part in what holds it; where that part ends
+--   ..Place, wired_end                  the first word of a part in what holds it; where that part ends
 use Rattle.std.specs.Prelude.{ℕ, ◌+◌, ◌*◌}
 
 -- ---- counts

@@ -1,6 +1,7 @@
 // Every count, size and place of the board's block, each by one name: those of specs/Sizes.antt, for the
 // code.
 #![tactic(auto)]
+
 pub const HART_COUNT: usize = 4;
 
 pub const HART_FILES: usize = 5;

@@ -45,7 +45,8 @@ module _ (p e : ℕ) (hp : p < 2 ^ 64) where
 module _ (s v w p : ℕ) where
   pub word_low : p < 2 ^ 64
       → eqb (common p (union (without s w) (common v w))) 0
-      ≡ every (λ j. not (has_bit p j && ((has_bit s j && not (has_bit w j)) || (has_bit v j && has_bit w j)))) 0 64
+      ≡ every (λ j. not (has_bit p j &&
+      ((has_bit s j && not (has_bit w j)) || (has_bit v j && has_bit w j)))) 0 64
   word_low hp =
       word_test (common p (union (without s w) (common v w)))
       (λ j. not (has_bit p j && ((has_bit s j && not (has_bit w j)) || (has_bit v j && has_bit w j))))

@@ -264,7 +264,8 @@ module _ (c m e wire : Bool) (s : Source) where
   parts = slot_sound c m s.mode s.target && bits_sound c m e wire s
 
   parts-occupied : occupied c s.mode ≡ true → parts ≡ source_sound c m e wire s
-  unfolding slot_sound bits_sound source_sound source_steady mode_range target_range inactive_rule sent_rule candidate
+  unfolding slot_sound bits_sound source_sound source_steady mode_range target_range inactive_rule sent_rule
+      candidate
   parts-occupied o =
       tested (eqb s.mode (kept_mode s.mode))
       (λ t. simp (o, word-occupied c s.mode o, t, kept-active c s.mode o t)
@@ -273,7 +274,8 @@ module _ (c m e wire : Bool) (s : Source) where
       (λ f. simp (o, word-occupied c s.mode o, f))
 
   parts-empty : occupied c s.mode ≡ false → parts ≡ source_sound c m e wire s
-  unfolding slot_sound bits_sound source_sound source_steady mode_range target_range inactive_rule sent_rule candidate
+  unfolding slot_sound bits_sound source_sound source_steady mode_range target_range inactive_rule sent_rule
+      candidate
   parts-empty o =
       let empty = word-empty c s.mode o in
       simp (o, empty.0, empty.1, and-false)

@@ -1,14 +1,14 @@
 -- The sourcecfg word of a source. 01, "The wired controller"; the standard 4.5.2. Assumes nothing.
---   delegated_bit          the bit D of a sourcecfg word, which delegates
---   delegated_word         what is stored for a delegated source: that bit alone
+--   delegated_bit         the bit D of a sourcecfg word, which delegates
+--   delegated_word        what is stored for a delegated source: that bit alone
 --   edge1, edge0, level1, level0
 --                         the modes that read the wire, by the names of the standard
---   is_active m            the domain has the source, with a mode other than 0; 1024 says that it is delegated
---   is_level m             Level1 or Level0
---   is_rectified m wire    the rectified value is high: in Edge1 or Level1 with a high wire, in Edge0 or
+--   is_active m           the domain has the source, with a mode other than 0; 1024 says that it is delegated
+--   is_level m            Level1 or Level0
+--   is_rectified m wire   the rectified value is high: in Edge1 or Level1 with a high wire, in Edge0 or
 --                         Level0 with a low one, and in no other mode
---   kept_mode v            the mode that a written v has: bits 2:0, of which 2 and 3 become 0
---   source_word c has v    what a write of v stores in the child domain (c) or in the machine domain; has says
+--   kept_mode v           the mode that a written v has: bits 2:0, of which 2 and 3 become 0
+--   source_word c has v   what a write of v stores in the child domain (c) or in the machine domain; has says
 --                         that the child has the source
 -- The bit D, bit 10, delegates in the machine domain, and stores 0 in the child.
 use Rattle.std.specs.Prelude.{ℕ, Bool, cond, not, ◌&&◌, ◌||◌, eqb, ltb}

@@ -118,13 +118,15 @@ module _ (t : ℕ) (h : t < 2 ^ 32) where
       → eqb (stray t g) 0 ≡ eqb t (hart_of t * 2 ^ 18 + (y + number_of t))
   unfolding above between below
   gathers g x y e q =
-      (λ k. eqb (bit_or (bit_or (and_high t 12 20 k) (and_high t 4 14 k)) (bit_or (and_high t 4 8 k) (e k))) 0)
+      (λ k. eqb (bit_or (bit_or (and_high t 12 20 k) (and_high t 4 14 k))
+      (bit_or (and_high t 4 8 k) (e k))) 0)
       ∙ rest-stray (above t) (hart_of t) (between t) (guest_of t) (below t) (number_of t) x y q
       ∙ ap (λ (z : ℕ). eqb z (hart_of t * 2 ^ 18 + (y + number_of t))) (sym fields)
 
   stray-machine : eqb (stray t 12288) 0 ≡ eqb t (packed (hart_of t) 18 (number_of t))
   stray-machine =
-      gathers 12288 (guest_of t * 2 ^ 12) 0 (and_high t 2 12 ∙ ap (λ (x : ℕ). x * 2 ^ 12) (sym (guest_of-is t)))
+      gathers 12288 (guest_of t * 2 ^ 12) 0
+      (and_high t 2 12 ∙ ap (λ (x : ℕ). x * 2 ^ 12) (sym (guest_of-is t)))
       (omega arith)
       ∙ ap (eqb t) (ap (λ (x : ℕ). hart_of t * 2 ^ 18 + x) (zero-add (number_of t))
       ∙ sym (packed-is (hart_of t) 18 (number_of t)))
@@ -140,7 +142,8 @@ module _ (t : ℕ) (h : t < 2 ^ 32) where
 
   -- where a domain delivers directly, a priority of 0 is not kept
   direct : (c : Bool)
-      → (eqb t (packed (hart_of t) 18 (number_of t)) && not (eqb (number_of t) 0)) ≡ eqb t (kept_target c false t)
+      → (eqb t (packed (hart_of t) 18 (number_of t)) && not (eqb (number_of t) 0)) ≡ eqb t
+      (kept_target c false t)
   direct c =
       tested (eqb (number_of t) 0)
       (λ e. let zero = eqb-true (number_of t) 0 e in

@@ -1,12 +1,12 @@
 -- The state rules of one source of a domain, one definition each. 01, "State rules". Assumes nothing.
---   mode_range c s                the sourcecfg word is one that a write stores, where the domain has the
+--   mode_range c s               the sourcecfg word is one that a write stores, where the domain has the
 --                                source
---   target_range c m s            an active source's target is one that a write stores
---   inactive_rule s               an inactive source has zeros: target, pending and enable
---   level_rule m wire s           a level source whose rectified value is low is not pending; in direct mode,
+--   target_range c m s           an active source's target is one that a write stores
+--   inactive_rule s              an inactive source has zeros: target, pending and enable
+--   level_rule m wire s          a level source whose rectified value is low is not pending; in direct mode,
 --                                one whose value is high is
---   source_steady c m wire s      these four: they hold also in the middle of a call, before anything is sent
---   sent_rule sends s             where the domain sends, s is not to be sent: it is no candidate
+--   source_steady c m wire s     these four: they hold also in the middle of a call, before anything is sent
+--   sent_rule sends s            where the domain sends, s is not to be sent: it is no candidate
 --   source_sound c m sends wire s all of these
 -- c says that the domain is the child, m is the delivery mode, true for messages; sends says that it has IE
 -- and DM. That a stored number is in its range is said so: to write it would store it as it is.

@@ -1,7 +1,7 @@
 -- A target, and the message that goes to it. 01, "The wired controller"; the standard 4.5.16, 4.9.1.
 -- Assumes nothing.
---   hart_at, guest_at                    where a target has its hart, and in the child its guest index
---   hart_of t, guest_of t, number_of t    bits 19:18, bits 13:12, and bits 7:0, a priority or an identity
+--   hart_at, guest_at                   where a target has its hart, and in the child its guest index
+--   hart_of t, guest_of t, number_of t  bits 19:18, bits 13:12, and bits 7:0, a priority or an identity
 --   start_target messages               the target of a source that becomes active
 --   kept_target child messages v        what a write of v stores
 --   message_of child t                  the message of a source with target t
@@ -43,7 +43,8 @@ receiver_of child v = cond child (packed (guest_of v) guest_at (number_of v)) (n
 
 -- [01 W29 W31 W34 T8]
 unfoldable pub kept_target : Bool → Bool → ℕ → ℕ
-kept_target child messages v = packed (hart_of v) hart_at (cond messages (receiver_of child v) (priority_of v))
+kept_target child messages v = packed (hart_of v) hart_at
+    (cond messages (receiver_of child v) (priority_of v))
 
 -- [01 W35 T8]
 unfoldable pub message_of : Bool → ℕ → ℕ

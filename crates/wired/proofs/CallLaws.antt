@@ -78,7 +78,8 @@ module _ (w : Wired) (s : WiredSteady w) (q : WiredQuiet w) where
 -- ---- a read, and a write to genmsi
 
 module _ (w : Wired) (s : WiredSteady w) (q : WiredQuiet w) where
-  pub read-silent : (c : Bool) (r : Word) → read_call w c r ≡ record { wired = claimed_in w c r; messages = [] }
+  pub read-silent : (c : Bool) (r : Word) → read_call w c r
+      ≡ record { wired = claimed_in w c r; messages = [] }
   unfolding read_call
   read-silent c r = flushed-quiet (claimed_in w c r) (quiet-claimed_in w q c r)
 

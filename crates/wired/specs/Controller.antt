@@ -1,12 +1,12 @@
 -- What a wire that is set, a read and a write do to the wired controller, and the messages that they send.
 -- 01, "The wired controller"; the standard 4.5.15, 4.9. Assumes nothing.
 --   Out, flushed w       the pass of both domains, and what they sent: Rattle.wired_state
---   genmsi_as c d v x     what a write of v to a register of d whose role is x sends at once: genmsi's
+--   genmsi_as c d v x    what a write of v to a register of d whose role is x sends at once: genmsi's
 --                        message, else nothing
---   genmsi_by c d r v     what a write of v to register r of d sends at once
---   wire_call w i level   wire i is set, and what is then to be sent is sent
---   read_call w c r       register r of a domain is read; only a claimi changes anything
---   write_call w c r v    v is written to register r of a domain
+--   genmsi_by c d r v    what a write of v to register r of d sends at once
+--   wire_call w i level  wire i is set, and what is then to be sent is sent
+--   read_call w c r      register r of a domain is read; only a claimi changes anything
+--   write_call w c r v   v is written to register r of a domain
 --   OneSends w           at most one of the two domains has something to send
 --   Leaves o w l l' n    a function that does o leaves the controller w, makes of the log l the log l', and
 --                        counts n messages

@@ -11,7 +11,8 @@ use Rattle.domain.specs.Domain.{Domain, by_messages}
 use Rattle.domain.specs.Slot.{source_at}
 use Rattle.domain_laws.specs.Shape.{DomainShaped}
 use Rattle.domain_writes.specs.Writes.{target_written}
-use Rattle.domain_writes_laws.proofs.WritesEffects.{source_at-target_written-same, source_at-target_written-other}
+use Rattle.domain_writes_laws.proofs.WritesEffects.{source_at-target_written-same}
+use Rattle.domain_writes_laws.proofs.WritesEffects.{source_at-target_written-other}
 use Rattle.domain_registers.specs.Write.{register_written}
 use Rattle.wired_state.specs.Wires.{Wired, domain_in, with_domain}
 use Rattle.wired_registers.specs.Wired.{written_as, written_in}
@@ -64,4 +65,5 @@ module _ (w : Wired) (c : Bool) (i v : ℕ) where
   pub target-other : (j : ℕ) → j ≢ i
       → source_at (domain_in (written_in w c (Target i) v) c) j ≡ source_at (domain_in w c) j
   target-other j n =
-      ap (λ (d : Domain). source_at d j) target-domain ∙ source_at-target_written-other c (domain_in w c) i v j n
+      ap (λ (d : Domain). source_at d j) target-domain ∙ source_at-target_written-other c
+      (domain_in w c) i v j n

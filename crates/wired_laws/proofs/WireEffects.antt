@@ -1,7 +1,7 @@
 -- A wire that is set, with what is then sent, in a controller that keeps the rules: it changes its own source
 -- alone, and sends that source's message or none. No contract cites this file. Assumes nothing.
 --   wire_set-..    before anything is sent
---   wire-..       after the messages: -other of any other source, -own of its own
+--   wire-..        after the messages: -other of any other source, -own of its own
 use Prim.Native.Nat.{ℕ, ◌≤◌, ◌<◌}
 use mathlib.Core.Path.{◌≡◌, refl, sym, ap, ap₂, ◌∙◌}
 use mathlib.Core.Bool.{Bool, true, false, cond, ◌&&◌}
@@ -74,7 +74,8 @@ module _ (w : Wired) (i : ℕ) (level c : Bool) where
       ap sends (wire-domain w i level c) ∙ sends-same before _ (domaincfg_of-with_source before i changed l)
 
   -- its message goes where it would have gone
-  pub wire_set-target : DomainShaped before → i < 64 → (source_at after i).target ≡ (source_at before i).target
+  pub wire_set-target : DomainShaped before → i < 64 → (source_at after i).target ≡
+      (source_at before i).target
   unfolding wire_changed settled
   wire_set-target shaped h = ap (λ (s : Source). s.target) (wire_set-own shaped h)
 
@@ -86,13 +87,15 @@ module _ (w : Wired) (q : WiredQuiet w) (i : ℕ) (l : 1 ≤ i) (h : i < 64) (le
       → candidate (source_at (domain_in (wire_set w i level) c) j) ≡ false
   wire-one t j n a b =
       ap candidate (wire_set-other w i level c j n)
-      ∙ quiet-candidate c (domain_in w c) (quiet-domain_in w q c) (sym (wire_set-sends w i level c l) ∙ t) j a b
+      ∙ quiet-candidate c (domain_in w c) (quiet-domain_in w q c)
+      (sym (wire_set-sends w i level c l) ∙ t) j a b
 
   pub wire-other : (j : ℕ) → j ≢ i → 1 ≤ j → j < 64
       → source_at (domain_in (wire_call w i level).wired c) j ≡ source_at (domain_in w c) j
   wire-other j n a b =
       ap (λ (d : Domain). source_at d j) (call-domain w i level c)
-      ∙ sent-one-other c (domain_in (wire_set w i level) c) i wire-one j n a b ∙ wire_set-other w i level c j n
+      ∙ sent-one-other c (domain_in (wire_set w i level) c) i wire-one j n a b
+      ∙ wire_set-other w i level c j n
 
   pub wire-own : DomainShaped (domain_in w c)
       → let s = changed w i level c in
@@ -115,7 +118,8 @@ module _ (w : Wired) (q : WiredQuiet w) (i : ℕ) (l : 1 ≤ i) (h : i < 64) (le
       sent-one c d i wire-one l h ∙ rw (wire_set-sends w i level c l ∙ t) hit
       ∙ ap (λ (x : ℕ). message_of c x ∷ []) (wire_set-target w i level c shaped h)
 
-  wire-miss : DomainShaped (domain_in w c) → (sends (domain_in w c) && candidate (changed w i level c)) ≡ false
+  wire-miss : DomainShaped (domain_in w c) → (sends (domain_in w c) && candidate (changed w i level c))
+      ≡ false
       → (sent c (domain_in (wire_set w i level) c)).messages ≡ []
   wire-miss shaped f =
       let d = domain_in (wire_set w i level) c in

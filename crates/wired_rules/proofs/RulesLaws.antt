@@ -120,7 +120,8 @@ module _ (w : Wired) (sound : domain_sound false w.wires w.machine ≡ true) whe
   delegated-word =
       none-every 64 (without taken given) (lt_of_le_of_lt (without-le taken given) (gathered-lt _ 64))
       ∙ every_first (λ j. not (has_bit (without taken given) j)) 63
-      ∙ (λ k. first k && every-same (λ j. not (has_bit (without taken given) j)) (delegated_rule w) 1 63 each k)
+      ∙ (λ k. first k && every-same (λ j. not (has_bit (without taken given) j))
+      (delegated_rule w) 1 63 each k)
     where
       first : not (has_bit (without taken given) 0) ≡ true
       first = ap not (has_bit-without taken given 0

@@ -3,7 +3,7 @@
 --   domaincfg_range d        the stored domaincfg has no bits but IE and DM
 --   genmsi_range d           the stored genmsi has no bits but a hart and an identity
 --   structure_range d h      the numbers of the delivery structure of hart h lie in their ranges
---   source_zero_rule ws       there is no number 0 in the set ws: no wire and no source has it
+--   source_zero_rule ws      there is no number 0 in the set ws: no wire and no source has it
 --   genmsi_rule d            genmsi is 0 in direct mode
 --   source_rule c ws d i     source i keeps the rules of a source; ws are the wires
 --   domain_sound c ws d      all of these, for a domain

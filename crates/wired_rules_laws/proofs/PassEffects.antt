@@ -108,7 +108,8 @@ module _ (c : Bool) (d : Domain) where
       (tested (sends d) (λ t. rw (t, sent-sends, sent-quiet c d t i l h))
       (λ f. rw (f, sent-silent)))
 
-  pub quiet-candidate : Quiet d → sends d ≡ true → (i : ℕ) → 1 ≤ i → i < 64 → candidate (source_at d i) ≡ false
+  pub quiet-candidate : Quiet d → sends d ≡ true → (i : ℕ) → 1 ≤ i → i < 64 → candidate (source_at d i)
+      ≡ false
   quiet-candidate q t i l h = not-true (candidate (source_at d i)) (rw (t, sent-sends) at (q i l h))
 
   pub sent-again : Quiet d → sent c d ≡ sent_nothing d

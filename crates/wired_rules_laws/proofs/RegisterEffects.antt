@@ -71,7 +71,8 @@ module _ (c : Bool) (ws : List ℕ) (d : Domain) (s : Steady c ws d) where
 
   -- ---- a write to any register
 
-  pub kept-register_written : (r : Word) → Within r → (v : ℕ) → DomainKept c ws d (register_written c d ws r v)
+  pub kept-register_written : (r : Word) → Within r → (v : ℕ) → DomainKept c ws d
+      (register_written c d ws r v)
   unfolding register_written
   kept-register_written Domaincfg q v = kept-domaincfg_written c ws d s v
   kept-register_written (Sourcecfg i) q v = kept-none c ws d s

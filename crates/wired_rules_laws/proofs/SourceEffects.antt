@@ -46,7 +46,8 @@ module _ (c : Bool) (ws : List ℕ) (d : Domain) (s : Steady c ws d) (i : ℕ) (
       }
 
   -- the word of source i becomes one that a write stores
-  pub steady-source_moded : (v : ℕ) → v ≡ source_word c true v → Steady c ws (source_moded d i v (member ws i))
+  pub steady-source_moded : (v : ℕ) → v ≡ source_word c true v → Steady c ws
+      (source_moded d i v (member ws i))
   unfolding source_moded
   steady-source_moded v e =
       steady-with_source c ws d s i (moded (source_at d i) (by_messages d) v (member ws i)) l h
@@ -56,7 +57,8 @@ module _ (c : Bool) (ws : List ℕ) (d : Domain) (s : Steady c ws d) (i : ℕ) (
       → Steady c ws (source_moded d i (source_word c has v) (member ws i))
   unfolding source_moded
   steady-source_moded-word has v =
-      steady-with_source c ws d s i (moded (source_at d i) (by_messages d) (source_word c has v) (member ws i)) l
+      steady-with_source c ws d s i
+      (moded (source_at d i) (by_messages d) (source_word c has v) (member ws i)) l
       h (steady-source_word c (by_messages d) (member ws i) (source_at d i) (s.source i l h) has v)
 
   -- the source starts anew

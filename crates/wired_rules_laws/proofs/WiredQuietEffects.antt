@@ -78,7 +78,8 @@ module _ (w : Wired) (q : WiredQuiet w) where
 
   pub quiet-claimed_in : (c : Bool) (r : Word) → WiredQuiet (claimed_in w c r)
   quiet-claimed_in c r =
-      quiet-with_domain c (claimed_by (domain_in w c) r) (quiet-claimed_by (domain_in w c) (quiet-domain_in c) r)
+      quiet-with_domain c (claimed_by (domain_in w c) r)
+      (quiet-claimed_by (domain_in w c) (quiet-domain_in c) r)
 
   module _ (s : WiredSteady w) where
     pub quiet-genmsi : (c : Bool) (v : ℕ) → WiredQuiet (part_written w c Genmsi v)
@@ -92,7 +93,8 @@ module _ (w : Wired) (q : WiredQuiet w) where
     quiet-written_in-genmsi c v = quiet-genmsi c v
 
     -- a target: what is pending and enabled stays
-    pub quiet-target : (c : Bool) (i : ℕ) → 1 ≤ i → i < 64 → (v : ℕ) → WiredQuiet (written_in w c (Target i) v)
+    pub quiet-target : (c : Bool) (i : ℕ) → 1 ≤ i → i < 64 → (v : ℕ) → WiredQuiet
+        (written_in w c (Target i) v)
     unfolding written_in written_as register_written target_written
     quiet-target c i l h v =
         let d = domain_in w c in
@@ -120,5 +122,6 @@ module _ (w : Wired) (q : WiredQuiet w) where
         → Quiet (domain_in (written_in w c r v) (not c))
     quiet-other c r b v =
         written-cases w c r v (λ (x : Wired). Quiet (domain_in x (not c))) b
-        (rw (other-with_domain w c (register_written c (domain_in w c) w.wires r v)) (quiet-domain_in (not c)))
+        (rw (other-with_domain w c (register_written c (domain_in w c) w.wires r v))
+        (quiet-domain_in (not c)))
         (λ i l h. other-source_written i l h v c)

@@ -39,7 +39,8 @@ module _ (w : Wired) (s : WiredSteady w) (i : ℕ) (l : 1 ≤ i) (h : i < 64) wh
       range-greatest false x.mode range (leb-true 1024 x.mode t)
 
   -- a delegation written again
-  pub delegated-again : (v : ℕ) → has_bit v 10 ≡ true → is_delegated w i ≡ true → source_written w false i v ≡ w
+  pub delegated-again : (v : ℕ) → has_bit v 10 ≡ true → is_delegated w i ≡ true → source_written w false i v
+      ≡ w
   delegated-again v b t =
       let word = word-delegated v false false refl b in
       let stays : beq (is_delegated w i) (leb 1024 (source_word false false v)) ≡ true = rw (t, word) in

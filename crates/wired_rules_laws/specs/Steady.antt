@@ -1,11 +1,11 @@
 -- The state rules in two halves: those that hold also in the middle of a call, before anything is sent, and
 -- that everything has been sent. 01, "State rules". Assumes nothing.
---   Steady c ws d       every rule of a domain but the one that it has sent all; ws are the wires
---   DomainKept c ws d d'   d' is steady and has the sourcecfg words of d
---   Quiet d             the domain has sent all
---   WiredSteady w       every rule of the controller but that its domains have sent all
---   WiredQuiet w        both domains have sent all
---   passed w            w after the pass of messages of both domains
+--   Steady c ws d         every rule of a domain but the one that it has sent all; ws are the wires
+--   DomainKept c ws d d'  d' is steady and has the sourcecfg words of d
+--   Quiet d               the domain has sent all
+--   WiredSteady w         every rule of the controller but that its domains have sent all
+--   WiredQuiet w          both domains have sent all
+--   passed w              w after the pass of messages of both domains
 -- c says that the domain is the child.
 use Rattle.std.specs.Prelude.{ℕ, ◌≤◌, ◌<◌, ◌≡◌, Bool, true, false, List, length}
 use Rattle.sizes.specs.Sizes.{hart_count, slot_count, source_set_size}
@@ -28,7 +28,8 @@ pub record Steady (c : Bool) (ws : List ℕ) (d : Domain) : Type 0 where
   pub structures : (h : ℕ) → h < hart_count → structure_range d h ≡ true
   pub pending-zero : source_zero_rule d.pending ≡ true
   pub enable-zero : source_zero_rule d.enable ≡ true
-  pub source : (i : ℕ) → 1 ≤ i → i < slot_count → source_steady c (by_messages d) (member ws i) (source_at d i)
+  pub source : (i : ℕ) → 1 ≤ i → i < slot_count → source_steady c (by_messages d) (member ws i)
+      (source_at d i)
       ≡ true
 
 pub record DomainKept (c : Bool) (ws : List ℕ) (d d' : Domain) : Type 0 where

@@ -1,6 +1,6 @@
 -- A sourcecfg that is written, with delegation and taking back. 01, "The wired controller"; the standard
 -- 4.5.2. Assumes nothing.
---   source_moded d i m wire   d after the sourcecfg word of source i became m
+--   source_moded d i m wire  d after the sourcecfg word of source i became m
 --   child_written, machine_written, source_written w c i v
 --                            w after v was written to sourcecfg[i] of a domain
 -- Where the delegation of a source changes, the child's source starts anew. Nothing is sent here: that comes

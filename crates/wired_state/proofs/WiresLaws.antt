@@ -30,7 +30,8 @@ module _ (l ys : List ℕ) (long : length l ≡ wired_size) (part : length ys �
       let two : length (take 2 l) ≡ 2 = simp length-take (omega arith) in
       let behind = drop_at (take 2 l) (ys ++ drop domain_size (drop 2 l)) 2 two in
       wired-path (take_at (take 2 l) (ys ++ drop domain_size (drop 2 l)) 2 two)
-      (ap domain_of (ap (take domain_size) behind ∙ take_at ys (drop domain_size (drop 2 l)) domain_size part))
+      (ap domain_of (ap (take domain_size) behind ∙ take_at ys
+      (drop domain_size (drop 2 l)) domain_size part))
       (ap (λ (x : List ℕ). domain_of (take domain_size x))
       (sym (drop-drop domain_size 2 (take 2 l ++ (ys ++ drop domain_size (drop 2 l))))
       ∙ ap (drop domain_size) behind
@@ -85,7 +86,8 @@ module _ (l ys : List ℕ) (long : length l ≡ wired_size) (part : length ys �
   put-long = simp (length-append, length-take, length-drop) (omega arith)
 
   pub second-part : domain_of
-      (take domain_size (drop child_place (take 2 l ++ (ys ++ drop domain_size (drop 2 l))))) ≡ (wired_of l).child
+      (take domain_size (drop child_place (take 2 l ++ (ys ++ drop domain_size (drop 2 l))))) ≡
+      (wired_of l).child
   second-part =
       child-part (take 2 l ++ (ys ++ drop domain_size (drop 2 l))) put-long
       ∙ ap (λ (w : Wired). w.child) (put-machine l ys long part)

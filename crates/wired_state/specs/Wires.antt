@@ -1,14 +1,14 @@
 -- The wires and the two domains, in 290 words, and a wire that is set. 01, "The board", "The wired
 -- controller"; the standard 4.7. Assumes nothing.
 --   Wired                    wires: the levels of wires 1 to 63, a set; machine: the machine domain; child
---   wired_of l                the controller whose words are l: 2 of wires, 144 of the machine domain, 144 of
+--   wired_of l               the controller whose words are l: 2 of wires, 144 of the machine domain, 144 of
 --                            the child
---   domain_in w c             the child (c), or the machine domain
---   with_domain w c d         w with that domain as d
---   is_delegated w i          source i is delegated: the machine domain's sourcecfg says so
---   with_wires w ws           w with the wires ws
---   source_wired d i was is   d after the wire of source i went from was to is
---   wire_set w i level        w after wire i was set: both domains see the change
+--   domain_in w c            the child (c), or the machine domain
+--   with_domain w c d        w with that domain as d
+--   is_delegated w i         source i is delegated: the machine domain's sourcecfg says so
+--   with_wires w ws          w with the wires ws
+--   source_wired d i was is  d after the wire of source i went from was to is
+--   wire_set w i level       w after wire i was set: both domains see the change
 -- Nothing is sent here: that comes after.
 use Rattle.std.specs.Prelude.{ℕ, Bool, cond, List, leb, take, drop}
 use Rattle.sizes.specs.Sizes.{source_set_size, domain_size, machine_place, child_place}

@@ -2,8 +2,8 @@
 -- this file. Assumes nothing.
 --   bit_of-..           a bit as a number, for each definition
 --   has_bit-..          the same as a truth value: -same the bit that was changed, -other any other
---   bits-ext           two words of n bits are equal if their bits are
---   ..-or, ..-and      what the code's `|`, `&` and `!` give
+--   bits-ext            two words of n bits are equal if their bits are
+--   ..-or, ..-and       what the code's `|`, `&` and `!` give
 use Prim.Native.Nat.{ℕ, zero, suc, ◌+◌, ◌-◌, ◌*◌, ◌/◌, ◌%◌, ◌^◌, ◌≤◌, ◌<◌, min, max}
 use mathlib.Core.Path.{◌≡◌, refl, sym, ap, ap₂, ◌∙◌}
 use mathlib.Core.Bool.{Bool, true, false, not, ◌&&◌, ◌||◌, true≢false, false≢true}
@@ -14,7 +14,8 @@ use native.Mathlib.Omega.{arith}
 use lib.Arith.{lt-one}
 use lib.Dec.{eqb}
 use lib.Pow.{pow_pos, pow-lt, shr-shr}
-use lib.Bits.{bit_and, bit_or, and_step, or_step, or_shr, or_mod, and_shr, and_mod, and_le_l, or_lt, or_zero_r}
+use lib.Bits.{bit_and, bit_or, and_step, or_step, or_shr, or_mod, and_shr, and_mod, and_le_l, or_lt}
+use lib.Bits.{or_zero_r}
 use lib.Bits.{and_zero_r}
 use borrow.Author.Tests.{eq-eqb, ne_eqb}
 use Rattle.words.specs.Bits.{bit_of, has_bit, with_bit, without_bit, put_bit, union, without}
@@ -286,7 +287,8 @@ unfolding put_bit
 put_bit-off w k b e = simp e
 
 pub has_bit-put_bit-same : (w k : ℕ) (b : Bool) → has_bit (put_bit w k b) k ≡ b
-has_bit-put_bit-same w k true = ap (λ (x : ℕ). has_bit x k) (put_bit-on w k true refl) ∙ has_bit-with_bit-same w k
+has_bit-put_bit-same w k true = ap (λ (x : ℕ). has_bit x k) (put_bit-on w k true refl)
+    ∙ has_bit-with_bit-same w k
 has_bit-put_bit-same w k false =
     ap (λ (x : ℕ). has_bit x k) (put_bit-off w k false refl) ∙ has_bit-without_bit-same w k
 

@@ -88,7 +88,8 @@ module _ (ws : List ℕ) (i : ℕ) where
 
   pub member-remove-other : (j : ℕ) → j ≢ i → member (remove ws i) j ≡ member ws j
   unfolding remove
-  member-remove-other j = placed-other ws i (without_bit old (i % 32)) j (has_bit-without_bit-other old (i % 32))
+  member-remove-other j = placed-other ws i (without_bit old (i % 32)) j
+      (has_bit-without_bit-other old (i % 32))
 
   pub length-insert : length (insert ws i) ≡ length ws
   unfolding insert

@@ -22,7 +22,8 @@ below_step w t (suc p) e half j l = absurd (omega arith)
 pub bit_of-below : (n w j : ℕ) → j < count_trailing_zeros n w → bit_of w j ≡ 0
 unfolding count_trailing_zeros
 bit_of-below zero w j h = absurd (omega arith)
-bit_of-below (suc n) w j h = below_step w (count_trailing_zeros n (w / 2)) (w % 2) refl (bit_of-below n (w / 2)) j h
+bit_of-below (suc n) w j h = below_step w (count_trailing_zeros n (w / 2)) (w % 2) refl
+    (bit_of-below n (w / 2)) j h
 
 lowest_step : (w t p : ℕ) → p ≡ w % 2 → (p ≡ 0 → bit_of (w / 2) t ≡ 1) → bit_of w (under p t) ≡ 1
 lowest_step w t zero e half = bit_of-suc w t ∙ half refl

@@ -4,8 +4,8 @@
 --   with_bit w k       w with bit k set
 --   without_bit w k    w with bit k cleared
 --   put_bit w k b      w with bit k as b says
---   union w v         the bits of w and those of v
---   without w v       the bits of w that v has not
+--   union w v          the bits of w and those of v
+--   without w v        the bits of w that v has not
 -- No definition names a width: a word of 32 bits is a number below 2 ^ 32.
 use Rattle.std.specs.Prelude.{ℕ, ◌+◌, ◌-◌, ◌*◌, ◌/◌, ◌%◌, ◌^◌, Bool, cond, eqb}
 use Rattle.std.specs.Int.Bits.{bit_and, bit_or}

@@ -2,7 +2,7 @@
 --   reversed w            the four bytes of w, a number below 2 ^ 32, in the other order
 --   low w, high w         the low 32 bits of a 64-bit number, and the rest
 --   joined lo hi          the 64-bit number with these halves
---   field_of w at size     the size bits of w from bit at on
+--   field_of w at size    the size bits of w from bit at on
 --   packed hi at lo       the field hi from bit at on, above lo, a number below 2 ^ at
 use Rattle.std.specs.Prelude.{ℕ, ◌+◌, ◌*◌, ◌/◌, ◌%◌, ◌^◌}
 

@@ -9,7 +9,8 @@ use Rattle.cases.proofs.main.Given as goal
 
 abbrev pub invariant-loop-place : goal.invariant-loop-place
 invariant-loop-place l =
-    (length l.chunk ≡ 4096) × IsPrefixLen l.place.size l.chunk × (l.place.at ≤ l.place.size) × (l.place.held ≤ line_room)
+    (length l.chunk ≡ 4096) × IsPrefixLen l.place.size l.chunk × (l.place.at ≤ l.place.size) ×
+    (l.place.held ≤ line_room)
     × (l.number + l.place.left < 2 ^ 64) × Lendable l.lent.state l.lent.log
 
 abbrev pub decreases-loop-place : goal.decreases-loop-place

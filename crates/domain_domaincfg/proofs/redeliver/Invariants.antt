@@ -10,7 +10,8 @@ use Rattle.domain_domaincfg.proofs.redeliver.Given as goal
 abbrev pub invariant-loop-i : goal.invariant-loop-i
 invariant-loop-i l = (length l.part ≡ domain_size) × (1 ≤ l.i) × (l.i ≤ 64)
     × (l.messages ≡ by_messages (domain_of l.part))
-    × (redelivered_from (domain_of l.initial.part) l.wires 1 63 ≡ redelivered_from (domain_of l.part) l.wires l.i (64 - l.i))
+    × (redelivered_from (domain_of l.initial.part) l.wires 1 63 ≡ redelivered_from
+    (domain_of l.part) l.wires l.i (64 - l.i))
 
 abbrev pub decreases-loop-i : goal.decreases-loop-i
 decreases-loop-i l = 64 - l.i

@@ -55,8 +55,12 @@ pub loop-i-preserved : goal.loop-i-preserved
 loop-i-preserved c =
     let inv = c.loop-i.invariant in
     let d = domain_of c.args.part.now in
-    let more = c.loop-i-test.true in
-    (omega (arith, more, inv.1), omega (arith, inv.1), inv.2, so-far-next _ d _ 6 c.slot_at-g-in-loop-i-6.ensures)
+    let more = c.loop-i-test.true in (
+      omega (arith, more, inv.1),
+      omega (arith, inv.1),
+      inv.2,
+      so-far-next _ d _ 6 c.slot_at-g-in-loop-i-6.ensures,
+    )
 
 pub returns : goal.returns
 returns c =

@@ -7,7 +7,8 @@ use Rattle.domain_slots.proofs.gather.Given as goal
 
 abbrev pub invariant-loop-i : goal.invariant-loop-i
 invariant-loop-i l =
-    (l.i ≤ 64) × (l.i % 7 ≡ 1) × (l.messages ≡ by_messages (domain_of l.part)) × SoFar l.child (domain_of l.part) l.i l.g
+    (l.i ≤ 64) × (l.i % 7 ≡ 1) × (l.messages ≡ by_messages (domain_of l.part)) × SoFar l.child
+    (domain_of l.part) l.i l.g
 
 abbrev pub decreases-loop-i : goal.decreases-loop-i
 decreases-loop-i l = 64 - l.i

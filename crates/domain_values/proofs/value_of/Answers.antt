@@ -121,7 +121,8 @@ returns-in-Iforce c = c.setting_of-in-Iforce.ensures ∙ sym (ap (register_value
 
 pub returns-in-Ithreshold : goal.returns-in-Ithreshold
 unfolding register_value
-returns-in-Ithreshold c = c.setting_of-in-Ithreshold.ensures ∙ sym (ap (register_value _ _) c.in-Ithreshold.is)
+returns-in-Ithreshold c = c.setting_of-in-Ithreshold.ensures ∙ sym
+    (ap (register_value _ _) c.in-Ithreshold.is)
 
 pub returns-in-Topi : goal.returns-in-Topi
 unfolding register_value

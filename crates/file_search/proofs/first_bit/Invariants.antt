@@ -6,7 +6,8 @@ use Rattle.file_search.proofs.first_bit.Given as goal
 
 abbrev pub invariant-loop-rest : goal.invariant-loop-rest
 invariant-loop-rest l =
-    (l.k ≤ 32) × (l.rest ≡ l.word / 2 ^ l.k) × (first_bit l.word l.from (32 - l.from) ≡ first_bit l.word l.k (32 - l.k))
+    (l.k ≤ 32) × (l.rest ≡ l.word / 2 ^ l.k) ×
+    (first_bit l.word l.from (32 - l.from) ≡ first_bit l.word l.k (32 - l.k))
 
 abbrev pub decreases-loop-rest : goal.decreases-loop-rest
 decreases-loop-rest l = 32 - l.k

@@ -7,7 +7,8 @@ use Rattle.file_search.proofs.lowest_shared.Given as goal
 
 abbrev pub invariant-loop-at : goal.invariant-loop-at
 invariant-loop-at l =
-    (l.at ≤ 8) × (l.from < 32) × (lowest_shared l.pending l.enable ≡ shared_from l.pending l.enable (32 * l.at + l.from))
+    (l.at ≤ 8) × (l.from < 32) ×
+    (lowest_shared l.pending l.enable ≡ shared_from l.pending l.enable (32 * l.at + l.from))
 
 abbrev pub decreases-loop-at : goal.decreases-loop-at
 decreases-loop-at l = 8 - l.at

@@ -27,7 +27,8 @@ loop-k-preserved c =
     let rest : file_count - k ≡ 5 + (file_count - (k + 5)) = omega arith in (
       omega arith,
       omega arith,
-      ap (λ (b : Bool). at-loop.sound && b && every p (k + 5) (file_count - (k + 5))) c.hart_sound-sound.ensures
+      ap (λ (b : Bool). at-loop.sound && b && every p (k + 5)
+          (file_count - (k + 5))) c.hart_sound-sound.ensures
           ∙ and_assoc at-loop.sound (every p k 5) (every p (k + 5) (file_count - (k + 5)))
           ∙ ap (λ (b : Bool). at-loop.sound && b)
           (sym (every-parts p k 5 (file_count - (k + 5))) ∙ ap (every p k) (sym rest))

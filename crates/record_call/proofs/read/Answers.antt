@@ -19,12 +19,14 @@ pub of_fields-requires : goal.of_fields-requires
 of_fields-requires c =
     let read = c.numbers-fields.ensures in
     let texts = texts_of c.args.line.now in
-    (λ h. ap length (read.numbers_value h) ∙ count-length texts (subst (λ n. n ≤ most_numbers) read.count_value h)
+    (λ h. ap length (read.numbers_value h) ∙ count-length texts
+    (subst (λ n. n ≤ most_numbers) read.count_value h)
     ∙ sym read.count_value)
 
 pub returns : goal.returns
 returns c =
     let read = c.numbers-fields.ensures in
     c.of_fields.ensures
-    ∙ line_read c.args.line.now _ _ _ c.if-line-gt-LINE_SIZE.false c.name_end-end.ensures.line_value read.count_value
+    ∙ line_read c.args.line.now _ _ _ c.if-line-gt-LINE_SIZE.false c.name_end-end.ensures.line_value
+    read.count_value
     read.numbers_value

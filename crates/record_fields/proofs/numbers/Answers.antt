@@ -65,7 +65,8 @@ loop-at-preserved c =
     let text = text-found l k c.find-next.result c.find-next.ensures.place in
     let value = sym (ap number_in text) ∙ sym c.decimal.ensures ∙ c.in-Value.is in
     let left = c.loop-at in
-    let room : left.count < most_numbers = omega (arith, left.invariant.few, c.if-count-eq-MOST_NUMBERS.false) in
+    let room : left.count < most_numbers = omega
+    (arith, left.invariant.few, c.if-count-eq-MOST_NUMBERS.false) in
     let next = next-found l k c.find-next.result c.find-next.ensures.place in
     subst (NumbersTo l _ _) (sym next)
     (numbers_more l left.numbers left.count k left.invariant c.loop-at-test.true _
@@ -78,5 +79,6 @@ returns c =
     let l = c.args.line.now in
     record {
       count_value = numbers-count l left.numbers left.count left.at left.invariant c.loop-at-test.false;
-      numbers_value = (λ h. numbers-all l left.numbers left.count left.at left.invariant c.loop-at-test.false);
+      numbers_value = (λ h. numbers-all l left.numbers left.count left.at left.invariant
+          c.loop-at-test.false);
     }

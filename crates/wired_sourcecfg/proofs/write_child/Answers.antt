@@ -27,7 +27,8 @@ returns c =
     ∙ child-long l c.requires.0)
     ∙ ap (λ (d : Domain). record { wires = (wired_of l).wires; machine = (wired_of l).machine; child = d })
     (c.mode_source.ensures
-    ∙ ap₂ (λ (m : ℕ) (b : Bool). source_moded (domain_of (take domain_size (drop child_place l))) i m b) word wire
+    ∙ ap₂ (λ (m : ℕ) (b : Bool). source_moded
+    (domain_of (take domain_size (drop child_place l))) i m b) word wire
     ∙ ap
     (λ (d : Domain). source_moded d i (source_word true (is_delegated (wired_of l) i) c.args.value)
     (member (wired_of l).wires i))

@@ -37,7 +37,12 @@ returns-then-had-has c =
     ap₂ (λ (a : Bool) (m : ℕ). beq a (leb 1024 m)) (sym c.delegated-had.ensures) (sym word)
     ∙ c.if-had-has.true in
     put-machine l c.mode_source.new.part long kept
-    ∙ ap (λ (d : Domain). record { wires = (wired_of l).wires; machine = d; child = (wired_of l).child }) moded
+    ∙ ap (λ (d : Domain). record {
+      wires = (wired_of l).wires;
+      machine = d;
+      child =
+          (wired_of l).child;
+    }) moded
     ∙ sym (machine-stays (wired_of l) i c.args.value test)
 
 pub returns : goal.returns

@@ -10,7 +10,8 @@ use Rattle.domain_direct.proofs.DirectLaws.{written-messages, written-direct}
 use Rattle.domain_direct.proofs.numbers.put_setting.Goals as goal
 
 pub returns-then-by_messages : goal.returns-then-by_messages
-returns-then-by_messages c = sym (written-messages _ _ _ _ (sym c.by_messages.ensures ∙ c.if-by_messages.true))
+returns-then-by_messages c = sym
+    (written-messages _ _ _ _ (sym c.by_messages.ensures ∙ c.if-by_messages.true))
 
 pub returns : goal.returns
 returns c =

@@ -11,7 +11,8 @@ use Rattle.domain_sending.proofs.sources.pass.Given as goal
 
 abbrev pub invariant-loop-rest : goal.invariant-loop-rest
 invariant-loop-rest l =
-    (length l.part ≡ domain_size) × SoFar l.child (domain_of l.initial.part) l.initial.log (domain_of l.part) l.log l.i l.n
+    (length l.part ≡ domain_size) × SoFar l.child (domain_of l.initial.part) l.initial.log
+    (domain_of l.part) l.log l.i l.n
     × Walk (standing (domain_of l.part)) l.all l.rest l.i
 
 abbrev pub decreases-loop-rest : goal.decreases-loop-rest

@@ -8,7 +8,8 @@ use Rattle.files.proofs.messages.deliver.Given as goal
 
 abbrev pub invariant-loop-k : goal.invariant-loop-k
 invariant-loop-k l =
-    (l.k ≤ l.count) × (length l.files ≡ files_size) × (files_of l.files ≡ all_reached (files_of l.initial.files) (take l.k l.log))
+    (l.k ≤ l.count) × (length l.files ≡ files_size) ×
+    (files_of l.files ≡ all_reached (files_of l.initial.files) (take l.k l.log))
 
 abbrev pub decreases-loop-k : goal.decreases-loop-k
 decreases-loop-k l = l.count - l.k

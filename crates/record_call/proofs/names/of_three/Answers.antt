@@ -12,7 +12,8 @@ pub returns-then-c-le-LAST_WORD : goal.returns-then-c-le-LAST_WORD
 returns-then-c-le-LAST_WORD c =
     let e1 = sym c.is.ensures ∙ c.if-is.false in
     let e2 = sym c.is-2.ensures ∙ c.if-is-2.true in
-    sym (three-in _ _ _ _ ∙ passed _ _ _ e1 ∙ chosen _ _ _ (and_both _ _ e2 (word_fits _ c.if-c-le-LAST_WORD.true)))
+    sym (three-in _ _ _ _ ∙ passed _ _ _ e1 ∙ chosen _ _ _
+    (and_both _ _ e2 (word_fits _ c.if-c-le-LAST_WORD.true)))
 
 pub returns-else-c-le-LAST_WORD : goal.returns-else-c-le-LAST_WORD
 returns-else-c-le-LAST_WORD c =

@@ -21,7 +21,8 @@ returns-then-end-chunk c =
     let cut = c.cut-taken in
     let line-end = c.end_line-used.ensures in
     record {
-      went = went-ended _ _ _ _ _ _ _ cut.ensures.cut_at _ more (cut.ensures.at_value more) _ _ line-end.saved_after
+      went = went-ended _ _ _ _ _ _ _ cut.ensures.cut_at _ more
+          (cut.ensures.at_value more) _ _ line-end.saved_after
           line-end.out_after;
       held_le_line_room = (omega arith, line-end.upper_bound, omega (arith, cut.ensures.cut_at.start));
     }
@@ -31,5 +32,10 @@ returns c =
     let cut = c.cut-taken in
     record {
       went = went-open _ _ _ _ _ _ _ cut.ensures.cut_at _;
-      held_le_line_room = (cut.ensures.held_le_line_room, omega arith, omega (arith, c.requires.2, c.if-end-chunk.false));
+      held_le_line_room = (
+        cut.ensures.held_le_line_room,
+        omega arith,
+        omega
+            (arith, c.requires.2, c.if-end-chunk.false),
+      );
     }

@@ -10,10 +10,13 @@ use Rattle.record_replay.proofs.pieces.some.Given as goal
 
 abbrev pub invariant-loop-run : goal.invariant-loop-run
 invariant-loop-run l =
-    Went l.chunk l.initial.run.at (held_at l.initial.state l.initial.log l.initial.saved l.initial.line l.initial.run.held l.initial.run.number) [] l.run.at
+    Went l.chunk l.initial.run.at
+    (held_at l.initial.state l.initial.log l.initial.saved l.initial.line l.initial.run.held
+    l.initial.run.number) [] l.run.at
     (held_at l.state l.log l.saved l.line l.run.held l.run.number) (take l.run.used l.out)
     × (l.run.held ≤ line_room) × (l.run.used ≤ length l.out) × (length l.state ≡ length l.initial.state)
-    × (length l.log ≡ length l.initial.log) × (length l.line ≡ length l.initial.line) × (length l.out ≡ length l.initial.out)
+    × (length l.log ≡ length l.initial.log) × (length l.line ≡ length l.initial.line) ×
+    (length l.out ≡ length l.initial.out)
     × ((l.initial.run.at < l.run.at) ⊎ (l.run.used ≡ 0))
 
 abbrev pub decreases-loop-run : goal.decreases-loop-run

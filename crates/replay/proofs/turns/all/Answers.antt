@@ -6,13 +6,15 @@ use lib.ListN.{length}
 use Rattle.record_lines.specs.Lines.{line_room}
 
 abbrev invariant-loop : tie.invariant-loop
-invariant-loop state₀ log₀ saved₀ line₀ chunk₀ out₀ number₀ held₀ turns₀ state log saved line chunk out number held
+invariant-loop state₀ log₀ saved₀ line₀ chunk₀ out₀ number₀ held₀ turns₀ state log saved line chunk out number
+    held
     turns =
     (held ≤ line_room) × (number + turns * 2 ^ 16 ≤ 2 ^ 63) × (length state ≡ length state₀)
     × (length log ≡ length log₀) × (length line ≡ length line₀) × (length chunk ≡ length chunk₀)
     × (length out ≡ length out₀)
 
 abbrev decreases-loop : tie.decreases-loop
-decreases-loop state₀ log₀ saved₀ line₀ chunk₀ out₀ number₀ held₀ turns₀ state log saved line chunk out number held
+decreases-loop state₀ log₀ saved₀ line₀ chunk₀ out₀ number₀ held₀ turns₀ state log saved line chunk out number
+    held
     turns =
     turns

@@ -11,9 +11,11 @@ use Rattle.replay.proofs.turns.turn.Given as goal
 abbrev pub invariant-loop-run : goal.invariant-loop-run
 invariant-loop-run l =
     (held_at l.state l.log l.saved l.line l.run.held l.run.number
-    ≡ gone_on (slice 0 l.run.at l.chunk) (held_at l.initial.state l.initial.log l.initial.saved l.initial.line l.held l.number))
+    ≡ gone_on (slice 0 l.run.at l.chunk)
+    (held_at l.initial.state l.initial.log l.initial.saved l.initial.line l.held l.number))
     × (l.run.at ≤ length l.chunk) × (l.run.held ≤ line_room) × (length l.state ≡ length l.initial.state)
-    × (length l.log ≡ length l.initial.log) × (length l.line ≡ length l.initial.line) × (length l.out ≡ length l.initial.out)
+    × (length l.log ≡ length l.initial.log) × (length l.line ≡ length l.initial.line) ×
+    (length l.out ≡ length l.initial.out)
 
 abbrev pub decreases-loop-run : goal.decreases-loop-run
 decreases-loop-run l =

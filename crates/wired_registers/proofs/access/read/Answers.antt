@@ -26,7 +26,12 @@ returns-then-child c =
       c.read.ensures.0
           ∙ ap₂ (λ (d : Domain) (ws : List ℕ). register_value d ws c.args.word) part wires,
       put
-          ∙ ap (λ (d : Domain). record { wires = (wired_of l).wires; machine = (wired_of l).machine; child = d })
+          ∙ ap (λ (d : Domain). record {
+            wires = (wired_of l).wires;
+            machine = (wired_of l).machine;
+            child =
+                d;
+          })
           (c.read.ensures.1 ∙ ap (λ (d : Domain). claimed_by d c.args.word) part)
           ∙ sym (with-child (wired_of l) c.args.child _ c.if-child.true),
     )
@@ -53,7 +58,12 @@ returns c =
       c.read-2.ensures.0
           ∙ ap₂ (λ (d : Domain) (ws : List ℕ). register_value d ws c.args.word) part wires,
       put
-          ∙ ap (λ (d : Domain). record { wires = (wired_of l).wires; machine = d; child = (wired_of l).child })
+          ∙ ap (λ (d : Domain). record {
+            wires = (wired_of l).wires;
+            machine = d;
+            child =
+                (wired_of l).child;
+          })
           (c.read-2.ensures.1 ∙ ap (λ (d : Domain). claimed_by d c.args.word) part)
           ∙ sym (with-machine (wired_of l) c.args.child _ c.if-child.false),
     )
