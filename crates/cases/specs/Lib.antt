@@ -1,3 +1,4 @@
 -- What the functions of the program say of themselves. Assumes nothing.
 pub mod Digest
 pub mod Lendable
+pub mod Piece

@@ -24,6 +24,7 @@ pub struct Lengths {
 
 // Makes the call that the line says, or does what a line of this program's own says.
 pub(crate) fn end_line(
+    rt: &HostRuntime,
     state: &mut [u32; STATE_ROOM],
     log: &mut [u32; LOG_ROOM],
     saved: &mut [u64; SAVED_SIZE],
@@ -35,10 +36,10 @@ pub(crate) fn end_line(
     ensures { Lendable result.state result.log }
 {
     let Line::Call(call) = read(line) else {
-        return own_line(state, line, number, lent);
+        return own_line(rt, state, line, number, lent);
     };
     let answer = lend(state, log, saved, call, lent.state, lent.log);
-    shown::answer(number, answer, state, log, saved);
+    shown::answer(rt, number, answer, state, log, saved);
     lent
 }
 
@@ -63,23 +64,30 @@ fn lend(
 }
 
 // A line of this program's own, by its name and its numbers.
-fn own_line(state: &mut [u32; STATE_ROOM], line: &[u8], number: u64, lent: Lengths) -> Lengths
+fn own_line(
+    rt: &HostRuntime,
+    state: &mut [u32; STATE_ROOM],
+    line: &[u8],
+    number: u64,
+    lent: Lengths,
+) -> Lengths
     requires { Lendable lent.state lent.log }
     ensures { Lendable result.state result.log }
 {
     if line.len() > LINE_SIZE {
-        shown::unreadable(number);
+        shown::unreadable(rt, number);
         return lent;
     }
     let end = name_end(line);
     let fields = numbers(line, end);
-    own(state, &line[..end], fields, number, lent)
+    own(rt, state, &line[..end], fields, number, lent)
 }
 
 // `poke` makes a state that no call leaves, so that the state rules are seen to be tested; `lengths` lends
 // too few words or too many, so that the lengths are. Any other line is answered by its number, and changes
 // nothing.
 fn own(
+    rt: &HostRuntime,
     state: &mut [u32; STATE_ROOM],
     name: &[u8],
     fields: Fields,
@@ -112,6 +120,6 @@ fn own(
             }
         }
     }
-    shown::unreadable(number);
+    shown::unreadable(rt, number);
     lent
 }

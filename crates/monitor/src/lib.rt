@@ -1,5 +1,6 @@
-// The functions that a monitor in C calls, each thin over one call of the board. C gives a slice as two
-// arguments, the pointer and the number of words; include/varskumo.h has the prototypes.
+// The functions that a monitor in C calls, each thin over one call of the board. The crate monitor_c exports them by
+// their names. C gives a slice as two arguments, the pointer and the number of words; include/varskumo.h has the
+// prototypes.
 #![tactic(auto)]
 
 ghost use Rattle.board_call.specs.declared.Call.TheVariants as the;
@@ -10,37 +11,28 @@ use board_move_calls::make_access;
 use monitor_answer::{VskAnswer, numbers};
 use sizes::SAVED_SIZE;
 
-#[unsafe(no_mangle)]
-pub extern "C" fn vsk_reset(state: &mut [u32], log: &mut [u32]) -> VskAnswer
+pub fn vsk_reset(state: &mut [u32], log: &mut [u32]) -> VskAnswer
     ensures { Tells the.Reset state.old log.old result
         state.new log.new }
 {
     numbers(board_hart_calls::reset(state, log))
 }
 
-#[unsafe(no_mangle)]
-pub extern "C" fn vsk_wire(state: &mut [u32], log: &mut [u32], wire: u64, level: u64) -> VskAnswer
+pub fn vsk_wire(state: &mut [u32], log: &mut [u32], wire: u64, level: u64) -> VskAnswer
     ensures { Tells (the.Wire wire level) state.old log.old result
         state.new log.new }
 {
     numbers(board_wired_calls::wire(state, log, wire, level))
 }
 
-#[unsafe(no_mangle)]
-pub extern "C" fn vsk_domain_read(
-    state: &mut [u32],
-    log: &mut [u32],
-    domain: u64,
-    address: u64,
-) -> VskAnswer
+pub fn vsk_domain_read(state: &mut [u32], log: &mut [u32], domain: u64, address: u64) -> VskAnswer
     ensures { Tells (the.DomainRead domain address) state.old log.old result
         state.new log.new }
 {
     numbers(board_wired_calls::domain_read(state, log, domain, address))
 }
 
-#[unsafe(no_mangle)]
-pub extern "C" fn vsk_domain_write(
+pub fn vsk_domain_write(
     state: &mut [u32],
     log: &mut [u32],
     domain: u64,
@@ -53,8 +45,7 @@ pub extern "C" fn vsk_domain_write(
     numbers(board_wired_calls::domain_write(state, log, domain, address, value))
 }
 
-#[unsafe(no_mangle)]
-pub extern "C" fn vsk_page_read(
+pub fn vsk_page_read(
     state: &mut [u32],
     log: &mut [u32],
     hart: u64,
@@ -67,8 +58,7 @@ pub extern "C" fn vsk_page_read(
     numbers(board_file_calls::page_read(state, log, hart, file, address))
 }
 
-#[unsafe(no_mangle)]
-pub extern "C" fn vsk_page_write(
+pub fn vsk_page_write(
     state: &mut [u32],
     log: &mut [u32],
     hart: u64,
@@ -82,8 +72,7 @@ pub extern "C" fn vsk_page_write(
     numbers(board_file_calls::page_write(state, log, hart, file, address, value))
 }
 
-#[unsafe(no_mangle)]
-pub extern "C" fn vsk_register(
+pub fn vsk_register(
     state: &mut [u32],
     log: &mut [u32],
     hart: u64,
@@ -98,24 +87,21 @@ pub extern "C" fn vsk_register(
     numbers(board_file_calls::register(state, log, hart, file, kind, select, value))
 }
 
-#[unsafe(no_mangle)]
-pub extern "C" fn vsk_top(state: &mut [u32], log: &mut [u32], hart: u64, file: u64) -> VskAnswer
+pub fn vsk_top(state: &mut [u32], log: &mut [u32], hart: u64, file: u64) -> VskAnswer
     ensures { Tells (the.Top hart file) state.old log.old result
         state.new log.new }
 {
     numbers(board_file_calls::top(state, log, hart, file))
 }
 
-#[unsafe(no_mangle)]
-pub extern "C" fn vsk_claim(state: &mut [u32], log: &mut [u32], hart: u64, file: u64) -> VskAnswer
+pub fn vsk_claim(state: &mut [u32], log: &mut [u32], hart: u64, file: u64) -> VskAnswer
     ensures { Tells (the.Claim hart file) state.old log.old result
         state.new log.new }
 {
     numbers(board_file_calls::claim(state, log, hart, file))
 }
 
-#[unsafe(no_mangle)]
-pub extern "C" fn vsk_signals(state: &mut [u32], log: &mut [u32], hart: u64) -> VskAnswer
+pub fn vsk_signals(state: &mut [u32], log: &mut [u32], hart: u64) -> VskAnswer
     ensures { Tells (the.Signals hart) state.old log.old result
         state.new log.new }
 {
@@ -123,8 +109,7 @@ pub extern "C" fn vsk_signals(state: &mut [u32], log: &mut [u32], hart: u64) -> 
 }
 
 // C gives the saved numbers as a pointer to ten numbers, the same one at each access of a move.
-#[unsafe(no_mangle)]
-pub extern "C" fn vsk_move(
+pub fn vsk_move(
     state: &mut [u32],
     log: &mut [u32],
     oldhart: u64,

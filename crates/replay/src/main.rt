@@ -12,21 +12,21 @@ ghost use Rattle.record_call.specs.Table.{line_of};
 ghost use Rattle.record_answer.specs.Shown.{answer_room};
 ghost use Rattle.record_runs.specs.Replay.{calls_in, lent_of};
 
-use libc::{STDERR_FILENO, STDOUT_FILENO};
 use record_lines::LINE_ROOM;
 use sizes::{BLOCK_SIZE, LOG_SIZE, SAVED_SIZE};
+use std::io::Write;
 
-// What could not be done, and the last line before it.
-fn tell(fault: &[u8], number: u64) {
-    io::write_all(STDERR_FILENO, b"replay: standard ");
-    io::write_all(STDERR_FILENO, fault);
-    io::write_all(STDERR_FILENO, b", after line ");
-    io::print_decimal(STDERR_FILENO, number);
-    io::write_all(STDERR_FILENO, b"\n");
+// How many bytes are read at once at most, and how many of answers are held.
+const PIECE: usize = 65536;
+
+// What could not be done, and the last line before it. Where this cannot be written either, nothing is told.
+fn tell(rt: &HostRuntime, fault: &str, number: u64) {
+    let _ = eprintln!(rt; "replay: standard {fault}, after line {number}");
 }
 
 // The last line may lack its end; if it has no byte there is none.
 fn finish(
+    rt: &HostRuntime,
     state: &mut [u32],
     log: &mut [u32],
     saved: &mut [u64; SAVED_SIZE],
@@ -44,35 +44,36 @@ fn finish(
     }
     let last = number + 1;
     let used = record_replay::end_line(state, log, saved, line, out, 0, last);
-    let written = io::write_all(STDOUT_FILENO, &out[..used]);
+    let written = rt.stdout().write_all(&out[..used]).is_ok();
     if !written {
-        tell(b"output cannot be written", last);
+        tell(rt, "output cannot be written", last);
     }
 }
 
-fn main() {
+fn main(rt: HostRuntime) {
     let mut state = [0u32; BLOCK_SIZE];
     let mut log = [0u32; LOG_SIZE];
     let mut saved = [0u64; SAVED_SIZE];
     let mut line = [0u8; LINE_ROOM];
-    let mut chunk = io::large_buffer();
-    let mut out = io::large_buffer();
+    let mut chunk = [0u8; PIECE];
+    let mut out = [0u8; PIECE];
     board_hart_calls::reset(&mut state, &mut log);
     let end = turns::all(
-        &mut state, &mut log, &mut saved, &mut line, &mut chunk, &mut out,
+        &rt, &mut state, &mut log, &mut saved, &mut line, &mut chunk, &mut out,
     );
     let held = end.held;
     let read = end.read;
     let written = end.written;
     if !read {
-        tell(b"input cannot be read", end.number);
+        tell(&rt, "input cannot be read", end.number);
         return;
     }
     if !written {
-        tell(b"output cannot be written", end.number);
+        tell(&rt, "output cannot be written", end.number);
         return;
     }
     finish(
+        &rt,
         &mut state,
         &mut log,
         &mut saved,

@@ -5,9 +5,9 @@ ghost use Rattle.record_answer.specs.Shown.{answer_room};
 ghost use Rattle.record_runs.specs.Replay.{gone_on};
 ghost use Rattle.record_replay.specs.Pieces.{Roomy, held_at};
 
-use libc::{STDIN_FILENO, STDOUT_FILENO};
 use record_replay::{Run, some};
 use sizes::SAVED_SIZE;
+use std::io::{Read, Write};
 
 // A proved loop has to end, and nothing says that the input does. So the loop counts its turns down, from a
 // number that no run uses up; a turn has at most 65,536 lines, so that the number of a line has 64 bits.
@@ -24,6 +24,7 @@ pub struct Stand {
 
 // One piece, and its answers, which are written each time that there is no room for more.
 fn turn(
+    rt: &HostRuntime,
     state: &mut [u32],
     log: &mut [u32],
     saved: &mut [u64; SAVED_SIZE],
@@ -51,7 +52,7 @@ fn turn(
     while run.at < chunk.len() {
         run = some(state, log, saved, line, chunk, out, run);
         let used = run.used;
-        let written = io::write_all(STDOUT_FILENO, &out[..used]);
+        let written = rt.stdout().write_all(&out[..used]).is_ok();
         if !written {
             return Stand {
                 number: run.number,
@@ -71,6 +72,7 @@ fn turn(
 
 // All pieces, until one cannot be read or its answers cannot be written.
 pub(crate) fn all(
+    rt: &HostRuntime,
     state: &mut [u32],
     log: &mut [u32],
     saved: &mut [u64; SAVED_SIZE],
@@ -86,20 +88,18 @@ pub(crate) fn all(
     let mut held = 0;
     let mut turns = MOST_TURNS;
     while turns > 0 {
-        let got = libc::read(STDIN_FILENO, chunk);
-        if got < 0 {
+        let Ok(n) = rt.stdin().read(chunk) else {
             return Stand {
                 number: number,
                 held: held,
                 read: false,
                 written: true,
             };
-        }
-        let n = io::count(got, chunk);
+        };
         if n == 0 {
             break;
         }
-        let t = turn(state, log, saved, line, &chunk[..n], out, number, held);
+        let t = turn(rt, state, log, saved, line, &chunk[..n], out, number, held);
         let written = t.written;
         if !written {
             return t;

@@ -1,5 +1,5 @@
--- What the loop of this function keeps, and its measure. Assumes nothing.
-use Prim.Native.Nat.{◌≤◌, ◌-◌}
+-- The measure is what is left of the log. Assumes nothing.
+use Prim.Native.Nat.{◌-◌, ◌≤◌}
 use lib.ListN.{length}
 use Rattle.cases.proofs.shown.messages.Given as goal
 

@@ -14,9 +14,8 @@ invariant-loop-run l =
     ≡ gone_on (slice 0 l.run.at l.chunk)
     (held_at l.initial.state l.initial.log l.initial.saved l.initial.line l.held l.number))
     × (l.run.at ≤ length l.chunk) × (l.run.held ≤ line_room) × (length l.state ≡ length l.initial.state)
-    × (length l.log ≡ length l.initial.log) × (length l.line ≡ length l.initial.line) ×
-    (length l.out ≡ length l.initial.out)
+    × (length l.log ≡ length l.initial.log) × (length l.line ≡ length l.initial.line)
+    × (length l.out ≡ length l.initial.out)
 
 abbrev pub decreases-loop-run : goal.decreases-loop-run
-decreases-loop-run l =
-    length l.chunk - l.run.at
+decreases-loop-run l = length l.chunk - l.run.at
