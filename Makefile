@@ -4,27 +4,19 @@
 .PHONY: all test near check compare ctest archives boards audit records mutants together bench example tools fmt style
 .PHONY: replay numbers layers pages change clean help toolchain
 
-# rt check runs each program once it is proved, and compares what it wrote
 all: check
 	@scripts/ctest
 
-# rt ci comes last and nothing follows it: its last line is the verdict
+# rt ci comes first, and its last line is said last: it is the verdict
 test: toolchain
-	@scripts/verdict --begin
-	@scripts/style
-	@rt fmt --check
-	@scripts/compare
-	@scripts/ctest
-	@scripts/boards
-	@scripts/audit
-	@rt ci
+	@scripts/gate
 
 # for the work between two gates: make near BASE=COMMIT
 near: toolchain
 	@scripts/near $(BASE)
 
 check: toolchain
-	@rt check
+	@rt all check
 
 # the second program against the proved archive
 compare: toolchain
@@ -79,7 +71,7 @@ tools:
 	@scripts/board-tools
 
 fmt: toolchain
-	@rt fmt
+	@for crate in crates/*; do (cd "$$crate" && rt fmt) || exit 1; done
 
 style:
 	@scripts/style
@@ -104,8 +96,8 @@ clean:
 
 help:
 	@echo "make          prove every crate, build and run the programs, the tests in C and the examples in C"
-	@echo "make test     the whole gate: style, layout, the second program, the tests in C, the archives of the"
-	@echo "              boards, then rt ci, from nothing; its last line is the verdict"
+	@echo "make test     the whole gate: rt ci, then style, the second program, the tests in C, the archives of the"
+	@echo "              boards; its last line is rt ci's, the verdict"
 	@echo "make near BASE=COMMIT  the gate but for the edits of crates that have not changed since the commit; no verdict"
 	@echo "make check    prove what changed since it was last proved, and run the programs"
 	@echo "make compare  compare the proved archive, compiled for this machine, with the second program"

@@ -6,7 +6,7 @@ import re
 
 ROOT = os.path.dirname(os.path.dirname(os.path.dirname(os.path.abspath(__file__))))
 DEFINED = re.compile(r'^((?:unfoldable |abbrev )?pub (?:record |data )?)([\w′·-]+)(?= ?[:(]| .*:)')
-IMPORTED = re.compile(r'^use Rattle·(\w+?)(?:·specs)?\.specs\.declared\.(?:\w+\.)*?(\w+)(\.the-variants)?\.\{(.*?)\}',
+IMPORTED = re.compile(r'^use Rattle\.(\w+?)\.specs\.declared\.(?:\w+\.)*?(\w+)(\.TheVariants)?\.\{(.*?)\}',
                       re.M | re.S)
 WORD = re.compile(r"[A-Za-z][\w′]*(?:-[\w′]+)*")
 

@@ -16,13 +16,13 @@ DESCRIBED = (
 HEADING = (
     'One definition, `outcome`, says all of it. The contract of every call says the same: Claims #80, #81, '
     '#82, #93, #100; it settles every number and word: #83, #162; the code meets it: #114. Of the '
-    'refusals that apply the lowest is given: `refusalOf`, #84, #92.')
+    'refusals that apply the lowest is given: `refusal_of`, #84, #92.')
 LENT = ('*a call* with any numbers; lent: the state block, the log, and to a move its saved numbers, whatever '
         'they hold')
 TESTS = [
-    '1. the *state block* has {blockSize} words: `blockTests`',
-    '2. the *log* has {logSize} words: `blockTests`',
-    '3. the *state rules* hold: `boardSound`\nClaims #73, #118, #127',
+    '1. the *state block* has {block_size} words: `block_tests`',
+    '2. the *log* has {log_size} words: `block_tests`',
+    '3. the *state rules* hold: `board_sound`\nClaims #73, #118, #127',
     '4. *what it names is there:* hart, file, domain, wire, level, kind of access; a move access is not '
     'barred: `present`\nClaims #101, #115',
     '5. where it has an *address*, that is a multiple of 4, in its region or page: `addressed`\nClaim #116',
@@ -32,16 +32,16 @@ DONE = [
     '*the change:* what the call itself does to the board, and its value: `change`\n'
     'Claims #150, #153, #172, #173',
     '*each domain sends* what is to be sent, the machine domain first: `flushed`, `sent`\nClaims #77, #151',
-    '*each message is in its file:* `allReached`\nClaim #152',
+    '*each message is in its file:* `all_reached`\nClaim #152',
     '*the log* has the messages first, in order, and its later words stay: `logged`\nClaim #171',
 ]
 ANSWER = ('*done:* refusal 0, the value, the count of messages; the block is that of the board after the '
-          'call, and the next call takes it: `doneAs`\nClaims #86, #104, #171')
+          'call, and the next call takes it: `done_as`\nClaims #86, #104, #171')
 REFUSED = ('*refused:* that number, value 0, count 0; the state block, the log and the saved numbers of a move '
-           'stay as they were: `refusedAs`\nClaim #85')
+           'stay as they were: `refused_as`\nClaim #85')
 SENDERS = ('Only `vsk_wire` and `vsk_domain_write` send; a write to genmsi sends its own message at once.\n'
            'Claims #54, #154')
-RESETS = ('*reset* takes only tests 1 and 2: `testsRules`\nClaims #84, #116\n\n'
+RESETS = ('*reset* takes only tests 1 and 2: `tests_rules`\nClaims #84, #116\n\n'
           'It leaves the board of paper 01, whatever the block held.\nClaims #87, #160')
 
 

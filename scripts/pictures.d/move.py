@@ -26,7 +26,7 @@ DESCRIBED = (
 CONDITIONS = (
     '*At the start* the state has its length and keeps its rules (`Started`), old and new are two different '
     'guest files (`TwoGuests`), the supervisor’s domain is by messages (`ByMessages`), and no active source’s '
-    'target names new (`NoneNamesNew`). *Then* the accesses are made once each, in order (`withMove`, '
+    'target names new (`NoneNamesNew`). *Then* the accesses are made once each, in order (`with_move`, '
     '`AllAccesses`), each with the saved numbers that the last one gave (`HandedOn`), and every call with a log '
     'of 63 words (`Makes`); pages are written and calls made as shown (`PagesKept`, `CallsKept`). In plain '
     'numbers: Claims #175, #184; they can be met: #111; each is needed: #112, #186.')
@@ -49,7 +49,7 @@ GOES_ON = 'anywhere, and they answer as with no move: Claim #185; what only read
 HELD_BACK = ('the moved station’s claims and register writes, writes to the domains, reads of a claimi, other moves, '
              'a reset: `CallsKept`')
 CHANGED_OVER = 'each device changes over in here, once, from old’s page to new’s'
-COMPARED = 'the same wires, page writes and calls, page writes to new going to old, and no access: `withoutMove`'
+COMPARED = 'the same wires, page writes and calls, page writes to new going to old, and no access: `without_move`'
 
 MAY, NOBODY = {'fill': AMBER, 'stroke': AMBER_INK}, {'dash': '3 3'}
 PLAIN, QUIET, WORKS = {}, {'fill': PALE}, {'fill': GREEN}
@@ -77,7 +77,7 @@ def steps(picture, y):
     picture.text(LEFT, y, 'time', size=SMALL)
     first, y = 1, y + 22
     high = max(height_of(text, wide - 12, SMALL) for _, wide, text in STEPS) + 16
-    picture.text(LEFT, y + 4, '*steps, accesses*\n`actOf`, `acted`\nClaims #102, #103', LABEL, SMALL)
+    picture.text(LEFT, y + 4, '*steps, accesses*\n`act_of`, `acted`\nClaims #102, #103', LABEL, SMALL)
     for n, (last, wide, text) in enumerate(STEPS, 1):
         x, numbers = at(last) - wide, f'{first} to {last}' if last - first > 1 else f'{first}, {last}'
         picture.text(x + wide / 2, y, f'*step {n}*\n{numbers}', size=SMALL, anchor='middle')

@@ -28,20 +28,20 @@ STATES = [
     '*claim* answers {top}\npending bit 1 → 0; the top is 0',
 ]
 STEPS = [
-    '`isRectified`\nin mode Edge1 the wire itself, in Edge0 its opposite\nClaim #139',
-    '`wireSet`, `wireChanged`\na rise sets the pending bit, in the domain where the source is active; '
+    '`is_rectified`\nin mode Edge1 the wire itself, in Edge0 its opposite\nClaim #139',
+    '`wire_set`, `wire_changed`\na rise sets the pending bit, in the domain where the source is active; '
     'the causes are those of section 4.7\nClaims #40, #41, #59, #141',
     '`candidate`, `sends`, `sent`\nactive, pending and enabled, in a domain with IE and DM; sending clears '
     'the pending bit\nClaims #50, #53, #147, #151',
-    '`messageOf`, `logWord`, `logged`\nto file 1 + guest index of that hart, with that identity, logged in '
+    '`message_of`, `log_word`, `logged`\nto file 1 + guest index of that hart, with that identity, logged in '
     'its order\nClaims #52, #146, #171; case T8',
-    '`namedBy`, `reached`, `arrived`\nthe file that it names, that identity, and nothing else\n'
+    '`named_by`, `reached`, `arrived`\nthe file that it names, that identity, and nothing else\n'
     'Claims #25, #26, #152',
-    '`qualifies`, `topIdentity`, `topOf`, `signals`\nlowest pending and enabled, below a nonzero '
+    '`qualifies`, `top_identity`, `top_of`, `signals`\nlowest pending and enabled, below a nonzero '
     'threshold\nClaims #20, #21, #22, #33',
     '`claimed`\nanswers the top and clears its pending bit alone\nClaims #6, #23, #24',
 ]
-PAGE = ('or a device writes {identity} to its page: `vsk_page_write`, `pageWritten`; not logged. '
+PAGE = ('or a device writes {identity} to its page: `vsk_page_write`, `page_written`; not logged. '
         'Claims #126, #154')
 LANES = [
     (0, 0, PALE, '*the line*'),

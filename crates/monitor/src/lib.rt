@@ -1,6 +1,6 @@
-// The functions that a monitor in C calls, each thin over one call of the board. The crate monitor_c exports them by
-// their names. C gives a slice as two arguments, the pointer and the number of words; include/varskumo.h has the
-// prototypes.
+// The functions that a monitor in C calls, each thin over one call of the board. The crate monitor_c exports
+// them by their names. C gives a slice as two arguments, the pointer and the number of words;
+// include/varskumo.h has the prototypes.
 #![tactic(auto)]
 
 ghost use Rattle.board_call.specs.declared.Call.TheVariants as the;

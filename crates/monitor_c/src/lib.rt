@@ -1,6 +1,6 @@
-// The functions that a monitor in C calls, exported by their names: each is the function of the crate monitor of
-// the same name. C gives a slice as two arguments, the pointer and the number of words; include/varskumo.h has the
-// prototypes.
+// The functions that a monitor in C calls, exported by their names: each is the function of the crate monitor
+// of the same name. C gives a slice as two arguments, the pointer and the number of words; include/varskumo.h
+// has the prototypes.
 #![tactic(auto)]
 
 ghost use Rattle.board_call.specs.declared.Call.TheVariants as the;
