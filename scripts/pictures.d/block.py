@@ -72,7 +72,7 @@ def block(picture, y):
     wires = picture.rect(wired, y, size('machine_place') * scale, high, AMBER, AMBER_INK, round=0)
     picture.line([(wires.cx, y - 9), (wires.cx, y)], thick=1)
     picture.text(wires.cx - 6, y - 26, f'wires: {size("machine_place")} words', size=TINY)
-    for name, at in (('machine domain', 'machinePlace'), ('supervisor’s domain', 'childPlace')):
+    for name, at in (('machine domain', 'machine_place'), ('supervisor’s domain', 'child_place')):
         picture.box(wired + size(at) * scale, y, size('domain_size') * scale,
                     f'{name}\n{size("domain_size")} words', high, size=SMALL, pad=2, fill=BLUE,
                     stroke=BLUE_INK, round=0)
@@ -135,10 +135,10 @@ def record(picture, y):
     count, x, wide = size('saved_size'), LEFT + 480, 480
     picture.text(x, y, f'*The saved numbers of a move:* {count} numbers of 64 bits, lent beside the blocks: '
                  '`act_of`, Claim #102', wide, SMALL)
-    parts = [(place('deliveryAt'), 1, 'deli-\nvery', '1', '89'),
-             (place('thresholdAt'), 1, 'thres-\nhold', '2', '88'),
-             (place('pendingAt'), 4, 'pending bits of old', '72 to 75', '80 to 83'),
-             (place('enableAt'), 4, 'enable bits of old', '76 to 79', '84 to 87')]
+    parts = [(place('delivery_at'), 1, 'deli-\nvery', '1', '89'),
+             (place('threshold_at'), 1, 'thres-\nhold', '2', '88'),
+             (place('pending_at'), 4, 'pending bits of old', '72 to 75', '80 to 83'),
+             (place('enable_at'), 4, 'enable bits of old', '76 to 79', '84 to 87')]
     if sum(part[1] for part in parts) != count:
         facts.stop(f'the saved numbers of a move has {count} numbers, and not those of the picture')
     facts.stated(STEPS, 'leb n 75)', 'leb n 79)', 'leb n 83)', 'leb n 87)', 'eqb n 88')
