@@ -138,8 +138,8 @@ module _ (d : Domain) (h : ℕ) where
     λ z i l u. tested (eligible d h i) (λ c. absurd ((best-top.least i (omega arith) l c).0 z)) (λ f. f),
     λ none. tested (eqb (top_source d h) 0) (λ t. eqb-true (top_source d h) 0 t)
         (λ f. let some = eqb-false (top_source d h) 0 f in
-        let top = topi-least some in
-        absurd (not_same _ top.0 (none (top_source d h) top.1 top.2))),
+        let within = best-top.within in
+        absurd (not_same _ (best-top.counts some) (none (top_source d h) (omega arith) (omega arith)))),
   )
 
   pub topi-is : by_messages d ≡ false → top_source d h ≢ 0

@@ -1,4 +1,5 @@
 -- What holds of the wired controller's calls. Assumes nothing.
+pub mod CountEffects
 pub mod OutEffects
 pub mod WireEffects
 pub mod TargetEffects

@@ -4,7 +4,6 @@ use Prim.Native.Nat.{ℕ, ◌≤◌, ◌<◌}
 use mathlib.Core.Path.{◌≡◌}
 use mathlib.Core.Bool.{Bool, true, false}
 use mathlib.Core.List.{List, ◌++◌, append-nil}
-use mathlib.Core.Logic.{inl, inr}
 use native.Mathlib.Omega.{arith}
 use lib.ListN.{length}
 use Rattle.words.proofs.TestsLaws.{tested}
@@ -20,16 +19,15 @@ use Rattle.wired_rules.specs.Rules.{wired_sound}
 use Rattle.domain_sending.specs.Sending.{sent}
 use Rattle.domain_sending_laws.proofs.MessageEffects.{Every, every-none, every_one, every_append, sent-named}
 use Rattle.domain_sending_laws.proofs.MessageEffects.{genmsi-names}
-use Rattle.domain_sending_laws.proofs.SendingEffects.{sent-count}
 use Rattle.domain_genmsi.specs.Genmsi.{genmsi_sent}
 use Rattle.domain_genmsi.proofs.GenmsiLaws.{genmsi-on, genmsi-off}
 use Rattle.wired_rules_laws.specs.Steady.{WiredSteady, WiredQuiet}
 use Rattle.wired_rules_laws.proofs.WiredEffects.{steady-wire_set, steady-claimed_in, sound-passed}
 use Rattle.wired_rules_laws.proofs.DelegationEffects.{steady-written_in}
 use Rattle.wired.specs.Controller.{flushed, genmsi_by, wire_call, read_call, write_call}
-use Rattle.wired.specs.Controller.{OneSends}
 use Rattle.wired.proofs.ControllerLaws.{genmsi-cases}
 use Rattle.wired.proofs.CallLaws.{one-wire_set, one-written_in, genmsi-silent}
+use Rattle.wired_laws.proofs.CountEffects.{flushed-count}
 
 abbrev pub Exists : ℕ → Type 0
 Exists m = file_in m < 5
@@ -61,12 +59,6 @@ write-exists w c r v =
     (genmsi_by-exists c (domain_in w c) r v) (flushed-exists (written_in w c r v))
 
 -- ---- 63 log words suffice
-
-pub flushed-count : (w : Wired) → OneSends w → length (flushed w).messages ≤ 63
-unfolding flushed
-flushed-count w (inl e) = rw e (sent-count true w.child)
-flushed-count w (inr e) =
-    rw (e, append-nil (sent false w.machine).messages) (sent-count false w.machine)
 
 genmsi_sent-count : (c : Bool) (d : Domain) (v : ℕ) → length (genmsi_sent c d v) ≤ 1
 genmsi_sent-count c d v =

@@ -44,15 +44,15 @@ returns-in_default c =
 
 pub offset_bounds-numbers-count : goal.offset_bounds-numbers-count
 offset_bounds-numbers-count c =
-    omega (arith, c.loop-at.invariant.few, c.if-count-eq-MOST_NUMBERS.false)
+    omega (arith, c.loop-at.invariant.few)
 
 pub bounds-numbers-count : goal.bounds-numbers-count
 bounds-numbers-count c =
-    omega (arith, c.loop-at.invariant.few, c.if-count-eq-MOST_NUMBERS.false)
+    omega (arith, c.loop-at.invariant.few)
 
 pub overflow_add-count : goal.overflow_add-count
 overflow_add-count c =
-    omega (arith, c.loop-at.invariant.few, c.if-count-eq-MOST_NUMBERS.false)
+    omega (arith, c.loop-at.invariant.few)
 
 pub loop-at-smaller : goal.loop-at-smaller
 loop-at-smaller c =
@@ -65,8 +65,7 @@ loop-at-preserved c =
     let text = text-found l k c.find-next.result c.find-next.ensures.place in
     let value = sym (ap number_in text) ∙ sym c.decimal.ensures ∙ c.in-Value.is in
     let left = c.loop-at in
-    let room : left.count < most_numbers = omega
-    (arith, left.invariant.few, c.if-count-eq-MOST_NUMBERS.false) in
+    let room : left.count < most_numbers = omega (arith, left.invariant.few) in
     let next = next-found l k c.find-next.result c.find-next.ensures.place in
     subst (NumbersTo l _ _) (sym next)
     (numbers_more l left.numbers left.count k left.invariant c.loop-at-test.true _
