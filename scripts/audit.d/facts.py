@@ -53,8 +53,8 @@ def commit():
 
 
 def versions():
-    home = os.path.dirname(os.path.dirname(said('rt', 'doc')))
-    clang = os.path.join(home, 'on', os.uname().machine, 'toolchain', 'bin', 'clang')
+    home = os.path.dirname(said('rt', 'doc'))
+    clang = os.path.join(home, 'toolchain', 'bin', 'clang')
     system = [l.split('=')[1].strip().strip('"') for l in open('/etc/os-release') if l.startswith('PRETTY_NAME=')] \
         if os.path.exists('/etc/os-release') else []
     lines = ['commit     ' + commit(), 'made       ' + time.strftime('%Y-%m-%dT%H:%MZ', time.gmtime()),
