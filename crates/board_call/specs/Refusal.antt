@@ -1,13 +1,13 @@
 -- When a call is refused, and with which number. 01, "Calls and their refusals". Assumes nothing.
 --   Test                 a test: the number of its refusal, and whether it is passed
---   first_failed ts       the number of the first test of ts that is not passed, or 0
---   block_tests r l g     the tests of the blocks, in their order: 1 the length of the block l, 2 that of the
+--   first_failed ts      the number of the first test of ts that is not passed, or 0
+--   block_tests r l g    the tests of the blocks, in their order: 1 the length of the block l, 2 that of the
 --                        log g, 3 the state rules of l, where r says that they are tested
---   name_tests t b        the tests of the numbers, in their order: 4 what is there, 5 the address, 6 the
+--   name_tests t b       the tests of the numbers, in their order: 4 what is there, 5 the address, 6 the
 --                        select number
---   block_refusal r l g   the refusal by the blocks, or 0
---   name_refusal_by t b    the refusal by the numbers, or 0; name_refusal c b, that of the call c
---   refusal_by t l g      the refusal: the first of all these tests that fails, or 0; refusal_of c l g, that
+--   block_refusal r l g  the refusal by the blocks, or 0
+--   name_refusal_by t b  the refusal by the numbers, or 0; name_refusal c b, that of the call c
+--   refusal_by t l g     the refusal: the first of all these tests that fails, or 0; refusal_of c l g, that
 -- of
 --                        the call c, by the tests of its row
 use Rattle.std.specs.Prelude.{ℕ, Bool, cond, not, ◌||◌, List, [], ◌∷◌, ◌++◌, eqb, length}

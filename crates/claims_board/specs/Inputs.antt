@@ -2,7 +2,7 @@
 -- refused. 02, M-101.
 --   in_clrip d k      the call that reads word k of in_clrip in domain d: 0 is the machine domain, 1 the
 -- child
---   setip d k        the call that reads word k of setip there
+--   setip d k         the call that reads word k of setip there
 -- Premises: 204 has a block of 650 words that keep the state rules, a log of 63, and a domain and a word that
 -- are there; 205 has none but that of each line, and a word that is there. No axioms.
 use Rattle.std.specs.Prelude.{ℕ, ◌+◌, ◌*◌, ◌/◌, ◌%◌, ◌^◌, ◌≤◌, ◌<◌, ◌≡◌, true, false, List, ◌≢◌, ◌⊎◌, eqb}

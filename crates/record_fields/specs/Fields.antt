@@ -1,13 +1,13 @@
 -- The fields of a line: a name, then numbers. 02, M-100; docs/RECORD.md. Assumes nothing.
 --   tab                 the byte that stands between two fields
---   fields_of l          the fields of the line l, one at least
---   first_of fs          the first of the fields fs
---   others_of fs         all of them but the first
+--   fields_of l         the fields of the line l, one at least
+--   first_of fs         the first of the fields fs
+--   others_of fs        all of them but the first
 --   name_of l, texts_of l the first field of the line l; the others
---   are_numbers ts       each of the fields ts is a number
---   numbers_of ts        these numbers
---   most_numbers         more numbers than these no call has
---   count_of ts          how many numbers the fields ts are; one more than most_numbers if they are more, or
+--   are_numbers ts      each of the fields ts is a number
+--   numbers_of ts       these numbers
+--   most_numbers        more numbers than these no call has
+--   count_of ts         how many numbers the fields ts are; one more than most_numbers if they are more, or
 -- if
 --                       one of them is no number
 use Rattle.std.specs.Prelude.{ℕ, suc, Bool, true, cond, ◌&&◌, List, [], ◌∷◌, ◌++◌, map, leb, length}
