@@ -8,8 +8,7 @@
 --   block_refusal r l g  the refusal by the blocks, or 0
 --   name_refusal_by t b  the refusal by the numbers, or 0; name_refusal c b, that of the call c
 --   refusal_by t l g     the refusal: the first of all these tests that fails, or 0; refusal_of c l g, that
--- of
---                        the call c, by the tests of its row
+--                        of the call c, by the tests of its row
 use Rattle.std.specs.Prelude.{ℕ, Bool, cond, not, ◌||◌, List, [], ◌∷◌, ◌++◌, eqb, length}
 use Rattle.sizes.specs.Sizes.{block_size, log_size}
 use Rattle.board_block.specs.Block.{Board, board_of, board_sound}

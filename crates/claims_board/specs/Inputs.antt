@@ -1,7 +1,7 @@
 -- Claims 204 and 205, on a read of in_clrip by a whole call: what it answers and leaves, and when it is
 -- refused. 02, M-101.
 --   in_clrip d k      the call that reads word k of in_clrip in domain d: 0 is the machine domain, 1 the
--- child
+--                     child
 --   setip d k         the call that reads word k of setip there
 -- Premises: 204 has a block of 650 words that keep the state rules, a log of 63, and a domain and a word that
 -- are there; 205 has none but that of each line, and a word that is there. No axioms.

@@ -2,9 +2,8 @@
 -- their refusals", "The move, with its premises".
 --   Said           what a call answers: refusal, value and count
 --   left_by ms l   the block that the calls ms leave of l; said_where p ms l, what those of them answer that
--- p
---                  picks; saved_by s ms l, the saved numbers that the accesses of a move among them leave of
--- s
+--                  p picks; saved_by s ms l, the saved numbers that the accesses of a move among them leave
+--                  of s
 --   handing cs x   the calls cs, each with the log and the saved numbers that the last one left
 --   board_in x     the board that the block of x has
 -- Premises: of Claim-183 that both logs have one length; of the last part of Claim-184 `Ready x` and

@@ -7,14 +7,13 @@
 --   station          the file old at the start: 5, 130 and 250 are pending, it signals by 5, and its
 --                    threshold 200 bars 250
 --   stale            the file new at the start: stale_bits, in each word of 64, are pending and enabled in
--- it,
---                    and it signals
+--                    it, and it signals
 --   slots a b c      words 0 to 63 of a domain: a at 0, b at source 1, c at source 40, and 0 at the others
---   wired_to h f      the child has IE and DM, and sources 1 and 40 are delegated to it, enabled, and send to
+--   wired_to h f     the child has IE and DM, and sources 1 and 40 are delegated to it, enabled, and send to
 --                    file f of hart h: 1, an edge source with its wire low, identity 7; and 40, a level
 --                    source with its wire high, which has sent, identity 70; no other source is active
 --   board_having f g w   the board after a reset, but with f as old, g as new, and the wired controller w
---   board_with w      the same with station and stale
+--   board_with w     the same with station and stale
 --   lent b n         the block of b, a log of n zeros, and ten zeros as the saved numbers
 use Rattle.std.specs.Prelude.{ℕ, List, [], ◌∷◌, ◌++◌, replicate}
 use Rattle.words.specs.Sets.{insert}

@@ -8,8 +8,7 @@
 --   numbers_of ts       these numbers
 --   most_numbers        more numbers than these no call has
 --   count_of ts         how many numbers the fields ts are; one more than most_numbers if they are more, or
--- if
---                       one of them is no number
+--                       if one of them is no number
 use Rattle.std.specs.Prelude.{ℕ, suc, Bool, true, cond, ◌&&◌, List, [], ◌∷◌, ◌++◌, map, leb, length}
 use Rattle.record_numbers.specs.Decimal.{is_number, value_of}
 use Rattle.record_lines.specs.Parted.{ended_by, rest_by}
