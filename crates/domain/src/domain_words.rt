@@ -7,70 +7,63 @@ ghost use Rattle.domain.specs.Domain.{with_domaincfg, with_genmsi};
 ghost use Rattle.domain.specs.Slot.{standing};
 
 use super::{DM_BIT, IE_BIT};
-use sizes::{ENABLES_PLACE, PENDINGS_PLACE, TARGETS_PLACE};
+use sizes::{DOMAIN_SIZE, ENABLES_PLACE, PENDINGS_PLACE, TARGETS_PLACE};
 use words::joined64;
 
-pub fn domaincfg(part: &[u32]) -> u32
-    requires { length part.now ≡ domain_size }
+pub fn domaincfg(part: &[u32; DOMAIN_SIZE]) -> u32
     ensures { result ≡ domaincfg_of (domain_of part.now) }
 {
     part[0]
 }
 
 // IE: the domain signals and sends.
-pub fn enabled(part: &[u32]) -> bool
-    requires { length part.now ≡ domain_size }
+pub fn enabled(part: &[u32; DOMAIN_SIZE]) -> bool
     ensures { result ≡ is_enabled (domain_of part.now) }
 {
     words::has_bit(part[0], IE_BIT)
 }
 
 // DM: false is direct delivery, true by messages.
-pub fn by_messages(part: &[u32]) -> bool
-    requires { length part.now ≡ domain_size }
+pub fn by_messages(part: &[u32; DOMAIN_SIZE]) -> bool
     ensures { result ≡ by_messages (domain_of part.now) }
 {
     words::has_bit(part[0], DM_BIT)
 }
 
-pub fn genmsi(part: &[u32]) -> u32
-    requires { length part.now ≡ domain_size }
+pub fn genmsi(part: &[u32; DOMAIN_SIZE]) -> u32
     ensures { result ≡ genmsi_of (domain_of part.now) }
 {
     part[TARGETS_PLACE]
 }
 
-pub fn put_domaincfg(part: &mut [u32], value: u32)
-    requires { length part.old ≡ domain_size }
+pub fn put_domaincfg(part: &mut [u32; DOMAIN_SIZE], value: u32)
     ensures { domain_of part.new ≡ with_domaincfg (domain_of part.old) value }
 {
     part[0] = value;
 }
 
-pub fn put_genmsi(part: &mut [u32], value: u32)
-    requires { length part.old ≡ domain_size }
+pub fn put_genmsi(part: &mut [u32; DOMAIN_SIZE], value: u32)
     ensures { domain_of part.new ≡ with_genmsi (domain_of part.old) value }
 {
     part[TARGETS_PLACE] = value;
 }
 
-pub fn pending_word(part: &[u32], k: usize) -> u32
-    requires { (length part.now ≡ domain_size) × (k < source_set_size) }
+pub fn pending_word(part: &[u32; DOMAIN_SIZE], k: usize) -> u32
+    requires { (k < source_set_size) }
     ensures { result ≡ get_or (domain_of part.now).pending k 0 }
 {
     part[PENDINGS_PLACE + k]
 }
 
-pub fn enable_word(part: &[u32], k: usize) -> u32
-    requires { (length part.now ≡ domain_size) × (k < source_set_size) }
+pub fn enable_word(part: &[u32; DOMAIN_SIZE], k: usize) -> u32
+    requires { (k < source_set_size) }
     ensures { result ≡ get_or (domain_of part.now).enable k 0 }
 {
     part[ENABLES_PLACE + k]
 }
 
 // The sources that are pending and enabled, as bits. Usually there are none.
-pub fn standing(part: &[u32]) -> u64
-    requires { length part.now ≡ domain_size }
+pub fn standing(part: &[u32; DOMAIN_SIZE]) -> u64
     ensures { (i : ℕ) → i < slot_count → has_bit result i ≡ standing (domain_of part.now) i }
 {
     let pending = joined64(pending_word(part, 0), pending_word(part, 1));

@@ -5,10 +5,10 @@ ghost use Rattle.domain.specs.Domain.{domain_of};
 ghost use Rattle.domain.specs.Structure.{structure_at, with_structure};
 
 use domain_delivery::Delivery;
-use sizes::{STRUCTURE_SIZE, STRUCTURES_PLACE};
+use sizes::{DOMAIN_SIZE, STRUCTURE_SIZE, STRUCTURES_PLACE};
 
-pub fn load_structure(part: &[u32], h: usize) -> Delivery
-    requires { (length part.now ≡ domain_size) × (h < hart_count) }
+pub fn load_structure(part: &[u32; DOMAIN_SIZE], h: usize) -> Delivery
+    requires { (h < hart_count) }
     ensures { result ≡ structure_at (domain_of part.now) h }
 {
     let at = STRUCTURE_SIZE * h;
@@ -19,8 +19,8 @@ pub fn load_structure(part: &[u32], h: usize) -> Delivery
     }
 }
 
-pub fn store_structure(part: &mut [u32], h: usize, x: Delivery)
-    requires { (length part.old ≡ domain_size) × (h < hart_count) }
+pub fn store_structure(part: &mut [u32; DOMAIN_SIZE], h: usize, x: Delivery)
+    requires { (h < hart_count) }
     ensures { domain_of part.new ≡ with_structure (domain_of part.old) h x }
 {
     let at = STRUCTURE_SIZE * h;

@@ -3,4 +3,4 @@ use Rattle.domain.proofs.DomainLaws.{read-enable}
 use Rattle.domain.proofs.domain_words.enable_word.Goals as goal
 
 pub returns : goal.returns
-returns c = read-enable c.args.part.now c.args.k c.requires.1
+returns c = read-enable c.args.part.now c.args.k c.requires

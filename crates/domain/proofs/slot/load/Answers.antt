@@ -7,6 +7,6 @@ pub returns : goal.returns
 returns c =
     let l = c.args.part.now in
     let i = c.args.i in
-    let h = c.requires.1 in
+    let h = c.requires in
     slot_read l i h _ _ (c.has_bit-pending.ensures ∙ bit-pending l i h)
     (c.has_bit-enabled.ensures ∙ bit-enabled l i h)

@@ -4,5 +4,5 @@ use Rattle.domain.proofs.slot.put_enabled.Goals as goal
 
 pub returns : goal.returns
 returns c =
-    enabled-stored c.args.part.now c.args.i c.requires.1 _ c.args.enabled
+    enabled-stored c.args.part.now c.args.i c.requires _ c.args.enabled
     c.put_bit-word.ensures

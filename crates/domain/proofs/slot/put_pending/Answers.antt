@@ -4,5 +4,5 @@ use Rattle.domain.proofs.slot.put_pending.Goals as goal
 
 pub returns : goal.returns
 returns c =
-    pending-stored c.args.part.now c.args.i c.requires.1 _ c.args.pending
+    pending-stored c.args.part.now c.args.i c.requires _ c.args.pending
     c.put_bit-word.ensures

@@ -4,4 +4,4 @@ use Rattle.domain.proofs.structure.load_structure.Goals as goal
 
 pub returns : goal.returns
 returns c =
-    structure-read c.args.part.now c.args.h c.requires.1
+    structure-read c.args.part.now c.args.h c.requires
