@@ -8,6 +8,7 @@ use native.Mathlib.Decide.{ℕ_discrete}
 use native.Mathlib.Omega.{arith}
 use lib.Dec.{eqb, leb}
 use lib.ListN.{length, get_or}
+use Rattle.std.specs.Prelude.{Some}
 use borrow.Author.Tests.{ne_eqb}
 use Rattle.words.specs.Bits.{has_bit, union, without}
 use Rattle.words.specs.Sets.{member, WordsFit}
@@ -24,7 +25,6 @@ use Rattle.file.specs.declared.File.{File}
 use Rattle.file.specs.declared.register.Access.{Access}
 use Rattle.file.specs.declared.register.Access.TheVariants.{Read, Write, Set, Clear}
 use Rattle.file.specs.declared.register.Accessed.{Accessed}
-use Rattle.file.specs.declared.register.Reply.TheVariants.{Value}
 use Rattle.file.specs.Shape.{Shaped}
 use Rattle.file.specs.Register.{held, written, accessed_at, accessed}
 use Rattle.file.proofs.RegisterLaws.{written-legal, written-illegal, accessed-kind}
@@ -84,10 +84,10 @@ claim-120 g f v =
       alone = refl;
       read = at-delivery g f Read v;
       write = λ l. at-delivery g f Write v
-          ∙ ap (λ (h : File). record { answer = Value 0; file = h })
+          ∙ ap (λ (h : File). record { answer = Some 0; file = h })
           (written-legal 255 g f v (legal-delivery g v l));
       ignored = λ n. at-delivery g f Write v
-          ∙ ap (λ (h : File). record { answer = Value 0; file = h })
+          ∙ ap (λ (h : File). record { answer = Some 0; file = h })
           (written-illegal 255 g f v (illegal-delivery g v n));
       legal = (delivery-allowed g v, legal-delivery g v);
     }
@@ -228,7 +228,7 @@ claim-124 g f v = ((λ s legal. old-and-new g f s v legal), (λ j s h. set-or-cl
 -- ---- the numbers with no register
 
 unused-at : (g : Bool) (f : File) (k : Access) (v : ℕ)
-    → accessed_at 255 g f k Unused v ≡ record { answer = Value 0; file = f }
+    → accessed_at 255 g f k Unused v ≡ record { answer = Some 0; file = f }
 unfolding accessed_at held written
 unused-at g f Read v = refl
 unused-at g f Write v = refl
@@ -238,20 +238,20 @@ unused-at g f Clear v = refl
 -- a number that names no register
 module _ (g : Bool) (f : File) (k : Access) (s v : ℕ) where
   unused : select_legal s ≡ true → register_of 255 s ≡ Unused
-      → accessed 255 g f k s v ≡ record { answer = Value 0; file = f }
+      → accessed 255 g f k s v ≡ record { answer = Some 0; file = f }
   unused legal named = at_register g f k s v Unused legal named ∙ unused-at g f k v
 
-  past-named : 0x70 < s → s < 0x80 → s ≢ 0x72 → accessed 255 g f k s v ≡ record { answer = Value 0; file = f }
+  past-named : 0x70 < s → s < 0x80 → s ≢ 0x72 → accessed 255 g f k s v ≡ record { answer = Some 0; file = f }
   past-named l h d = unused (legal-named s (omega arith) h) (register-named 255 s (λ q. omega arith) d h)
 
   past-pending : 0x88 ≤ s → s ≤ 0xBE → s % 2 ≡ 0
-      → accessed 255 g f k s v ≡ record { answer = Value 0; file = f }
+      → accessed 255 g f k s v ≡ record { answer = Some 0; file = f }
   past-pending l h e =
       unused (even-legal s (omega arith) (omega arith) e)
       (register-pending 255 s (omega arith) (omega arith) ∙ words-past 255 0x80 Pending s (omega arith))
 
   past-enable : 0xC8 ≤ s → s ≤ 0xFE → s % 2 ≡ 0
-      → accessed 255 g f k s v ≡ record { answer = Value 0; file = f }
+      → accessed 255 g f k s v ≡ record { answer = Some 0; file = f }
   past-enable l h e =
       unused (even-legal s (omega arith) (omega arith) e)
       (register-enable 255 s (omega arith) ∙ words-past 255 0xC0 Enable s (omega arith))

@@ -8,7 +8,7 @@
 -- bits for its registers; in Claim 34 a file that lies within the block.
 -- No axioms.
 use Rattle.std.specs.Prelude.{ℕ, ◌+◌, ◌*◌, ◌/◌, ◌%◌, ◌^◌, ◌≤◌, ◌<◌, ◌≡◌, Bool, true, false, not, cond, ◌&&◌}
-use Rattle.std.specs.Prelude.{◌||◌, List, ◌≢◌, ◌↔◌, ◌⊎◌, eqb, leb, length}
+use Rattle.std.specs.Prelude.{◌||◌, List, ◌≢◌, ◌↔◌, ◌⊎◌, eqb, leb, length, None}
 use Rattle.words.specs.Bits.{has_bit, without_bit}
 use Rattle.words.specs.Sets.{member, WordsFit}
 use Rattle.file_select.specs.declared.Register.TheVariants.{Delivery, Threshold, Pending, Enable}
@@ -16,7 +16,6 @@ use Rattle.file_select.specs.Select.{select_legal}
 use Rattle.file_select.specs.Deliveries.{delivery_legal}
 use Rattle.file.specs.declared.File.{File}
 use Rattle.file.specs.declared.register.Access.{Access}
-use Rattle.file.specs.declared.register.Reply.TheVariants.{Illegal}
 use Rattle.file.specs.Shape.{Shaped}
 use Rattle.file.specs.Parts.{with_delivery}
 use Rattle.file.specs.Page.{arrived, page_written}
@@ -121,7 +120,7 @@ Claim-30 = (s : ℕ) → (select_legal s ≡ false) ↔ ((s < 0x70) ⊎ ((0xFF <
 unfoldable pub Claim-31 : Type 0
 Claim-31 =
     (n : ℕ) (g : Bool) (f : File) (k : Access) (s v : ℕ) → select_legal s ≡ false
-    → accessed n g f k s v ≡ record { answer = Illegal; file = f }
+    → accessed n g f k s v ≡ record { answer = None; file = f }
 
 -- a message, a claim and any access leave a file that keeps the rules
 pub record KeepsRules (g : Bool) (f : File) : Type 0 where

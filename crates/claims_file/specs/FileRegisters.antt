@@ -7,7 +7,7 @@
 -- speaks of pending or enable bits. g says that the file is a guest's.
 -- No axioms.
 use Rattle.std.specs.Prelude.{ℕ, ◌+◌, ◌*◌, ◌/◌, ◌%◌, ◌^◌, ◌≤◌, ◌<◌, ◌≡◌, Bool, true, not, cond, ◌&&◌, ◌||◌}
-use Rattle.std.specs.Prelude.{List, ◌↔◌, ◌⊎◌, eqb, leb}
+use Rattle.std.specs.Prelude.{List, ◌↔◌, ◌⊎◌, eqb, leb, Some, None}
 use Rattle.words.specs.Bits.{has_bit}
 use Rattle.words.specs.Sets.{member}
 use Rattle.file_select.specs.Select.{select_legal}
@@ -15,7 +15,6 @@ use Rattle.file_select.specs.Deliveries.{delivery_legal}
 use Rattle.file.specs.declared.File.{File}
 use Rattle.file.specs.declared.register.Access.{Access}
 use Rattle.file.specs.declared.register.Access.TheVariants.{Read, Write, Set, Clear}
-use Rattle.file.specs.declared.register.Reply.TheVariants.{Value, Illegal}
 use Rattle.file.specs.Shape.{Shaped}
 use Rattle.file.specs.Parts.{with_delivery, with_threshold}
 use Rattle.file.specs.Reply.{reply_number, reply_value}
@@ -29,11 +28,11 @@ use Rattle.claims_file.specs.FileState.{LegalDelivery}
 pub record DeliveryRegister (g : Bool) (f : File) (v : ℕ) : Type 0 where
   pub alone : with_delivery f v
       ≡ record { delivery = v; threshold = f.threshold; pending = f.pending; enable = f.enable }
-  pub read : accessed 255 g f Read 0x70 v ≡ record { answer = Value f.delivery; file = f }
+  pub read : accessed 255 g f Read 0x70 v ≡ record { answer = Some f.delivery; file = f }
   pub write : LegalDelivery g v
-      → accessed 255 g f Write 0x70 v ≡ record { answer = Value 0; file = with_delivery f v }
+      → accessed 255 g f Write 0x70 v ≡ record { answer = Some 0; file = with_delivery f v }
   pub ignored : (LegalDelivery g v → ⊥)
-      → accessed 255 g f Write 0x70 v ≡ record { answer = Value 0; file = f }
+      → accessed 255 g f Write 0x70 v ≡ record { answer = Some 0; file = f }
   pub legal : (delivery_legal g v ≡ true) ↔ LegalDelivery g v
 
 -- select 0x70, delivery: a read answers it; a write stores 0, 1, and for files 0 and 1 also 0x40000000, and
@@ -46,9 +45,9 @@ Claim-120 = (g : Bool) (f : File) (v : ℕ) → DeliveryRegister g f v
 pub record ThresholdRegister (g : Bool) (f : File) (v : ℕ) : Type 0 where
   pub alone : with_threshold f v
       ≡ record { delivery = f.delivery; threshold = v; pending = f.pending; enable = f.enable }
-  pub read : accessed 255 g f Read 0x72 v ≡ record { answer = Value f.threshold; file = f }
+  pub read : accessed 255 g f Read 0x72 v ≡ record { answer = Some f.threshold; file = f }
   pub write : accessed 255 g f Write 0x72 v
-      ≡ record { answer = Value 0; file = with_threshold f (v % 256) }
+      ≡ record { answer = Some 0; file = with_threshold f (v % 256) }
 
 -- select 0x72, threshold: a read answers it; a write keeps the low 8 bits and changes nothing else
 -- [01 F8]
@@ -77,9 +76,9 @@ pub record EnableAlone (f f' : File) : Type 0 where
 unfoldable pub Claim-122 : Type 0
 Claim-122 =
     (g : Bool) (f : File) (j v : ℕ) → Shaped f → j < 4
-    → ((r : ℕ) × (accessed 255 g f Read (0x80 + 2 * j) v ≡ record { answer = Value r; file = f })
+    → ((r : ℕ) × (accessed 255 g f Read (0x80 + 2 * j) v ≡ record { answer = Some r; file = f })
     × Shows f.pending j r)
-    × ((accessed 255 g f Write (0x80 + 2 * j) v).answer ≡ Value 0)
+    × ((accessed 255 g f Write (0x80 + 2 * j) v).answer ≡ Some 0)
     × PendingAlone f (accessed 255 g f Write (0x80 + 2 * j) v).file
     × ((i : ℕ) → member (accessed 255 g f Write (0x80 + 2 * j) v).file.pending i
     ≡ cond (eqb (i / 64) j) (has_bit v (i % 64) && leb 1 i) (member f.pending i))
@@ -89,9 +88,9 @@ Claim-122 =
 unfoldable pub Claim-123 : Type 0
 Claim-123 =
     (g : Bool) (f : File) (j v : ℕ) → Shaped f → j < 4
-    → ((r : ℕ) × (accessed 255 g f Read (0xC0 + 2 * j) v ≡ record { answer = Value r; file = f })
+    → ((r : ℕ) × (accessed 255 g f Read (0xC0 + 2 * j) v ≡ record { answer = Some r; file = f })
     × Shows f.enable j r)
-    × ((accessed 255 g f Write (0xC0 + 2 * j) v).answer ≡ Value 0)
+    × ((accessed 255 g f Write (0xC0 + 2 * j) v).answer ≡ Some 0)
     × EnableAlone f (accessed 255 g f Write (0xC0 + 2 * j) v).file
     × ((i : ℕ) → member (accessed 255 g f Write (0xC0 + 2 * j) v).file.enable i
     ≡ cond (eqb (i / 64) j) (has_bit v (i % 64) && leb 1 i) (member f.enable i))
@@ -102,9 +101,9 @@ Claim-123 =
 -- write of old-or-value leaves, and a clear the one that a write of old without value leaves
 pub record OldAndNew (g : Bool) (f : File) (s v : ℕ) : Type 0 where
   pub old : ℕ
-  pub read : (u : ℕ) → (accessed 255 g f Read s u).answer ≡ Value old
-  pub set_answer : (accessed 255 g f Set s v).answer ≡ Value old
-  pub clear_answer : (accessed 255 g f Clear s v).answer ≡ Value old
+  pub read : (u : ℕ) → (accessed 255 g f Read s u).answer ≡ Some old
+  pub set_answer : (accessed 255 g f Set s v).answer ≡ Some old
+  pub clear_answer : (accessed 255 g f Clear s v).answer ≡ Some old
   pub more : ℕ
   pub more_bits : (k : ℕ) → has_bit more k ≡ (has_bit old k || has_bit v k)
   pub set_file : (accessed 255 g f Set s v).file ≡ (accessed 255 g f Write s more).file
@@ -151,6 +150,6 @@ Claim-125 =
     ((g : Bool) (f : File) (k : Access) (s v : ℕ)
     → (s ≡ 0x71) ⊎ (((0x73 ≤ s) × (s ≤ 0x7F))
     ⊎ ((s % 2 ≡ 0) × (((0x88 ≤ s) × (s ≤ 0xBE)) ⊎ ((0xC8 ≤ s) × (s ≤ 0xFE)))))
-    → accessed 255 g f k s v ≡ record { answer = Value 0; file = f })
-    × ((u : ℕ) → (reply_number (Value u) ≡ 0) × (reply_value (Value u) ≡ u))
-    × ((reply_number Illegal ≡ 6) × (reply_value Illegal ≡ 0))
+    → accessed 255 g f k s v ≡ record { answer = Some 0; file = f })
+    × ((u : ℕ) → (reply_number (Some u) ≡ 0) × (reply_value (Some u) ≡ u))
+    × ((reply_number None ≡ 6) × (reply_value None ≡ 0))

@@ -2,13 +2,13 @@
 use Prim.Native.Nat.{ℕ}
 use mathlib.Core.Path.{◌≡◌, sym, ap₂, ◌∙◌}
 use mathlib.Core.Bool.{Bool, true, false}
+use Rattle.std.specs.Prelude.{None}
 use Rattle.file_select.specs.declared.Register.{Register}
 use Rattle.file_select.specs.declared.Register.TheVariants.{Delivery}
 use Rattle.file_select.specs.Select.{select_legal, register_of}
 use Rattle.file_select.specs.Deliveries.{delivery_legal}
 use Rattle.file.specs.declared.File.{File}
 use Rattle.file.specs.declared.register.Access.{Access}
-use Rattle.file.specs.declared.register.Reply.TheVariants.{Illegal}
 use Rattle.file.specs.Parts.{with_delivery}
 use Rattle.file.specs.Register.{written, accessed_at, accessed}
 
@@ -22,7 +22,7 @@ module _ (n : ℕ) (g : Bool) (f : File) (v : ℕ) where
   written-illegal e = simp e
 
 module _ (n : ℕ) (g : Bool) (f : File) (k : Access) (s v : ℕ) where
-  pub accessed-illegal : select_legal s ≡ false → accessed n g f k s v ≡ record { answer = Illegal; file = f }
+  pub accessed-illegal : select_legal s ≡ false → accessed n g f k s v ≡ record { answer = None; file = f }
   unfolding accessed
   accessed-illegal e = simp e
 

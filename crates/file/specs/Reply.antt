@@ -1,14 +1,12 @@
--- The paper's numbers for what a register access answers: the refusal, 0 if it is done, and the value. 01,
--- "Calls and their refusals".
+-- The paper's numbers for what a register access answers, a value or, if its select number is illegal, none:
+-- the refusal, 0 if it is done, and the value. 01, "Calls and their refusals".
 -- Assumes nothing.
-use Rattle.std.specs.Prelude.{ℕ}
-use Rattle.file.specs.declared.register.Reply.{Reply}
-use Rattle.file.specs.declared.register.Reply.TheVariants.{Value, Illegal}
+use Rattle.std.specs.Prelude.{ℕ, Option, Some, None}
 
-abbrev pub reply_number : Reply → ℕ
-reply_number (Value v) = 0
-reply_number Illegal = 6
+abbrev pub reply_number : Option ℕ → ℕ
+reply_number (Some v) = 0
+reply_number None = 6
 
-abbrev pub reply_value : Reply → ℕ
-reply_value (Value v) = v
-reply_value Illegal = 0
+abbrev pub reply_value : Option ℕ → ℕ
+reply_value (Some v) = v
+reply_value None = 0

@@ -6,7 +6,7 @@ mod register;
 mod rules;
 mod top;
 
-pub use register::{Access, Accessed, Reply};
+pub use register::{Access, Accessed};
 use sizes::FILE_SET_SIZE;
 pub use top::Claimed;
 

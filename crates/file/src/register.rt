@@ -16,15 +16,10 @@ pub enum Access {
     Clear,
 }
 
-#[derive(Clone, Copy)]
-pub enum Reply {
-    Value(u64),
-    Illegal,
-}
-
+// No answer: the select number is illegal.
 #[derive(Clone, Copy)]
 pub struct Accessed {
-    pub answer: Reply,
+    pub answer: Option<u64>,
     pub file: File,
 }
 
@@ -82,7 +77,7 @@ impl File {
     {
         if !select_legal(select) {
             return Accessed {
-                answer: Reply::Illegal,
+                answer: None,
                 file: self,
             };
         }
@@ -90,19 +85,19 @@ impl File {
         let old = self.held(register);
         match kind {
             Access::Read => Accessed {
-                answer: Reply::Value(old),
+                answer: Some(old),
                 file: self,
             },
             Access::Write => Accessed {
-                answer: Reply::Value(0),
+                answer: Some(0),
                 file: self.written(guest, register, value),
             },
             Access::Set => Accessed {
-                answer: Reply::Value(old),
+                answer: Some(old),
                 file: self.written(guest, register, words::union64(old, value)),
             },
             Access::Clear => Accessed {
-                answer: Reply::Value(old),
+                answer: Some(old),
                 file: self.written(guest, register, words::without64(old, value)),
             },
         }

@@ -4,7 +4,7 @@ use Prim.Native.Nat.{ℕ}
 use Rattle.words.specs.Bits.{union, without}
 use Rattle.file.specs.declared.File.{File}
 use Rattle.file.specs.declared.register.Access.TheVariants.{Read, Write, Set, Clear}
-use Rattle.file.specs.declared.register.Reply.TheVariants.{Value}
+use Rattle.std.specs.Prelude.{Some}
 use mathlib.Core.Path.{sym, ◌∙◌, ap, ap₂}
 use Rattle.file.specs.Register.{accessed_at, written}
 use Rattle.file.proofs.RegisterLaws.{accessed-illegal, accessed-kind}
@@ -19,7 +19,7 @@ unfolding accessed_at
 returns-in-Read c =
     let args = c.args in
     let legal = sym c.select_legal.ensures ∙ c.if-not-select_legal.false in
-    ap (λ (old : ℕ). record { answer = Value old; file = args.self }) c.held-old.ensures
+    ap (λ (old : ℕ). record { answer = Some old; file = args.self }) c.held-old.ensures
     ∙ sym (accessed-kind 255 args.guest args.self args.kind args.select args.value
     c.register_of-register.result Read legal c.register_of-register.ensures
     c.in-Read.is)
@@ -29,7 +29,7 @@ unfolding accessed_at
 returns-in-Write c =
     let args = c.args in
     let legal = sym c.select_legal.ensures ∙ c.if-not-select_legal.false in
-    ap (λ (f : File). record { answer = Value 0; file = f }) c.written.ensures
+    ap (λ (f : File). record { answer = Some 0; file = f }) c.written.ensures
     ∙ sym (accessed-kind 255 args.guest args.self args.kind args.select args.value
     c.register_of-register.result Write legal c.register_of-register.ensures
     c.in-Write.is)
@@ -39,7 +39,7 @@ unfolding accessed_at
 returns-in-Set c =
     let args = c.args in
     let legal = sym c.select_legal.ensures ∙ c.if-not-select_legal.false in
-    ap₂ (λ (old : ℕ) (f : File). record { answer = Value old; file = f }) c.held-old.ensures
+    ap₂ (λ (old : ℕ) (f : File). record { answer = Some old; file = f }) c.held-old.ensures
     (c.written-in-Set.ensures
     ∙ ap (written _ _ _ _) (c.union64.ensures
     ∙ ap (λ (old : ℕ). union old args.value) c.held-old.ensures))
@@ -52,7 +52,7 @@ unfolding accessed_at
 returns-in-Clear c =
     let args = c.args in
     let legal = sym c.select_legal.ensures ∙ c.if-not-select_legal.false in
-    ap₂ (λ (old : ℕ) (f : File). record { answer = Value old; file = f }) c.held-old.ensures
+    ap₂ (λ (old : ℕ) (f : File). record { answer = Some old; file = f }) c.held-old.ensures
     (c.written-in-Clear.ensures
     ∙ ap (written _ _ _ _) (c.without64.ensures
     ∙ ap (λ (old : ℕ). without old args.value) c.held-old.ensures))
