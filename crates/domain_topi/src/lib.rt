@@ -12,11 +12,12 @@ ghost use Rattle.domain_topi.specs.Top.{standing, eligible, precedes, top_source
 
 use domain::{by_messages, load, load_structure, standing};
 use domain_delivery::Delivery;
+use sizes::DOMAIN_SIZE;
 use source_target::{hart_of, number_of};
 
 // Source `i`, which is pending and enabled, counts for hart `h`, whose structure is `x`.
-fn eligible(part: &[u32], h: usize, x: Delivery, i: usize) -> bool
-    requires { (length part.now ≡ domain_size) × (i < slot_count)
+fn eligible(part: &[u32; DOMAIN_SIZE], h: usize, x: Delivery, i: usize) -> bool
+    requires { (i < slot_count)
         × (x ≡ structure_at (domain_of part.now) h)
         × (standing (domain_of part.now) i ≡ true) }
     ensures { result ≡ eligible (domain_of part.now) h i }
@@ -29,8 +30,8 @@ fn eligible(part: &[u32], h: usize, x: Delivery, i: usize) -> bool
 }
 
 // Source `i` goes before `best`, where 0 is none.
-fn precedes(part: &[u32], i: usize, best: usize) -> bool
-    requires { (length part.now ≡ domain_size) × (i < slot_count) × (best < slot_count) }
+fn precedes(part: &[u32; DOMAIN_SIZE], i: usize, best: usize) -> bool
+    requires { (i < slot_count) × (best < slot_count) }
     ensures { result ≡ precedes (domain_of part.now) i best }
 {
     if best == 0 {
@@ -42,8 +43,8 @@ fn precedes(part: &[u32], i: usize, best: usize) -> bool
 }
 
 // The better of `best` and source `i`, which is pending and enabled.
-fn better(part: &[u32], h: usize, x: Delivery, i: usize, best: usize) -> usize
-    requires { (length part.now ≡ domain_size) × (i < slot_count) × (best < slot_count)
+fn better(part: &[u32; DOMAIN_SIZE], h: usize, x: Delivery, i: usize, best: usize) -> usize
+    requires { (i < slot_count) × (best < slot_count)
         × (x ≡ structure_at (domain_of part.now) h) × (standing (domain_of part.now) i ≡ true) }
     ensures { result ≡ cond (eligible (domain_of part.now) h i
         && precedes (domain_of part.now) i best) i best }
@@ -57,8 +58,8 @@ fn better(part: &[u32], h: usize, x: Delivery, i: usize, best: usize) -> usize
 }
 
 // From one pending and enabled source to the next: `rest` has those from `i` on.
-pub fn top_source(part: &[u32], h: usize) -> usize
-    requires { (length part.now ≡ domain_size) × (h < hart_count) }
+pub fn top_source(part: &[u32; DOMAIN_SIZE], h: usize) -> usize
+    requires { h < hart_count }
     ensures { result ≡ top_source (domain_of part.now) h }
 {
     let x = load_structure(part, h);
@@ -77,8 +78,8 @@ pub fn top_source(part: &[u32], h: usize) -> usize
 }
 
 // A source and its priority as topi has them; 0 for no source.
-pub fn topi_word(part: &[u32], i: usize) -> u32
-    requires { (length part.now ≡ domain_size) × (i < slot_count) }
+pub fn topi_word(part: &[u32; DOMAIN_SIZE], i: usize) -> u32
+    requires { i < slot_count }
     ensures { result ≡ cond (eqb i 0) 0
         (i * 65536 + number_of (source_at (domain_of part.now) i).target) }
 {
@@ -89,8 +90,8 @@ pub fn topi_word(part: &[u32], i: usize) -> u32
     0
 }
 
-pub fn topi(part: &[u32], h: usize) -> u32
-    requires { (length part.now ≡ domain_size) × (h < hart_count) }
+pub fn topi(part: &[u32; DOMAIN_SIZE], h: usize) -> u32
+    requires { h < hart_count }
     ensures { result ≡ topi_of (domain_of part.now) h }
 {
     if by_messages(part) {

@@ -14,5 +14,5 @@ pub returns : goal.returns
 returns c =
     let pre = c.requires in
     let here = sym c.hart_of.ensures.0 ∙ c.if-hart_of-h.false in
-    c.lets.ensures ∙ ap₂ lets pre.2 c.number_of.ensures.0
-    ∙ sym (eligible-here _ _ _ _ c.load-s.ensures pre.3 here)
+    c.lets.ensures ∙ ap₂ lets pre.1 c.number_of.ensures.0
+    ∙ sym (eligible-here _ _ _ _ c.load-s.ensures pre.2 here)

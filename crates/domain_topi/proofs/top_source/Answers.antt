@@ -19,7 +19,6 @@ pub better-best-requires : goal.better-best-requires
 better-best-requires c =
     let left = c.loop-rest.invariant in
     let some = c.loop-rest-test.true in (
-      c.requires.0,
       walk-lt left.walk some,
       left.found,
       c.load_structure-x.ensures,

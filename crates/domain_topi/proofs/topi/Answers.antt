@@ -10,7 +10,7 @@ returns-then-by_messages c = sym (topi-messages _ _ (sym c.by_messages.ensures â
 
 pub topi_word-requires : goal.topi_word-requires
 topi_word-requires c =
-    (c.requires.0, rw c.top_source-i.ensures (top_source-lt _ _))
+    rw c.top_source-i.ensures (top_source-lt _ _)
 
 pub returns : goal.returns
 returns c =
