@@ -1,15 +1,16 @@
 // What a claim answers and does, and the signal to a hart.
-ghost use Rattle.std.specs.Prelude.{◌≡◌, ◌<◌, length};
-ghost use Rattle.sizes.specs.Sizes.{hart_count, slot_count, domain_size};
+ghost use Rattle.std.specs.Prelude.{◌≡◌, ◌<◌};
+ghost use Rattle.sizes.specs.Sizes.{hart_count, slot_count};
 ghost use Rattle.domain.specs.Domain.{domain_of};
 ghost use Rattle.domain_direct.specs.Direct.{topi_of, unforced, released, hart_claimed, signal_of};
 
 use domain::{by_messages, enabled, load, load_structure, store, store_structure};
 use domain_topi::{top_source, topi, topi_word};
+use sizes::DOMAIN_SIZE;
 
 // A claim with no top clears iforce.
-fn unforce(part: &mut [u32], h: usize)
-    requires { (length part.old ≡ domain_size) × (h < hart_count) }
+fn unforce(part: &mut [u32; DOMAIN_SIZE], h: usize)
+    requires { h < hart_count }
     ensures { domain_of part.new ≡ unforced (domain_of part.old) h }
 {
     let x = load_structure(part, h);
@@ -17,16 +18,16 @@ fn unforce(part: &mut [u32], h: usize)
 }
 
 // A claim of source `i` clears its pending bit, unless a level source keeps it.
-fn release(part: &mut [u32], i: usize)
-    requires { (length part.old ≡ domain_size) × (i < slot_count) }
+fn release(part: &mut [u32; DOMAIN_SIZE], i: usize)
+    requires { i < slot_count }
     ensures { domain_of part.new ≡ released (domain_of part.old) i }
 {
     let s = load(part, i);
     store(part, i, s.cleared(false));
 }
 
-pub fn claim(part: &mut [u32], h: usize) -> u32
-    requires { (length part.old ≡ domain_size) × (h < hart_count) }
+pub fn claim(part: &mut [u32; DOMAIN_SIZE], h: usize) -> u32
+    requires { h < hart_count }
     ensures { (result ≡ topi_of (domain_of part.old) h)
         × (domain_of part.new ≡ hart_claimed (domain_of part.old) h) }
 {
@@ -44,8 +45,8 @@ pub fn claim(part: &mut [u32], h: usize) -> u32
 }
 
 // The search for the top is made only where a top would raise the signal.
-pub fn signal(part: &[u32], h: usize) -> bool
-    requires { (length part.now ≡ domain_size) × (h < hart_count) }
+pub fn signal(part: &[u32; DOMAIN_SIZE], h: usize) -> bool
+    requires { h < hart_count }
     ensures { result ≡ signal_of (domain_of part.now) h }
 {
     if by_messages(part) {

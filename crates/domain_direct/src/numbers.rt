@@ -1,12 +1,13 @@
 // The three settable numbers of a hart's delivery structure, read and written.
-ghost use Rattle.std.specs.Prelude.{◌≡◌, ◌<◌, length};
-ghost use Rattle.sizes.specs.Sizes.{hart_count, domain_size};
+ghost use Rattle.std.specs.Prelude.{◌≡◌, ◌<◌};
+ghost use Rattle.sizes.specs.Sizes.{hart_count};
 ghost use Rattle.domain.specs.Domain.{domain_of};
 ghost use Rattle.domain_direct.specs.Direct.{number_at, written_at, setting_of, setting_written};
 
 use super::Setting;
 use domain::{by_messages, load_structure, store_structure};
 use domain_delivery::Delivery;
+use sizes::DOMAIN_SIZE;
 
 fn number_at(x: Delivery, which: Setting) -> u32
     ensures { result ≡ number_at x which }
@@ -28,8 +29,8 @@ fn written_at(x: Delivery, which: Setting, value: u32) -> Delivery
     }
 }
 
-pub fn setting_of(part: &[u32], h: usize, which: Setting) -> u32
-    requires { (length part.now ≡ domain_size) × (h < hart_count) }
+pub fn setting_of(part: &[u32; DOMAIN_SIZE], h: usize, which: Setting) -> u32
+    requires { h < hart_count }
     ensures { result ≡ setting_of (domain_of part.now) h which }
 {
     if by_messages(part) {
@@ -38,8 +39,8 @@ pub fn setting_of(part: &[u32], h: usize, which: Setting) -> u32
     number_at(load_structure(part, h), which)
 }
 
-pub fn put_setting(part: &mut [u32], h: usize, which: Setting, value: u32)
-    requires { (length part.old ≡ domain_size) × (h < hart_count) }
+pub fn put_setting(part: &mut [u32; DOMAIN_SIZE], h: usize, which: Setting, value: u32)
+    requires { h < hart_count }
     ensures { domain_of part.new
         ≡ setting_written (domain_of part.old) h which value }
 {

@@ -2,8 +2,8 @@
 // among equals.
 #![tactic(auto)]
 
-ghost use Rattle.std.specs.Prelude.{◌≡◌, true, cond, ◌&&◌, ◌+◌, ◌*◌, ◌<◌, eqb, length};
-ghost use Rattle.sizes.specs.Sizes.{hart_count, slot_count, domain_size};
+ghost use Rattle.std.specs.Prelude.{◌≡◌, true, cond, ◌&&◌, ◌+◌, ◌*◌, ◌<◌, eqb};
+ghost use Rattle.sizes.specs.Sizes.{hart_count, slot_count};
 ghost use Rattle.source_target.specs.Target.{number_of};
 ghost use Rattle.domain.specs.Domain.{domain_of};
 ghost use Rattle.domain.specs.Slot.{source_at};

@@ -15,12 +15,10 @@ returns-then-by_messages c =
     (sym (topi-messages _ _ messages), sym (claimed-messages _ _ messages))
 
 pub topi_word-top-requires : goal.topi_word-top-requires
-topi_word-top-requires c =
-    (c.requires.0, rw c.top_source-i.ensures (top_source-lt _ _))
+topi_word-top-requires c = rw c.top_source-i.ensures (top_source-lt _ _)
 
 pub release-requires : goal.release-requires
-release-requires c =
-    (c.requires.0, rw c.top_source-i.ensures (top_source-lt _ _))
+release-requires c = rw c.top_source-i.ensures (top_source-lt _ _)
 
 pub returns-then-i-eq0 : goal.returns-then-i-eq0
 returns-then-i-eq0 c =
