@@ -1,2 +1,3 @@
 -- Sets of small numbers, each as one word. Assumes nothing.
 pub mod Masks
+pub mod Members

@@ -5,6 +5,10 @@ ghost use Rattle.std.specs.Prelude.{◌≡◌, ◌<◌};
 ghost use Rattle.words.specs.Bits.{with_bit};
 ghost use Rattle.words_masks.specs.Masks.{common};
 
+mod members;
+
+pub use members::Members;
+
 pub fn with_bit64(w: u64, k: u32) -> u64
     requires { k < 64 }
     ensures { result ≡ with_bit w k }

@@ -1,0 +1,119 @@
+-- Laws of specs/Members.antt, and how the bits that are left are gone through. No contract cites this file.
+-- Assumes nothing.
+--   listed-ext        tests that agree list the same numbers
+--   listed-none       where none holds, none is listed
+--   listed-skip       those before the first that holds are passed over
+--   listed-first      the first that holds comes first
+--   raised-bit        a word shifted down and up again has the same bits from there on
+--   left-end          no bit left: no number is listed
+--   left-next         the lowest bit left is the next number, and the others are left
+--   left-within       what is left stays below 2 ^ 64
+use Prim.Native.Nat.{ℕ, zero, suc, ◌+◌, ◌-◌, ◌*◌, ◌/◌, ◌^◌, ◌≤◌, ◌<◌}
+use mathlib.Core.Path.{◌≡◌, refl, sym, ap, ap₂, ◌∙◌}
+use mathlib.Core.Bool.{Bool, true, false, cond}
+use mathlib.Core.List.{List, [], ◌∷◌}
+use mathlib.Core.Logic.{◌≢◌}
+use native.Mathlib.Omega.{arith}
+use native.Mathlib.Nat.{zero-add, add-zero}
+use lib.Count.{count_trailing_zeros}
+use lib.Dec.{eqb}
+use lib.Pow.{pow_pos}
+use Rattle.std.proofs.Math.Nat.{div-mul-le_self, mul-div_cancel}
+use Rattle.words.specs.Bits.{bit_of, has_bit}
+use Rattle.words.proofs.ZerosLaws.{bit_of-shr}
+use Rattle.words.proofs.WalkLaws.{Walk, walk_none, walk-lt, walk-on, walk-passed, walk-next}
+use Rattle.words_masks.specs.Members.{listed}
+
+pub listed-ext : (p q : ℕ → Bool) (i n : ℕ) → ((j : ℕ) → i ≤ j → j < i + n → p j ≡ q j)
+    → listed p i n ≡ listed q i n
+unfolding listed
+listed-ext p q i zero e = refl
+listed-ext p q i (suc n) e =
+    ap₂ (λ (b : Bool) (l : List ℕ). cond b (i ∷ l) l) (e i (omega arith) (omega arith))
+    (listed-ext p q (suc i) n (λ j l h. e j (omega arith) (omega arith)))
+
+pub listed-none : (p : ℕ → Bool) (i n : ℕ) → ((j : ℕ) → i ≤ j → j < i + n → p j ≡ false) → listed p i n ≡ []
+unfolding listed
+listed-none p i zero e = refl
+listed-none p i (suc n) e =
+    rw (e i (omega arith) (omega arith)) (listed-none p (suc i) n (λ j l h. e j (omega arith) (omega arith)))
+
+-- k numbers that are passed over
+passed : (p : ℕ → Bool) (i k n : ℕ) → ((j : ℕ) → i ≤ j → j < i + k → p j ≡ false)
+    → listed p i (k + n) ≡ listed p (i + k) n
+unfolding listed
+passed p i zero n e = rw (zero-add, add-zero) refl
+passed p i (suc k) n e =
+    let more : suc k + n ≡ suc (k + n) = omega arith in
+    let on : i + suc k ≡ suc i + k = omega arith in
+    rw (more, on, e i (omega arith) (omega arith))
+    (passed p (suc i) k n (λ j l h. e j (omega arith) (omega arith)))
+
+pub listed-skip : (p : ℕ → Bool) (i k m : ℕ) → i ≤ k → k ≤ m → ((j : ℕ) → i ≤ j → j < k → p j ≡ false)
+    → listed p i (m - i) ≡ listed p k (m - k)
+listed-skip p i k m l h e =
+    ap (listed p i) (omega arith) ∙ passed p i (k - i) (m - k) (λ j a b. e j a (omega arith))
+    ∙ ap (λ (j : ℕ). listed p j (m - k)) (omega arith)
+
+pub listed-first : (p : ℕ → Bool) (k m : ℕ) → k < m → p k ≡ true
+    → listed p k (m - k) ≡ k ∷ listed p (k + 1) (m - (k + 1))
+unfolding listed
+listed-first p k m h t =
+    let left : m - k ≡ suc (m - (k + 1)) = omega arith in
+    let on : k + 1 ≡ suc k = omega arith in
+    rw (left, on, t) refl
+
+-- ---- a word from a bit on
+
+down : (w k : ℕ) → w * 2 ^ k / 2 ^ k ≡ w
+down w k = mul-div_cancel w (pow_pos k)
+
+same-from : (w v k : ℕ) → w / 2 ^ k ≡ v / 2 ^ k → (j : ℕ) → k ≤ j → has_bit w j ≡ has_bit v j
+unfolding has_bit
+same-from w v k e j l =
+    let place : j ≡ k + (j - k) = omega arith in
+    rw place (ap (λ (b : ℕ). eqb b 1)
+    (sym (bit_of-shr w k (j - k)) ∙ ap (λ (x : ℕ). bit_of x (j - k)) e ∙ bit_of-shr v k (j - k)))
+
+pub raised-bit : (w k j : ℕ) → k ≤ j → has_bit (w / 2 ^ k * 2 ^ k) j ≡ has_bit w j
+raised-bit w k j l = same-from (w / 2 ^ k * 2 ^ k) w k (down (w / 2 ^ k) k) j l
+
+-- ---- the bits that are left, of which bit 0 is number i
+
+module _ (rest i : ℕ) (fits : rest * 2 ^ i < 2 ^ 64) where
+  abbrev on : ℕ → Bool
+  on = has_bit (rest * 2 ^ i)
+
+  walk : Walk on (rest * 2 ^ i) rest i
+  walk = record { whole = fits; bits = λ j l h. refl; shifted = sym (down rest i) }
+
+  pub left-end : i ≤ 64 → rest ≡ 0 → listed on i (64 - i) ≡ []
+  left-end l none = listed-none on i (64 - i) (λ j a b. walk_none walk none j a (omega arith))
+
+  module _ (some : rest ≢ 0) where
+    abbrev next : ℕ
+    next = i + count_trailing_zeros 64 rest
+
+    abbrev rest' : ℕ
+    rest' = rest / 2 ^ count_trailing_zeros 64 rest / 2
+
+    after : Walk on (rest * 2 ^ i) rest' (next + 1)
+    after = walk-next walk some on (λ j l. refl)
+
+    pub left-within : (next + 1 ≤ 64) × (rest' * 2 ^ (next + 1) < 2 ^ 64)
+    left-within =
+        let low = walk-lt walk some in (
+          omega arith,
+          rw (after.shifted) (omega (arith, div-mul-le_self (rest * 2 ^ i) (2 ^ (next + 1)), fits)),
+        )
+
+    pub left-next : listed on i (64 - i)
+        ≡ next ∷ listed (has_bit (rest' * 2 ^ (next + 1))) (next + 1) (64 - (next + 1))
+    left-next =
+        let low = walk-lt walk some in
+        listed-skip on i next 64 (omega arith) (omega arith) (walk-passed walk some)
+        ∙ listed-first on next 64 low (walk-on walk some)
+        ∙ ap (λ (l : List ℕ). next ∷ l)
+        (listed-ext on (has_bit (rest' * 2 ^ (next + 1))) (next + 1) (64 - (next + 1))
+        (λ j l h. same-from (rest * 2 ^ i) (rest' * 2 ^ (next + 1)) (next + 1)
+        (sym after.shifted ∙ sym (down rest' (next + 1))) j l))
