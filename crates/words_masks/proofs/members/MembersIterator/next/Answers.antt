@@ -22,4 +22,8 @@ returns-clause-steps c =
 
 pub returns-clause-goes : goal.returns-clause-goes
 returns-clause-goes c =
-    let steps = returns-clause-steps c in record { on = λ f. (_, tt, omega (arith, ap length steps)); keeps = _; rests = λ f. _ }
+    record {
+      on = λ f. (_, tt, omega (arith, ap length (returns-clause-steps c)));
+      keeps = _;
+      rests = λ f. _;
+    }
