@@ -49,14 +49,14 @@ pub fn put_genmsi(part: &mut [u32; DOMAIN_SIZE], value: u32)
 }
 
 pub fn pending_word(part: &[u32; DOMAIN_SIZE], k: usize) -> u32
-    requires { (k < source_set_size) }
+    requires { k < source_set_size }
     ensures { result ≡ get_or (domain_of part.now).pending k 0 }
 {
     part[PENDINGS_PLACE + k]
 }
 
 pub fn enable_word(part: &[u32; DOMAIN_SIZE], k: usize) -> u32
-    requires { (k < source_set_size) }
+    requires { k < source_set_size }
     ensures { result ≡ get_or (domain_of part.now).enable k 0 }
 {
     part[ENABLES_PLACE + k]

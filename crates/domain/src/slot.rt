@@ -9,7 +9,7 @@ use sizes::{DOMAIN_SIZE, ENABLES_PLACE, PENDINGS_PLACE, TARGETS_PLACE};
 use source::Source;
 
 pub fn load(part: &[u32; DOMAIN_SIZE], i: usize) -> Source
-    requires { (i < slot_count) }
+    requires { i < slot_count }
     ensures { result ≡ source_at (domain_of part.now) i }
 {
     let k = (i % 32) as u32;
@@ -25,7 +25,7 @@ pub fn load(part: &[u32; DOMAIN_SIZE], i: usize) -> Source
 
 // The target of source `i` alone.
 pub fn put_target(part: &mut [u32; DOMAIN_SIZE], i: usize, target: u32)
-    requires { (i < slot_count) }
+    requires { i < slot_count }
     ensures { domain_of part.new ≡ with_targets (domain_of part.old)
         (set (domain_of part.old).target i target) }
 {
@@ -34,7 +34,7 @@ pub fn put_target(part: &mut [u32; DOMAIN_SIZE], i: usize, target: u32)
 
 // Its pending bit alone.
 pub fn put_pending(part: &mut [u32; DOMAIN_SIZE], i: usize, pending: bool)
-    requires { (i < slot_count) }
+    requires { i < slot_count }
     ensures { domain_of part.new ≡ with_pendings (domain_of part.old)
         (put (domain_of part.old).pending i pending) }
 {
@@ -44,7 +44,7 @@ pub fn put_pending(part: &mut [u32; DOMAIN_SIZE], i: usize, pending: bool)
 
 // Its enable bit alone.
 pub fn put_enabled(part: &mut [u32; DOMAIN_SIZE], i: usize, enabled: bool)
-    requires { (i < slot_count) }
+    requires { i < slot_count }
     ensures { domain_of part.new ≡ with_enables (domain_of part.old)
         (put (domain_of part.old).enable i enabled) }
 {
@@ -54,7 +54,7 @@ pub fn put_enabled(part: &mut [u32; DOMAIN_SIZE], i: usize, enabled: bool)
 
 // Both words are read before the first is stored: part by part is seven instructions dearer.
 pub fn store(part: &mut [u32; DOMAIN_SIZE], i: usize, s: Source)
-    requires { (i < slot_count) }
+    requires { i < slot_count }
     ensures { domain_of part.new ≡ with_source (domain_of part.old) i s }
 {
     let k = (i % 32) as u32;

@@ -8,7 +8,7 @@ use domain_delivery::Delivery;
 use sizes::{DOMAIN_SIZE, STRUCTURE_SIZE, STRUCTURES_PLACE};
 
 pub fn load_structure(part: &[u32; DOMAIN_SIZE], h: usize) -> Delivery
-    requires { (h < hart_count) }
+    requires { h < hart_count }
     ensures { result ≡ structure_at (domain_of part.now) h }
 {
     let at = STRUCTURE_SIZE * h;
@@ -20,7 +20,7 @@ pub fn load_structure(part: &[u32; DOMAIN_SIZE], h: usize) -> Delivery
 }
 
 pub fn store_structure(part: &mut [u32; DOMAIN_SIZE], h: usize, x: Delivery)
-    requires { (h < hart_count) }
+    requires { h < hart_count }
     ensures { domain_of part.new ≡ with_structure (domain_of part.old) h x }
 {
     let at = STRUCTURE_SIZE * h;

@@ -1,14 +1,14 @@
 // What a write to domaincfg does to its domain, before anything is sent.
 #![tactic(auto)]
 
-ghost use Rattle.std.specs.Prelude.{◌≡◌, ◌-◌, ◌<◌, length};
-ghost use Rattle.sizes.specs.Sizes.{source_count, slot_count, domain_size};
+ghost use Rattle.std.specs.Prelude.{◌≡◌, ◌-◌, ◌<◌};
+ghost use Rattle.sizes.specs.Sizes.{source_count, slot_count};
 ghost use Rattle.domain.specs.Domain.{domain_of, by_messages};
 ghost use Rattle.domain_domaincfg.specs.Domaincfg.{kept_domaincfg, redelivered_at, redelivered_from};
 ghost use Rattle.domain_domaincfg.specs.Domaincfg.{domaincfg_written};
 
 use domain::{DM_BIT, IE_BIT};
-use sizes::{SLOT_COUNT, SOURCE_SET_SIZE};
+use sizes::{DOMAIN_SIZE, SLOT_COUNT, SOURCE_SET_SIZE};
 use source_mode::{active, level};
 use source_target::start_target;
 use source_wire::wire_at;
@@ -23,9 +23,13 @@ pub fn kept_domaincfg(value: u32) -> u32
 }
 
 // An inactive source stays; of an active one the target is stored, and of a level source the pending bit.
-fn redeliver_source(part: &mut [u32], wires: [u32; SOURCE_SET_SIZE], messages: bool, i: usize)
-    requires { (length part.old ≡ domain_size) × (i < slot_count)
-        × (messages ≡ by_messages (domain_of part.old)) }
+fn redeliver_source(
+    part: &mut [u32; DOMAIN_SIZE],
+    wires: [u32; SOURCE_SET_SIZE],
+    messages: bool,
+    i: usize,
+)
+    requires { (i < slot_count) × (messages ≡ by_messages (domain_of part.old)) }
     ensures { domain_of part.new ≡ redelivered_at (domain_of part.old) wires i }
 {
     let s = domain::load(part, i);
@@ -41,8 +45,7 @@ fn redeliver_source(part: &mut [u32], wires: [u32; SOURCE_SET_SIZE], messages: b
     domain::put_target(part, i, start_target(messages));
 }
 
-fn redeliver(part: &mut [u32], wires: [u32; SOURCE_SET_SIZE])
-    requires { length part.old ≡ domain_size }
+fn redeliver(part: &mut [u32; DOMAIN_SIZE], wires: [u32; SOURCE_SET_SIZE])
     ensures { domain_of part.new
         ≡ redelivered_from (domain_of part.old) wires 1 source_count }
 {
@@ -54,8 +57,7 @@ fn redeliver(part: &mut [u32], wires: [u32; SOURCE_SET_SIZE])
     }
 }
 
-pub fn write_domaincfg(part: &mut [u32], wires: [u32; SOURCE_SET_SIZE], value: u32)
-    requires { length part.old ≡ domain_size }
+pub fn write_domaincfg(part: &mut [u32; DOMAIN_SIZE], wires: [u32; SOURCE_SET_SIZE], value: u32)
     ensures { domain_of part.new
         ≡ domaincfg_written (domain_of part.old) wires value }
 {

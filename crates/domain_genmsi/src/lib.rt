@@ -2,14 +2,13 @@
 #![tactic(auto)]
 
 ghost use Rattle.std.specs.Prelude.{◌≡◌, length};
-ghost use Rattle.sizes.specs.Sizes.{domain_size, log_size};
 ghost use Rattle.domain.specs.Domain.{domain_of};
 ghost use Rattle.domain_sending.specs.Sending.{logged};
 ghost use Rattle.domain_genmsi.specs.Genmsi.{kept_genmsi, genmsi_message, genmsi_written};
-ghost use Rattle.domain_genmsi.specs.Genmsi.{genmsi_read};
-ghost use Rattle.domain_genmsi.specs.Genmsi.{genmsi_sent};
+ghost use Rattle.domain_genmsi.specs.Genmsi.{genmsi_read, genmsi_sent};
 
 use file_message::log_word;
+use sizes::{DOMAIN_SIZE, LOG_SIZE};
 use source_target::{hart_of, number_of, under_hart};
 
 // What a write keeps, and the log word of the message that it sends at once.
@@ -29,8 +28,7 @@ pub fn genmsi_message(child: bool, value: u32) -> u32
 }
 
 // Ignored in direct mode. What it sends is not sent here.
-pub fn write_genmsi(part: &mut [u32], value: u32)
-    requires { length part.old ≡ domain_size }
+pub fn write_genmsi(part: &mut [u32; DOMAIN_SIZE], value: u32)
     ensures { domain_of part.new ≡ genmsi_written (domain_of part.old) value }
 {
     if domain::by_messages(part) {
@@ -39,8 +37,7 @@ pub fn write_genmsi(part: &mut [u32], value: u32)
 }
 
 // 0 in direct mode.
-pub fn read_genmsi(part: &[u32]) -> u32
-    requires { length part.now ≡ domain_size }
+pub fn read_genmsi(part: &[u32; DOMAIN_SIZE]) -> u32
     ensures { result ≡ genmsi_read (domain_of part.now) }
 {
     if domain::by_messages(part) {
@@ -50,8 +47,12 @@ pub fn read_genmsi(part: &[u32]) -> u32
 }
 
 // Sent whatever IE is, and in message mode only. It comes first in `log`; answers the number of messages.
-pub fn send_genmsi(part: &[u32], child: bool, value: u32, log: &mut [u32]) -> usize
-    requires { (length part.now ≡ domain_size) × (length log.old ≡ log_size) }
+pub fn send_genmsi(
+    part: &[u32; DOMAIN_SIZE],
+    child: bool,
+    value: u32,
+    log: &mut [u32; LOG_SIZE],
+) -> usize
     ensures { (log.new
         ≡ logged log.old (genmsi_sent child (domain_of part.now) value))
         × (result ≡ length (genmsi_sent child (domain_of part.now) value)) }

@@ -1,13 +1,13 @@
 // What in_clrip reads: the rectified values of a domain's sources, a word of them at a time.
 #![tactic(auto)]
 
-ghost use Rattle.std.specs.Prelude.{◌≡◌, ◌+◌, ◌≤◌, ◌<◌, length};
-ghost use Rattle.sizes.specs.Sizes.{source_set_size, domain_size};
+ghost use Rattle.std.specs.Prelude.{◌≡◌, ◌+◌, ◌≤◌, ◌<◌};
+ghost use Rattle.sizes.specs.Sizes.{source_set_size};
 ghost use Rattle.domain.specs.Domain.{domain_of};
 ghost use Rattle.domain_inputs.specs.Inputs.{input_word};
 ghost use Rattle.domain_inputs.specs.Gathering.{RectifiedTo};
 
-use sizes::SOURCE_SET_SIZE;
+use sizes::{DOMAIN_SIZE, SOURCE_SET_SIZE};
 use words::put_bit;
 
 // The rectified values of a word's sources, were every wire high, and were every wire low.
@@ -17,9 +17,8 @@ pub struct Rectified {
     pub low: u32,
 }
 
-fn with_source(mut x: Rectified, part: &[u32], k: usize, b: u32) -> Rectified
-    requires { (length part.now ≡ domain_size) × (k < source_set_size) × (b < 32)
-        × RectifiedTo (domain_of part.now) k b x }
+fn with_source(mut x: Rectified, part: &[u32; DOMAIN_SIZE], k: usize, b: u32) -> Rectified
+    requires { (k < source_set_size) × (b < 32) × RectifiedTo (domain_of part.now) k b x }
     ensures { RectifiedTo (domain_of part.now) k (b + 1) result }
 {
     let s = domain::load(part, 32 * k + (b as usize));
@@ -29,9 +28,8 @@ fn with_source(mut x: Rectified, part: &[u32], k: usize, b: u32) -> Rectified
 }
 
 // Eight sources more: a loop this short is unrolled whole, one of 32 is not.
-fn with_eight(mut x: Rectified, part: &[u32], k: usize, b: u32) -> Rectified
-    requires { (length part.now ≡ domain_size) × (k < source_set_size) × (b + 8 ≤ 32)
-        × RectifiedTo (domain_of part.now) k b x }
+fn with_eight(mut x: Rectified, part: &[u32; DOMAIN_SIZE], k: usize, b: u32) -> Rectified
+    requires { (k < source_set_size) × (b + 8 ≤ 32) × RectifiedTo (domain_of part.now) k b x }
     ensures { RectifiedTo (domain_of part.now) k (b + 8) result }
 {
     let mut j: u32 = 0;
@@ -42,8 +40,8 @@ fn with_eight(mut x: Rectified, part: &[u32], k: usize, b: u32) -> Rectified
     x
 }
 
-fn gather(part: &[u32], k: usize) -> Rectified
-    requires { (length part.now ≡ domain_size) × (k < source_set_size) }
+fn gather(part: &[u32; DOMAIN_SIZE], k: usize) -> Rectified
+    requires { k < source_set_size }
     ensures { RectifiedTo (domain_of part.now) k 32 result }
 {
     let mut x = Rectified { high: 0, low: 0 };
@@ -55,8 +53,8 @@ fn gather(part: &[u32], k: usize) -> Rectified
     x
 }
 
-pub fn input_word(part: &[u32], wires: [u32; SOURCE_SET_SIZE], k: usize) -> u32
-    requires { (length part.now ≡ domain_size) × (k < source_set_size) }
+pub fn input_word(part: &[u32; DOMAIN_SIZE], wires: [u32; SOURCE_SET_SIZE], k: usize) -> u32
+    requires { k < source_set_size }
     ensures { result ≡ input_word (domain_of part.now) wires k }
 {
     let x = gather(part, k);

@@ -1,24 +1,29 @@
 // The pass over a domain's sources: each that is active, pending and enabled is sent, lowest first.
 ghost use Rattle.std.specs.Prelude.{◌≡◌, ◌+◌, ◌<◌, length};
 ghost use Rattle.std.proofs.lemmas.List.Edits.{sets};
-ghost use Rattle.sizes.specs.Sizes.{source_count, slot_count, domain_size, log_size};
+ghost use Rattle.sizes.specs.Sizes.{source_count, slot_count, log_size};
 ghost use Rattle.domain.specs.Domain.{domain_of, sends};
 ghost use Rattle.domain_sending.specs.Sending.{served_at, messages_at, sent_from, sent, logged};
 
 use domain::{by_messages, enabled, load, put_pending, standing};
+use sizes::{DOMAIN_SIZE, LOG_SIZE};
 use source_target::message;
 
-fn sends(part: &[u32]) -> bool
-    requires { length part.now ≡ domain_size }
+fn sends(part: &[u32; DOMAIN_SIZE]) -> bool
     ensures { result ≡ sends (domain_of part.now) }
 {
     enabled(part) & by_messages(part)
 }
 
 // The turn of source `i`, with `n` messages in the log. Answers how many there are then.
-fn serve(part: &mut [u32], child: bool, log: &mut [u32], i: usize, n: usize) -> usize
-    requires { (length part.old ≡ domain_size) × (length log.old ≡ log_size) × (i < slot_count)
-        × (n < log_size) }
+fn serve(
+    part: &mut [u32; DOMAIN_SIZE],
+    child: bool,
+    log: &mut [u32; LOG_SIZE],
+    i: usize,
+    n: usize,
+) -> usize
+    requires { (i < slot_count) × (n < log_size) }
     ensures { (domain_of part.new ≡ served_at (domain_of part.old) i)
         × (log.new ≡ sets log.old n (messages_at child (domain_of part.old) i))
         × (result ≡ n + length (messages_at child (domain_of part.old) i)) }
@@ -33,8 +38,7 @@ fn serve(part: &mut [u32], child: bool, log: &mut [u32], i: usize, n: usize) -> 
 }
 
 // From one pending and enabled source to the next: `rest` has those from `i` on. There is no source 0.
-fn pass(part: &mut [u32], child: bool, log: &mut [u32]) -> usize
-    requires { (length part.old ≡ domain_size) × (length log.old ≡ log_size) }
+fn pass(part: &mut [u32; DOMAIN_SIZE], child: bool, log: &mut [u32; LOG_SIZE]) -> usize
     ensures { (domain_of part.new ≡ (sent_from child (domain_of part.old) 1 source_count).domain)
         × (log.new
         ≡ logged log.old (sent_from child (domain_of part.old) 1 source_count).messages)
@@ -55,8 +59,7 @@ fn pass(part: &mut [u32], child: bool, log: &mut [u32]) -> usize
 }
 
 // Sends what is to be sent. The messages come first in `log`; answers their number.
-pub fn send(part: &mut [u32], child: bool, log: &mut [u32]) -> usize
-    requires { (length part.old ≡ domain_size) × (length log.old ≡ log_size) }
+pub fn send(part: &mut [u32; DOMAIN_SIZE], child: bool, log: &mut [u32; LOG_SIZE]) -> usize
     ensures { (domain_of part.new ≡ (sent child (domain_of part.old)).domain)
         × (log.new ≡ logged log.old (sent child (domain_of part.old)).messages)
         × (result ≡ length (sent child (domain_of part.old)).messages) }

@@ -2,13 +2,13 @@
 // active. No test leaves early.
 #![tactic(auto)]
 
-ghost use Rattle.std.specs.Prelude.{◌≡◌, true, false, ◌<◌, ◌+◌, length};
-ghost use Rattle.sizes.specs.Sizes.{slot_count, domain_size};
+ghost use Rattle.std.specs.Prelude.{◌≡◌, true, false, ◌<◌, ◌+◌};
+ghost use Rattle.sizes.specs.Sizes.{slot_count};
 ghost use Rattle.domain.specs.Domain.{domain_of, by_messages};
 ghost use Rattle.source_rules.specs.SourceParts.{occupied};
 ghost use Rattle.domain_slots.specs.Slots.{SoFar, Slotted};
 
-use sizes::SLOT_COUNT;
+use sizes::{DOMAIN_SIZE, SLOT_COUNT};
 use source_mode::{DELEGATED_WORD, LEVEL0, LEVEL1};
 use source_rules::{mode_fault, target_fault};
 use words_masks::with_bit64;
@@ -59,9 +59,15 @@ fn slot(mut g: Gathered, child: bool, messages: bool, mode: u32, target: u32, i:
     occupy(g, child, messages, mode, target, i)
 }
 
-fn slot_at(g: Gathered, part: &[u32], child: bool, messages: bool, i: usize) -> Gathered
-    requires { (length part.now ≡ domain_size) × (0 < i) × (i < slot_count)
-        × (messages ≡ by_messages (domain_of part.now)) × SoFar child (domain_of part.now) i g }
+fn slot_at(
+    g: Gathered,
+    part: &[u32; DOMAIN_SIZE],
+    child: bool,
+    messages: bool,
+    i: usize,
+) -> Gathered
+    requires { (0 < i) × (i < slot_count) × (messages ≡ by_messages (domain_of part.now))
+        × SoFar child (domain_of part.now) i g }
     ensures { SoFar child (domain_of part.now) (i + 1) result }
 {
     let s = domain::load(part, i);
@@ -69,8 +75,7 @@ fn slot_at(g: Gathered, part: &[u32], child: bool, messages: bool, i: usize) -> 
 }
 
 // Seven sources a turn: the turn itself then costs little.
-pub fn gather(part: &[u32], child: bool) -> Gathered
-    requires { length part.now ≡ domain_size }
+pub fn gather(part: &[u32; DOMAIN_SIZE], child: bool) -> Gathered
     ensures { SoFar child (domain_of part.now) slot_count result }
 {
     let messages = domain::by_messages(part);

@@ -1,14 +1,12 @@
 -- What the loop of this function keeps, and its measure. Assumes nothing.
 use Prim.Native.Nat.{◌-◌, ◌≤◌}
 use mathlib.Core.Path.{◌≡◌}
-use lib.ListN.{length}
 use Rattle.domain.specs.Domain.{domain_of, by_messages}
 use Rattle.domain_domaincfg.specs.Domaincfg.{redelivered_from}
-use Rattle.sizes.specs.Sizes.{domain_size}
 use Rattle.domain_domaincfg.proofs.redeliver.Given as goal
 
 abbrev pub invariant-loop-i : goal.invariant-loop-i
-invariant-loop-i l = (length l.part ≡ domain_size) × (1 ≤ l.i) × (l.i ≤ 64)
+invariant-loop-i l = (1 ≤ l.i) × (l.i ≤ 64)
     × (l.messages ≡ by_messages (domain_of l.part))
     × (redelivered_from (domain_of l.initial.part) l.wires 1 63 ≡ redelivered_from
     (domain_of l.part) l.wires l.i (64 - l.i))

@@ -37,4 +37,4 @@ returns c =
     ∙ c.if-level.false in
     c.put_target-2.ensures
     ∙ source-other (domain_of args.part.now) args.wires args.i active level _
-    (c.start_target.ensures ∙ ap start_target c.requires.2)
+    (c.start_target.ensures ∙ ap start_target c.requires.1)

@@ -10,7 +10,7 @@ loop-b-init c = (omega arith, refl, rectified-none _ _)
 
 pub with_eight-x-requires : goal.with_eight-x-requires
 with_eight-x-requires c =
-    let inv = c.loop-b.invariant in (search rules, search rules, omega (arith, inv.1), inv.2)
+    let inv = c.loop-b.invariant in (search rules, omega (arith, inv.1), inv.2)
 
 pub loop-b-smaller : goal.loop-b-smaller
 loop-b-smaller c = omega arith

@@ -5,11 +5,11 @@ use borrow.Author.Rules.{rules}
 use Rattle.domain_inputs.proofs.with_eight.Goals as goal
 
 pub loop-j-init : goal.loop-j-init
-loop-j-init c = (omega arith, rectified-at _ _ (omega arith) c.requires.3)
+loop-j-init c = (omega arith, rectified-at _ _ (omega arith) c.requires.2)
 
 pub with_source-x-requires : goal.with_source-x-requires
 with_source-x-requires c =
-    (search rules, search rules, omega arith, c.loop-j.invariant.1)
+    (search rules, omega arith, c.loop-j.invariant.1)
 
 pub loop-j-smaller : goal.loop-j-smaller
 loop-j-smaller c = omega arith

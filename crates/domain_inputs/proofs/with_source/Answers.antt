@@ -4,6 +4,6 @@ use Rattle.domain_inputs.proofs.with_source.Goals as goal
 
 pub returns : goal.returns
 returns c =
-    rectified-more _ c.args.k c.args.b c.requires.3 c.load-s.ensures
+    rectified-more _ c.args.k c.args.b c.requires.2 c.load-s.ensures
     c.rectified.ensures c.put_bit.ensures
     c.rectified-2.ensures c.put_bit-2.ensures

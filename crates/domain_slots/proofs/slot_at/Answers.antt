@@ -4,6 +4,6 @@ use Rattle.domain_slots.proofs.slot_at.Goals as goal
 
 pub returns : goal.returns
 returns c =
-    so_far_more _ _ c.args.i c.args.g c.slot.result c.requires.1 c.requires.4
-    (slotted-read _ _ c.args.i c.args.g c.slot.result c.requires.1 c.requires.3
+    so_far_more _ _ c.args.i c.args.g c.slot.result c.requires.0 c.requires.3
+    (slotted-read _ _ c.args.i c.args.g c.slot.result c.requires.0 c.requires.2
     c.load-s.ensures c.slot.ensures)

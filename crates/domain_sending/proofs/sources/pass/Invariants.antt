@@ -1,17 +1,14 @@
 -- What the loop of this function keeps, and its measure. Assumes nothing.
 use Prim.Native.Nat.{◌-◌}
-use mathlib.Core.Path.{◌≡◌}
-use lib.ListN.{length}
 use Rattle.words.proofs.WalkLaws.{Walk}
 use Rattle.domain.specs.Domain.{domain_of}
 use Rattle.domain.specs.Slot.{standing}
 use Rattle.domain_sending.proofs.PassLaws.{SoFar}
-use Rattle.sizes.specs.Sizes.{domain_size}
 use Rattle.domain_sending.proofs.sources.pass.Given as goal
 
 abbrev pub invariant-loop-rest : goal.invariant-loop-rest
 invariant-loop-rest l =
-    (length l.part ≡ domain_size) × SoFar l.child (domain_of l.initial.part) l.initial.log
+    SoFar l.child (domain_of l.initial.part) l.initial.log
     (domain_of l.part) l.log l.i l.n
     × Walk (standing (domain_of l.part)) l.all l.rest l.i
 

@@ -9,21 +9,18 @@ use Rattle.domain_writes.proofs.WritesLaws.{changed-next, changed-end, changed-r
 use Rattle.domain_writes.proofs.change.change_bits.Goals as goal
 
 pub loop-i-init : goal.loop-i-init
-loop-i-init c = (c.requires.0, c.requires.1, omega arith, refl)
-
-pub shape_of-part-then-value-i-eq0 : goal.shape_of-part-then-value-i-eq0
-shape_of-part-then-value-i-eq0 c = c.loop-i.invariant.0 ∙ sym c.requires.0
+loop-i-init c = (c.requires.0, omega arith, refl)
 
 pub returns-then-value-i-eq0 : goal.returns-then-value-i-eq0
 returns-then-value-i-eq0 c =
     let at-loop = c.loop-i in
     let args = c.args in
-    let word : args.end ≤ at-loop.i / 32 * 32 + 32 = omega (arith, c.requires.3, at-loop.invariant.2) in
-    sym (at-loop.invariant.3
+    let word : args.end ≤ at-loop.i / 32 * 32 + 32 = omega (arith, c.requires.2, at-loop.invariant.1) in
+    sym (at-loop.invariant.2
     ∙ changed-rest _ args.wires args.change args.value at-loop.i args.end word c.if-value-i-eq0.true)
 
 pub change_bit-requires : goal.change_bit-requires
-change_bit-requires c = (c.loop-i.invariant.0, omega arith)
+change_bit-requires c = omega arith
 
 pub overflow_add-i : goal.overflow_add-i
 overflow_add-i c = omega arith
@@ -35,10 +32,9 @@ pub loop-i-preserved : goal.loop-i-preserved
 loop-i-preserved c =
     let at-loop = c.loop-i in
     let args = c.args in (
-      c.change_bit.auto.part ∙ at-loop.invariant.0,
       omega arith,
       omega arith,
-      at-loop.invariant.3
+      at-loop.invariant.2
           ∙ changed-next _ args.wires args.change args.value at-loop.i args.end (omega arith)
           ∙ ap
           (λ (d : Domain). changed_from d args.wires args.change args.value (at-loop.i + 1)
@@ -46,12 +42,9 @@ loop-i-preserved c =
           (sym c.change_bit.ensures),
     )
 
-pub shape_of-part : goal.shape_of-part
-shape_of-part c = c.loop-i.invariant.0 ∙ sym c.requires.0
-
 pub returns : goal.returns
 returns c =
     let args = c.args in
-    sym (c.loop-i.invariant.3
+    sym (c.loop-i.invariant.2
     ∙ changed-end _ args.wires args.change args.value c.loop-i.i args.end
     (omega arith))
