@@ -14,6 +14,7 @@ use domain::{by_messages, load, load_structure, standing};
 use domain_delivery::Delivery;
 use sizes::DOMAIN_SIZE;
 use source_target::{hart_of, number_of};
+use words_masks::Members;
 
 // Source `i`, which is pending and enabled, counts for hart `h`, whose structure is `x`.
 fn eligible(part: &[u32; DOMAIN_SIZE], h: usize, x: Delivery, i: usize) -> bool
@@ -57,22 +58,15 @@ fn better(part: &[u32; DOMAIN_SIZE], h: usize, x: Delivery, i: usize, best: usiz
     best
 }
 
-// From one pending and enabled source to the next: `rest` has those from `i` on.
+// From one pending and enabled source to the next. There is no source 0.
 pub fn top_source(part: &[u32; DOMAIN_SIZE], h: usize) -> usize
     requires { h < hart_count }
     ensures { result ≡ top_source (domain_of part.now) h }
 {
     let x = load_structure(part, h);
-    let all = standing(part);
-    let mut rest = all >> 1;
-    let mut i: usize = 1;
     let mut best: usize = 0;
-    while rest != 0 {
-        let zeros = u64::trailing_zeros(rest);
-        i += zeros as usize;
+    for i in Members::from(standing(part), 1) {
         best = better(part, h, x, i, best);
-        rest = (rest >> zeros) >> 1;
-        i += 1;
     }
     best
 }

@@ -1,3 +1,3 @@
 -- The laws of sets that are one word. Assumes nothing.
 pub mod MasksLaws
-mod MembersLaws
+pub mod MembersLaws

@@ -4,6 +4,9 @@
 --   listed-none       where none holds, none is listed
 --   listed-skip       those before the first that holds are passed over
 --   listed-first      the first that holds comes first
+--   Head p k m i is   of the numbers from k on and below m of which p holds i is the first, and is are the others
+--   listed-head       that is what a list that begins with i says
+--   listed-end        where none is listed, none holds
 --   raised-bit        a word shifted down and up again has the same bits from there on
 --   left-end          no bit left: no number is listed
 --   left-next         the lowest bit left is the next number, and the others are left
@@ -17,9 +20,11 @@ use native.Mathlib.Omega.{arith}
 use native.Mathlib.Nat.{zero-add, add-zero}
 use lib.Count.{count_trailing_zeros}
 use lib.Dec.{eqb}
+use lib.ListN.{get_or, length, drop}
 use lib.Pow.{pow_pos}
 use Rattle.std.proofs.Math.Nat.{div-mul-le_self, mul-div_cancel}
 use Rattle.words.specs.Bits.{bit_of, has_bit}
+use Rattle.words.proofs.TestsLaws.{tested, from_next}
 use Rattle.words.proofs.ZerosLaws.{bit_of-shr}
 use Rattle.words.proofs.WalkLaws.{Walk, walk_none, walk-lt, walk-on, walk-passed, walk-next}
 use Rattle.words_masks.specs.Members.{listed}
@@ -62,6 +67,50 @@ listed-first p k m h t =
     let left : m - k ≡ suc (m - (k + 1)) = omega arith in
     let on : k + 1 ≡ suc k = omega arith in
     rw (left, on, t) refl
+
+-- ---- what a list that is left says
+
+pub record Head (p : ℕ → Bool) (k m i : ℕ) (is : List ℕ) : Type 0 where
+  pub low : k ≤ i
+  pub high : i < m
+  pub holds : p i ≡ true
+  pub passed : (j : ℕ) → k ≤ j → j < i → p j ≡ false
+  pub others : is ≡ listed p (i + 1) (m - (i + 1))
+
+here : (p : ℕ → Bool) (k n i : ℕ) (is : List ℕ) → p k ≡ true → k ∷ listed p (suc k) n ≡ i ∷ is
+    → Head p k (k + suc n) i is
+here p k n i is t e =
+    let same : k ≡ i = ap (λ (l : List ℕ). get_or l 0 0) e in
+    record {
+      low = omega arith;
+      high = omega arith;
+      holds = ap p (sym same) ∙ t;
+      passed = λ j l h. absurd (omega arith);
+      others = sym (ap (drop 1) e) ∙ ap₂ (listed p) (omega arith) (omega arith);
+    }
+
+pub listed-head : (p : ℕ → Bool) (k n i : ℕ) (is : List ℕ) → listed p k n ≡ i ∷ is → Head p k (k + n) i is
+unfolding listed
+listed-head p k zero i is e = absurd (omega (arith, ap length e))
+listed-head p k (suc n) i is e =
+    tested (p k) (λ t. here p k n i is t (simp t at e))
+    (λ f.
+    let later = listed-head p (suc k) n i is (simp f at e) in
+    record {
+      low = omega (arith, later.low);
+      high = omega (arith, later.high);
+      holds = later.holds;
+      passed = λ j l h. from_next (λ j. j < i → p j ≡ false) k (λ q. f) (λ j m q. later.passed j m q) j l h;
+      others = later.others ∙ ap (listed p (i + 1)) (omega arith);
+    })
+
+pub listed-end : (p : ℕ → Bool) (k n : ℕ) → listed p k n ≡ [] → (j : ℕ) → k ≤ j → j < k + n → p j ≡ false
+unfolding listed
+listed-end p k zero e j l h = absurd (omega arith)
+listed-end p k (suc n) e j l h =
+    tested (p k) (λ t. absurd (omega (arith, ap length (simp t at e))))
+    (λ f. from_next (λ j. j < k + suc n → p j ≡ false) k (λ q. f)
+    (λ j m q. listed-end p (suc k) n (simp f at e) j m (omega arith)) j l h)
 
 -- ---- a word from a bit on
 
