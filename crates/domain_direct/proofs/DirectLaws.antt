@@ -1,7 +1,7 @@
 -- Laws of specs/Direct.antt but for the search: topi, a claim, the signal and the settable numbers, case by
 -- case. No contract cites this file. Assumes nothing.
 use Prim.Native.Nat.{ℕ}
-use mathlib.Core.Path.{◌≡◌, ◌∙◌}
+use mathlib.Core.Path.{◌≡◌}
 use mathlib.Core.Bool.{Bool, true, false}
 use mathlib.Core.Logic.{◌≢◌, inr}
 use native.Mathlib.Omega.{arith}
@@ -11,13 +11,15 @@ use Rattle.domain_delivery.specs.declared.Delivery.{Delivery}
 use Rattle.domain_delivery.specs.Delivery.{structure_signals}
 use Rattle.domain_delivery.proofs.DeliveryLaws.{signals-iff}
 use Rattle.domain.specs.Domain.{Domain, is_enabled, by_messages}
+use Rattle.domain_topi.proofs.TopLaws.{top_source-lt}
+use Rattle.domain_topi.proofs.WordLaws.{topi-messages, topi-direct}
 use Rattle.domain.specs.Structure.{structure_at, with_structure}
 use Rattle.domain_direct.specs.declared.Setting.{Setting}
 use Rattle.domain_direct.specs.Direct.{top_source, topi_of, unforced, released, hart_claimed, signal_of}
 use Rattle.domain_direct.specs.Direct.{number_at, written_at, setting_of, setting_written}
 
 -- a structure that top 1 does not make signal is silent at every top
-signals-silent : (x : Delivery) (e : Bool) (t : ℕ) → structure_signals x e 1 ≡ false → structure_signals x e t
+pub signals-silent : (x : Delivery) (e : Bool) (t : ℕ) → structure_signals x e 1 ≡ false → structure_signals x e t
     ≡ false
 signals-silent x e t off =
     tested (structure_signals x e t)
@@ -49,10 +51,6 @@ module _ (d : Domain) (h : ℕ) where
   unfolding signal_of
   signal-direct m = simp m
 
-  pub signal-silent : by_messages d ≡ false → structure_signals (structure_at d h) (is_enabled d) 1 ≡ false
-      → signal_of d h ≡ false
-  signal-silent m off = signal-direct m ∙ signals-silent (structure_at d h) (is_enabled d) (topi_of d h) off
-
   module _ (g : Setting) where
     pub setting-messages : by_messages d ≡ true → setting_of d h g ≡ 0
     unfolding setting_of
@@ -70,3 +68,9 @@ module _ (d : Domain) (h : ℕ) where
         → setting_written d h g v ≡ with_structure d h (written_at (structure_at d h) g v)
     unfolding setting_written
     written-direct v m = simp m
+
+-- for the signal, which tries top 1 first
+pub ruleset silent = (signals-silent)
+
+-- for a claim
+pub ruleset claims = (top_source-lt, topi-messages, topi-direct)

@@ -9,23 +9,24 @@ use domain_topi::{top_source, topi, topi_word};
 use sizes::DOMAIN_SIZE;
 
 // A claim with no top clears iforce.
+#[tactic(auto, unfolding(crate::specs::Direct::unforced))]
 fn unforce(part: &mut [u32; DOMAIN_SIZE], h: usize)
     requires { h < hart_count }
     ensures { domain_of part.new ≡ unforced (domain_of part.old) h }
 {
-    let x = load_structure(part, h);
-    store_structure(part, h, x.without_force());
+    store_structure(part, h, load_structure(part, h).without_force());
 }
 
 // A claim of source `i` clears its pending bit, unless a level source keeps it.
+#[tactic(auto, unfolding(crate::specs::Direct::released))]
 fn release(part: &mut [u32; DOMAIN_SIZE], i: usize)
     requires { i < slot_count }
     ensures { domain_of part.new ≡ released (domain_of part.old) i }
 {
-    let s = load(part, i);
-    store(part, i, s.cleared(false));
+    store(part, i, load(part, i).cleared(false));
 }
 
+#[tactic(auto, using(crate::proofs::DirectLaws::claims), unfolding(crate::specs::Direct::hart_claimed))]
 pub fn claim(part: &mut [u32; DOMAIN_SIZE], h: usize) -> u32
     requires { h < hart_count }
     ensures { (result ≡ topi_of (domain_of part.old) h)
@@ -45,6 +46,7 @@ pub fn claim(part: &mut [u32; DOMAIN_SIZE], h: usize) -> u32
 }
 
 // The search for the top is made only where a top would raise the signal.
+#[tactic(auto, using(crate::proofs::DirectLaws::silent), unfolding(crate::specs::Direct::signal_of))]
 pub fn signal(part: &[u32; DOMAIN_SIZE], h: usize) -> bool
     requires { h < hart_count }
     ensures { result ≡ signal_of (domain_of part.now) h }

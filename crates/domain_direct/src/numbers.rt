@@ -9,6 +9,7 @@ use domain::{by_messages, load_structure, store_structure};
 use domain_delivery::Delivery;
 use sizes::DOMAIN_SIZE;
 
+#[tactic(auto, unfolding(crate::specs::Direct::number_at))]
 fn number_at(x: Delivery, which: Setting) -> u32
     ensures { result ≡ number_at x which }
 {
@@ -19,6 +20,7 @@ fn number_at(x: Delivery, which: Setting) -> u32
     }
 }
 
+#[tactic(auto, unfolding(crate::specs::Direct::written_at))]
 fn written_at(x: Delivery, which: Setting, value: u32) -> Delivery
     ensures { result ≡ written_at x which value }
 {
@@ -29,6 +31,7 @@ fn written_at(x: Delivery, which: Setting, value: u32) -> Delivery
     }
 }
 
+#[tactic(auto, unfolding(crate::specs::Direct::setting_of))]
 pub fn setting_of(part: &[u32; DOMAIN_SIZE], h: usize, which: Setting) -> u32
     requires { h < hart_count }
     ensures { result ≡ setting_of (domain_of part.now) h which }
@@ -39,6 +42,7 @@ pub fn setting_of(part: &[u32; DOMAIN_SIZE], h: usize, which: Setting) -> u32
     number_at(load_structure(part, h), which)
 }
 
+#[tactic(auto, unfolding(crate::specs::Direct::setting_written))]
 pub fn put_setting(part: &mut [u32; DOMAIN_SIZE], h: usize, which: Setting, value: u32)
     requires { h < hart_count }
     ensures { domain_of part.new
@@ -47,6 +51,5 @@ pub fn put_setting(part: &mut [u32; DOMAIN_SIZE], h: usize, which: Setting, valu
     if by_messages(part) {
         return;
     }
-    let x = load_structure(part, h);
-    store_structure(part, h, written_at(x, which, value));
+    store_structure(part, h, written_at(load_structure(part, h), which, value));
 }

@@ -13,12 +13,10 @@ use native.Mathlib.Omega.{arith}
 use lib.Dec.{ltb}
 use borrow.Author.Tests.{eq-eqb, ne_eqb}
 use Rattle.words.proofs.TestsLaws.{tested}
-use Rattle.source_target.specs.Target.{hart_of, number_of}
+use Rattle.source_target.specs.Target.{number_of}
 use Rattle.source.specs.declared.Source.{Source}
-use Rattle.domain_delivery.specs.Delivery.{lets}
 use Rattle.domain.specs.Domain.{Domain}
 use Rattle.domain.specs.Slot.{source_at}
-use Rattle.domain.specs.Structure.{structure_at}
 use Rattle.domain_topi.specs.Top.{standing, eligible, precedes, top_from, top_source}
 
 -- ---- what counts for a hart, and what goes before what; s is source i as it was read
@@ -26,16 +24,6 @@ use Rattle.domain_topi.specs.Top.{standing, eligible, precedes, top_from, top_so
 pub eligible-unstanding : (d : Domain) (h i : ℕ) → standing d i ≡ false → eligible d h i ≡ false
 unfolding eligible
 eligible-unstanding d h i f = simp f
-
-module _ (d : Domain) (h i : ℕ) (s : Source) (read : s ≡ source_at d i) where
-  pub eligible-elsewhere : hart_of s.target ≢ h → eligible d h i ≡ false
-  unfolding eligible
-  eligible-elsewhere n = simp (sym read, ne_eqb (hart_of s.target) h n, and-false)
-
-  pub eligible-here : standing d i ≡ true → hart_of s.target ≡ h
-      → eligible d h i ≡ lets (structure_at d h) (number_of s.target)
-  unfolding eligible
-  eligible-here t e = simp (sym read, t, eq-eqb (hart_of s.target) h e)
 
 module _ (d : Domain) (i b : ℕ) where
   pub precedes-none : b ≡ 0 → precedes d i b ≡ true
@@ -119,3 +107,6 @@ module _ (d : Domain) (h : ℕ) where
   pub top_source-lt : top_source d h < 64
   unfolding top_source
   top_source-lt = top_from-lt 64 1 63 0 (omega arith) (omega arith)
+
+-- for the functions that go on with the top
+pub ruleset top_below = (top_source-lt)

@@ -17,45 +17,37 @@ use source_target::{hart_of, number_of};
 use words_masks::Members;
 
 // Source `i`, which is pending and enabled, counts for hart `h`, whose structure is `x`.
+#[tactic(auto, unfolding(crate::specs::Top::eligible))]
 fn eligible(part: &[u32; DOMAIN_SIZE], h: usize, x: Delivery, i: usize) -> bool
-    requires { (i < slot_count)
-        × (x ≡ structure_at (domain_of part.now) h)
+    requires { (i < slot_count) × (x ≡ structure_at (domain_of part.now) h)
         × (standing (domain_of part.now) i ≡ true) }
     ensures { result ≡ eligible (domain_of part.now) h i }
 {
     let s = load(part, i);
-    if hart_of(s.target) as usize != h {
-        return false;
-    }
-    x.lets(number_of(s.target))
+    hart_of(s.target) as usize == h && x.lets(number_of(s.target))
 }
 
 // Source `i` goes before `best`, where 0 is none.
+#[tactic(auto, unfolding(crate::specs::Top::precedes))]
 fn precedes(part: &[u32; DOMAIN_SIZE], i: usize, best: usize) -> bool
     requires { (i < slot_count) × (best < slot_count) }
     ensures { result ≡ precedes (domain_of part.now) i best }
 {
-    if best == 0 {
-        return true;
-    }
-    let s = load(part, i);
-    let b = load(part, best);
-    number_of(s.target) < number_of(b.target)
+    best == 0 || number_of(load(part, i).target) < number_of(load(part, best).target)
 }
 
 // The better of `best` and source `i`, which is pending and enabled.
 fn better(part: &[u32; DOMAIN_SIZE], h: usize, x: Delivery, i: usize, best: usize) -> usize
-    requires { (i < slot_count) × (best < slot_count)
-        × (x ≡ structure_at (domain_of part.now) h) × (standing (domain_of part.now) i ≡ true) }
+    requires { (i < slot_count) × (best < slot_count) × (x ≡ structure_at (domain_of part.now) h)
+        × (standing (domain_of part.now) i ≡ true) }
     ensures { result ≡ cond (eligible (domain_of part.now) h i
         && precedes (domain_of part.now) i best) i best }
 {
-    if eligible(part, h, x, i) {
-        if precedes(part, i, best) {
-            return i;
-        }
+    if eligible(part, h, x, i) && precedes(part, i, best) {
+        i
+    } else {
+        best
     }
-    best
 }
 
 // From one pending and enabled source to the next. There is no source 0.
@@ -77,13 +69,14 @@ pub fn topi_word(part: &[u32; DOMAIN_SIZE], i: usize) -> u32
     ensures { result ≡ cond (eqb i 0) 0
         (i * 65536 + number_of (source_at (domain_of part.now) i).target) }
 {
-    if i != 0 {
-        let s = load(part, i);
-        return (i as u32) * 65536 + number_of(s.target);
+    if i == 0 {
+        0
+    } else {
+        (i as u32) * 65536 + number_of(load(part, i).target)
     }
-    0
 }
 
+#[tactic(auto, using(crate::proofs::TopLaws::top_below), unfolding(crate::specs::Top::topi_of))]
 pub fn topi(part: &[u32; DOMAIN_SIZE], h: usize) -> u32
     requires { h < hart_count }
     ensures { result ≡ topi_of (domain_of part.now) h }
@@ -91,6 +84,5 @@ pub fn topi(part: &[u32; DOMAIN_SIZE], h: usize) -> u32
     if by_messages(part) {
         return 0;
     }
-    let i = top_source(part, h);
-    topi_word(part, i)
+    topi_word(part, top_source(part, h))
 }
