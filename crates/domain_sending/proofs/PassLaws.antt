@@ -1,24 +1,26 @@
 -- The pass as the code makes it: what holds before each source's turn. No contract cites this file. Assumes
 -- nothing.
 --   turn-miss, turn-hit                  one turn, of a source that is not to be sent and of one that is
---   walk-served                          after it the rest still has those that are pending and enabled
 --   SoFar c d₀ l₀ d l i n                the pass over d₀, with the log l₀, has come to source i: the domain
 --                                        is d, and the n messages sent stand first in the log l
---   pass-start                           it holds at the start
---   pass-next                            and after the turn of a source, if none before it was to be sent
---   pass-end                             what it says if none is left to be sent
-use Prim.Native.Nat.{ℕ, ◌+◌, ◌-◌, ◌/◌, ◌^◌, ◌≤◌, ◌<◌}
+--   Going c d₀ l₀ d l is n               the same, and is are the sources still to come that stand
+--   going-start                          it holds at the start
+--   going-head                           the next source, and the room for its message
+--   going-next                           it holds after the turn of a source
+--   going-end                            what it says if none is left
+use Prim.Native.Nat.{ℕ, ◌+◌, ◌-◌, ◌≤◌, ◌<◌}
 use mathlib.Core.Path.{◌≡◌, refl, sym, ap, ◌∙◌}
 use mathlib.Core.Bool.{Bool, true, false}
-use mathlib.Core.List.{List, ◌++◌, append_assoc, append-nil}
+use mathlib.Core.List.{List, [], ◌∷◌, ◌++◌, append_assoc, append-nil}
 use mathlib.Core.Logic.{◌≢◌}
 use native.Mathlib.Omega.{arith}
-use lib.Count.{count_trailing_zeros}
 use lib.ListN.{length, take, drop, set, length-append, length-take}
 use lib.Seq.{sets, sets-eq, length-sets, take_at, drop_at, drop-drop}
 use Rattle.words.specs.Sets.{put}
 use Rattle.words.proofs.TestsLaws.{tested}
-use Rattle.words.proofs.WalkLaws.{Walk, walk-next}
+use Rattle.words.specs.Bits.{has_bit}
+use Rattle.words_masks.specs.Members.{listed}
+use Rattle.words_masks.proofs.MembersLaws.{Head, listed-ext, listed-head, listed-end}
 use Rattle.source_target.specs.Target.{message_of}
 use Rattle.source.specs.declared.Source.{Source}
 use Rattle.domain.specs.Domain.{Domain, with_pendings}
@@ -77,14 +79,6 @@ standing-served d i j n =
     (λ t. sym (ap (λ (e : Domain). standing e j) (served-hit d i t) ∙ standing-with_source-other d i _ j n))
     (λ f. sym (ap (λ (e : Domain). standing e j) (served-miss d i f)))
 
-pub walk-served : (d : Domain) {all rest i : ℕ} → Walk (standing d) all rest i → rest ≢ 0 → (d' : Domain)
-    → d' ≡ served_at d (i + count_trailing_zeros 64 rest)
-    → Walk (standing d') all (rest / 2 ^ count_trailing_zeros 64 rest / 2)
-    (i + count_trailing_zeros 64 rest + 1)
-walk-served d w some d' e =
-    walk-next w some (standing d')
-    (λ j n. standing-served d _ j (λ q. omega arith) ∙ ap (λ (x : Domain). standing x j) (sym e))
-
 -- ---- one turn, as the code counts
 
 module _ (c : Bool) (d : Domain) (i : ℕ) (h : i < 64) where
@@ -121,7 +115,7 @@ pub record SoFar (c : Bool) (d₀ : Domain) (l₀ : List ℕ) (d : Domain) (l : 
   pub messages : (sent_from c d₀ 1 63).messages ≡ take n l ++ (sent_from c d i (64 - i)).messages
   pub behind : drop n l ≡ drop n l₀
 
-pub pass-start : (c : Bool) (d : Domain) (l : List ℕ) → length l ≡ 63 → SoFar c d l d l 1 0
+pass-start : (c : Bool) (d : Domain) (l : List ℕ) → length l ≡ 63 → SoFar c d l d l 1 0
 pass-start c d l e =
     record {
       low = omega arith;
@@ -193,14 +187,66 @@ module _ (c : Bool) (d₀ : Domain) (l₀ : List ℕ) (d : Domain) (l : List ℕ
 
 module _ (c : Bool) (d₀ : Domain) (l₀ : List ℕ) (d : Domain) (l : List ℕ) (i n : ℕ)
     (s : SoFar c d₀ l₀ d l i n) where
-  pub pass-next : (k : ℕ) → i ≤ k → k < 64
+  pass-next : (k : ℕ) → i ≤ k → k < 64
       → ((j : ℕ) → i ≤ j → j < k → standing d j ≡ false)
       → (d' : Domain) (l' : List ℕ) (n' : ℕ) → d' ≡ served_at d k → l' ≡ sets l n (messages_at c d k)
       → n' ≡ n + length (messages_at c d k) → SoFar c d₀ l₀ d' l' (k + 1) n'
   pass-next k lo hi none d' l' n' ed el en =
       rw (ed, el, en) (next c d₀ l₀ d l k n (skip c d₀ l₀ d l i n s k lo (omega arith) none) hi)
 
-  pub pass-end : ((j : ℕ) → i ≤ j → j < 64 → standing d j ≡ false)
+  pass-end : ((j : ℕ) → i ≤ j → j < 64 → standing d j ≡ false)
       → (d ≡ (sent_from c d₀ 1 63).domain) × (l ≡ logged l₀ (sent_from c d₀ 1 63).messages)
       × (n ≡ length (sent_from c d₀ 1 63).messages)
   pass-end none = end c d₀ l₀ d l n (skip c d₀ l₀ d l i n s 64 s.high (omega arith) none)
+
+-- ---- the pass from one source that stands to the next
+
+pub record Going (c : Bool) (d₀ : Domain) (l₀ : List ℕ) (d : Domain) (l is : List ℕ) (n : ℕ) : Type 0 where
+  pub from : ℕ
+  pub passed : SoFar c d₀ l₀ d l from n
+  pub left : is ≡ listed (standing d) from (64 - from)
+
+pub going-start : (c : Bool) (d : Domain) (l is : List ℕ) (set : ℕ) → length l ≡ 63
+    → ((j : ℕ) → j < 64 → has_bit set j ≡ standing d j) → is ≡ listed (has_bit set) 1 63
+    → Going c d l d l is 0
+going-start c d l is set long bits e =
+    record {
+      from = 1;
+      passed = pass-start c d l long;
+      left = e ∙ listed-ext (has_bit set) (standing d) 1 63 (λ j l m. bits j (omega arith));
+    }
+
+module _ {c : Bool} {d₀ : Domain} {l₀ : List ℕ} {d : Domain} {l is : List ℕ} {n : ℕ}
+    (g : Going c d₀ l₀ d l is n) where
+  pub going-end : is ≡ [] → (d ≡ (sent_from c d₀ 1 63).domain)
+      × (l ≡ logged l₀ (sent_from c d₀ 1 63).messages) × (n ≡ length (sent_from c d₀ 1 63).messages)
+  going-end none =
+      pass-end c d₀ l₀ d l g.from n g.passed
+      (λ j a b. listed-end (standing d) g.from (64 - g.from) (sym g.left ∙ none) j a
+      (omega (arith, g.passed.high)))
+
+  module _ {i : ℕ} {rest : List ℕ} (e : is ≡ i ∷ rest) where
+    head : Head (standing d) g.from (g.from + (64 - g.from)) i rest
+    head = listed-head (standing d) g.from (64 - g.from) i rest (sym g.left ∙ e)
+
+    pub going-head : (i < 64) × (n < 63)
+    going-head = (
+      omega (arith, head.high, g.passed.high),
+      omega (arith, head.high, head.low, g.passed.high, g.passed.fewer),
+    )
+
+    pub going-next : (d' : Domain) (l' : List ℕ) (n' : ℕ) → d' ≡ served_at d i
+        → l' ≡ sets l n (messages_at c d i) → n' ≡ n + length (messages_at c d i)
+        → Going c d₀ l₀ d' l' rest n'
+    going-next d' l' n' ed el en =
+        record {
+          from = i + 1;
+          passed =
+              pass-next c d₀ l₀ d l g.from n g.passed i head.low going-head.0 head.passed
+              d' l' n' ed el en;
+          left =
+              head.others ∙ ap (listed (standing d) (i + 1)) (omega (arith, g.passed.high))
+              ∙ listed-ext (standing d) (standing d') (i + 1) (64 - (i + 1))
+              (λ j a b. standing-served d i j (λ q. omega arith)
+              ∙ ap (λ (x : Domain). standing x j) (sym ed));
+        }

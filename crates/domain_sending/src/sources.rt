@@ -8,6 +8,7 @@ ghost use Rattle.domain_sending.specs.Sending.{served_at, messages_at, sent_from
 use domain::{by_messages, enabled, load, put_pending, standing};
 use sizes::{DOMAIN_SIZE, LOG_SIZE};
 use source_target::message;
+use words_masks::Members;
 
 fn sends(part: &[u32; DOMAIN_SIZE]) -> bool
     ensures { result ≡ sends (domain_of part.now) }
@@ -37,23 +38,16 @@ fn serve(
     n + 1
 }
 
-// From one pending and enabled source to the next: `rest` has those from `i` on. There is no source 0.
+// From one pending and enabled source to the next. There is no source 0.
 fn pass(part: &mut [u32; DOMAIN_SIZE], child: bool, log: &mut [u32; LOG_SIZE]) -> usize
     ensures { (domain_of part.new ≡ (sent_from child (domain_of part.old) 1 source_count).domain)
         × (log.new
         ≡ logged log.old (sent_from child (domain_of part.old) 1 source_count).messages)
         × (result ≡ length (sent_from child (domain_of part.old) 1 source_count).messages) }
 {
-    let all = standing(part);
-    let mut rest = all >> 1;
-    let mut i: usize = 1;
     let mut n: usize = 0;
-    while rest != 0 {
-        let zeros = u64::trailing_zeros(rest);
-        i += zeros as usize;
+    for i in Members::from(standing(part), 1) {
         n = serve(part, child, log, i, n);
-        rest = (rest >> zeros) >> 1;
-        i += 1;
     }
     n
 }
