@@ -7,5 +7,5 @@ use Rattle.files.proofs.file_sound.Goals as goal
 pub returns : goal.returns
 returns c =
     c.sound.ensures
-    ∙ sound-read (files_of c.args.files.now) c.args.k c.requires.2
+    ∙ sound-read (files_of c.args.files.now) c.args.k c.requires.1
     c.load-f.ensures

@@ -4,5 +4,4 @@ use Rattle.files.proofs.FilesLaws.{the_file-files_of}
 use Rattle.files.proofs.load.Goals as goal
 
 pub returns : goal.returns
-returns c =
-    c.load.ensures ∙ sym (the_file-files_of c.args.files.now c.args.k c.requires.1)
+returns c = c.load.ensures ∙ sym (the_file-files_of c.args.files.now c.args.k c.requires)

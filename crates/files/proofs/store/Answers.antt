@@ -9,5 +9,5 @@ pub returns : goal.returns
 returns c =
     let args = c.args in
     ap files_of c.store.ensures
-    ∙ files_of-put args.files.now c.requires.0 args.k c.requires.1 args.f
+    ∙ files_of-put args.files.now (search rules) args.k c.requires args.f
     (record { pending_long = search rules; enable_long = search rules })
