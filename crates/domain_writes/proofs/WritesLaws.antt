@@ -1,17 +1,21 @@
 -- Laws of specs/Writes.antt. No contract cites this file. Assumes nothing.
-use Prim.Native.Nat.{ℕ, zero, suc, ◌+◌, ◌-◌, ◌*◌, ◌/◌, ◌%◌, ◌^◌, ◌≤◌, ◌<◌}
+use Prim.Native.Nat.{ℕ, zero, suc, ◌+◌, ◌-◌, ◌%◌, ◌^◌, ◌≤◌, ◌<◌}
 use mathlib.Core.Path.{◌≡◌, refl, sym, ap, ◌∙◌}
-use mathlib.Core.Bool.{true, false}
-use mathlib.Core.List.{List}
+use mathlib.Core.Bool.{Bool, true, false, cond}
+use mathlib.Core.List.{List, [], ◌∷◌}
 use mathlib.Core.Logic.{◌≢◌}
-use native.Mathlib.Nat.{zero-add, zero-mul, lt-div-mul-add}
+use native.Mathlib.Nat.{zero-add, add-zero}
+use native.Mathlib.Decide.{ℕ_discrete}
 use native.Mathlib.Omega.{arith}
-use lib.Pow.{pow_pos}
+use lib.Dec.{eqb}
 use borrow.Author.Tests.{eq-eqb, ne_eqb, le-leb, lt-leb}
 use Rattle.words.specs.Bits.{has_bit}
 use Rattle.words.specs.Sets.{member, put}
-use Rattle.words.proofs.BitsLaws.{has_bit-none}
-use Rattle.words.proofs.ZerosLaws.{bit_of-high}
+use Rattle.words.specs.Parts.{joined}
+use Rattle.words.proofs.BitsLaws.{has_bit-nothing}
+use Rattle.words.proofs.PartsLaws.{has_bit-joined-low, has_bit-joined-high}
+use Rattle.words_masks.specs.Members.{listed}
+use Rattle.words_masks.proofs.MembersLaws.{Head, listed-ext, listed-skip, listed-short, listed-head, listed-end}
 use Rattle.source.specs.declared.Source.{Source}
 use Rattle.source.specs.declared.Change.{Change}
 use Rattle.source.specs.declared.Change.TheVariants.{Pend, Clear, Enable, Disable}
@@ -73,8 +77,8 @@ module _ (d : Domain) (ws : List ℕ) (c : Change) (v : ℕ) where
   unfolding changed_bit
   bit-clear i e = simp e
 
-  -- one turn of the loop up to m, and its end
-  pub changed-next : (i m : ℕ) → i < m
+  -- one turn of the loop up to m
+  changed-next : (i m : ℕ) → i < m
       → changed_from d ws c v i (m - i) ≡ changed_from (changed_bit d ws c v i) ws c v (i + 1) (m - (i + 1))
   unfolding changed_from
   changed-next i m h =
@@ -82,12 +86,6 @@ module _ (d : Domain) (ws : List ℕ) (c : Change) (v : ℕ) where
       let next : suc i ≡ i + 1 = omega arith in
       ap (changed_from d ws c v i) more
       ∙ ap (λ (k : ℕ). changed_from (changed_bit d ws c v i) ws c v k (m - (i + 1))) next
-
-  pub changed-end : (i m : ℕ) → m ≤ i → changed_from d ws c v i (m - i) ≡ d
-  unfolding changed_from
-  changed-end i m h =
-      let none : m - i ≡ 0 = omega arith in
-      ap (changed_from d ws c v i) none
 
   changed-none : (n i : ℕ) → ((j : ℕ) → i ≤ j → j < i + n → has_bit v (j % 32) ≡ false)
       → changed_from d ws c v i n ≡ d
@@ -97,14 +95,17 @@ module _ (d : Domain) (ws : List ℕ) (c : Change) (v : ℕ) where
       ap (λ (x : Domain). changed_from x ws c v (suc i) n) (bit-clear i (f i (omega arith) (omega arith)))
       ∙ changed-none n (suc i) (λ j l h. f j (omega arith) (omega arith))
 
-  -- no bit is left of the word of i from i on
-  pub changed-rest : (i m : ℕ) → m ≤ i / 32 * 32 + 32 → v / 2 ^ (i % 32) ≡ 0
-      → changed_from d ws c v i (m - i) ≡ d
-  changed-rest i m h e =
-      let small : v < 2 ^ (i % 32) = simp (e, zero-mul, zero-add) at
-      (lt-div-mul-add {a = v} {b = 2 ^ (i % 32)} (pow_pos (i % 32))) in
-      changed-none (m - i) i
-      (λ j l q. has_bit-none v (j % 32) (bit_of-high (i % 32) v (j % 32) small (omega arith)))
+  -- k sources that are not named are passed over
+  changed-past : (k n i : ℕ) → ((j : ℕ) → i ≤ j → j < i + k → has_bit v (j % 32) ≡ false)
+      → changed_from d ws c v i (k + n) ≡ changed_from d ws c v (i + k) n
+  unfolding changed_from
+  changed-past zero n i f = rw (zero-add, add-zero) refl
+  changed-past (suc k) n i f =
+      let more : suc k + n ≡ suc (k + n) = omega arith in
+      let on : i + suc k ≡ suc i + k = omega arith in
+      rw (more, on)
+      (ap (λ (x : Domain). changed_from x ws c v (suc i) (k + n)) (bit-clear i (f i (omega arith) (omega arith)))
+      ∙ changed-past k n (suc i) (λ j l h. f j (omega arith) (omega arith)))
 
   pub word_first : (k : ℕ) → k ≡ 0 → word_changed d ws c k v ≡ changed_from d ws c v 1 31
   unfolding word_changed
@@ -125,3 +126,95 @@ module _ (d : Domain) (ws : List ℕ) (c : Change) (v : ℕ) where
   pub number-within : 1 ≤ v → v ≤ 63 → number_changed d ws c v ≡ changed_at d ws c v
   unfolding number_changed
   number-within l h = simp (le-leb 1 v l, le-leb v 63 h)
+
+-- ---- the sources that a word names, one after the other
+
+module _ (v : ℕ) where
+  abbrev named : ℕ → Bool
+  named j = has_bit v (j % 32)
+
+  module _ (low : v < 2 ^ 32) where
+    named_first : listed (has_bit (joined v 0)) 1 63 ≡ listed named 1 31
+    named_first =
+        listed-short (has_bit (joined v 0)) 1 31 32
+        (λ j l h. ap (has_bit (joined v 0)) (omega arith) ∙ has_bit-joined-high v 0 (j - 32) low
+        ∙ has_bit-nothing (j - 32))
+        ∙ listed-ext (has_bit (joined v 0)) named 1 31
+        (λ j l h. has_bit-joined-low v 0 j low (omega arith) ∙ ap (has_bit v) (omega arith))
+
+  named-second : listed (has_bit (joined 0 v)) 1 63 ≡ listed named 32 32
+  named-second =
+      listed-skip (has_bit (joined 0 v)) 1 32 64 (omega arith) (omega arith)
+      (λ j l h. has_bit-joined-low 0 v j (omega arith) h ∙ has_bit-nothing j)
+      ∙ listed-ext (has_bit (joined 0 v)) named 32 32
+      (λ j l h. ap (has_bit (joined 0 v)) (omega arith) ∙ has_bit-joined-high 0 v (j - 32) (omega arith)
+      ∙ ap (has_bit v) (omega arith))
+
+  -- left are the sources still to be changed, d is the domain so far, and goal what it will be
+  pub record Naming (ws : List ℕ) (c : Change) (goal d : Domain) (left : List ℕ) : Type 0 where
+    pub from : ℕ
+    pub end : ℕ
+    pub low : from ≤ end
+    pub high : end ≤ 64
+    pub list : left ≡ listed named from (end - from)
+    pub same : goal ≡ changed_from d ws c v from (end - from)
+
+  pub naming-start : (ws : List ℕ) (c : Change) (d : Domain) (k set : ℕ) (left : List ℕ) → v < 2 ^ 32
+      → set ≡ cond (eqb k 0) (joined v 0) (joined 0 v) → left ≡ listed (has_bit set) 1 63
+      → Naming ws c (word_changed d ws c k v) d left
+  naming-start ws c d k set left low e list =
+      let as-set = list ∙ ap (λ (w : ℕ). listed (has_bit w) 1 63) e in
+      at (ℕ_discrete k 0) as-set
+    where
+      at : Dec (k ≡ 0) → left ≡ listed (has_bit (cond (eqb k 0) (joined v 0) (joined 0 v))) 1 63
+          → Naming ws c (word_changed d ws c k v) d left
+      at (yes z) l =
+          record {
+            from = 1;
+            end = 32;
+            low = omega arith;
+            high = omega arith;
+            list = simp (eq-eqb k 0 z) at l ∙ named_first low;
+            same = word_first d ws c v k z;
+          }
+      at (no n) l =
+          record {
+            from = 32;
+            end = 64;
+            low = omega arith;
+            high = omega arith;
+            list = simp (ne_eqb k 0 n) at l ∙ named-second;
+            same = word-second d ws c v k n;
+          }
+
+  module _ {ws : List ℕ} {c : Change} {goal d : Domain} {left : List ℕ} (n : Naming ws c goal d left) where
+    pub naming-end : left ≡ [] → d ≡ goal
+    naming-end none =
+        sym (n.same ∙ changed-none d ws c v (n.end - n.from) n.from
+        (listed-end named n.from (n.end - n.from) (sym n.list ∙ none)))
+
+    module _ {i : ℕ} {is : List ℕ} (e : left ≡ i ∷ is) where
+      head : Head named n.from (n.from + (n.end - n.from)) i is
+      head = listed-head named n.from (n.end - n.from) i is (sym n.list ∙ e)
+
+      pub naming-lt : i < 64
+      naming-lt = omega (arith, head.high, n.low, n.high)
+
+      pub naming-next : (d' : Domain) → d' ≡ changed_at d ws c i → Naming ws c goal d' is
+      naming-next d' ed =
+          let within : i < n.end = omega (arith, head.high, n.low) in
+          record {
+            from = i + 1;
+            end = n.end;
+            low = omega arith;
+            high = n.high;
+            list = head.others ∙ ap (listed named (i + 1)) (omega (arith, n.low));
+            same =
+                n.same ∙ ap (changed_from d ws c v n.from) (omega (arith, head.low))
+                ∙ changed-past d ws c v (i - n.from) (n.end - i) n.from
+                (λ j l h. head.passed j l (omega (arith, head.low)))
+                ∙ ap (λ (j : ℕ). changed_from d ws c v j (n.end - i)) (omega (arith, head.low))
+                ∙ changed-next d ws c v i n.end within
+                ∙ ap (λ (x : Domain). changed_from x ws c v (i + 1) (n.end - (i + 1)))
+                (bit-set d ws c v i head.holds ∙ sym ed);
+          }

@@ -1,16 +1,19 @@
 // Writes to sources: to those whose bits are set in a word, to one by its number, and to one target.
-ghost use Rattle.std.specs.Prelude.{◌≡◌, ◌+◌, ◌-◌, ◌*◌, ◌/◌, ◌≤◌, ◌<◌};
+ghost use Rattle.std.specs.Prelude.{◌≡◌, cond, eqb, ◌+◌, ◌-◌, ◌*◌, ◌/◌, ◌≤◌, ◌<◌};
 ghost use Rattle.sizes.specs.Sizes.{slot_count};
+ghost use Rattle.words.specs.Parts.{joined};
 ghost use Rattle.source.specs.Pending.{switched};
 ghost use Rattle.domain.specs.Domain.{domain_of};
 ghost use Rattle.domain.specs.Slot.{source_at, with_source};
 ghost use Rattle.domain_writes.specs.Writes.{changed_at, changed_bit, changed_from, word_changed};
 ghost use Rattle.domain_writes.specs.Writes.{number_changed, target_written};
 
-use sizes::{DOMAIN_SIZE, SLOT_COUNT, SOURCE_COUNT, SOURCE_SET_SIZE};
+use sizes::{DOMAIN_SIZE, SOURCE_COUNT, SOURCE_SET_SIZE};
 use source::Change;
 use source_mode::active;
 use source_wire::wire_at;
+use words::joined64;
+use words_masks::Members;
 
 // The enable bit of source `i`, if the source is active.
 fn switch_source(part: &mut [u32; DOMAIN_SIZE], i: usize, on: bool)
@@ -50,46 +53,17 @@ fn change_source(
     }
 }
 
-// The same, if the bit of source `i` is set in `value`, the word that is written.
-fn change_bit(
-    part: &mut [u32; DOMAIN_SIZE],
-    wires: [u32; SOURCE_SET_SIZE],
-    change: Change,
-    value: u32,
-    i: usize,
-)
-    requires { i < slot_count }
-    ensures { domain_of part.new
-        ≡ changed_bit (domain_of part.old) wires change value i }
+// The word `value` as a set of sources: word 0 has 0 to 31, word 1 has 32 to 63.
+fn named(k: usize, value: u32) -> u64
+    ensures { result ≡ cond (eqb k 0) (joined value 0) (joined 0 value) }
 {
-    if words::has_bit(value, (i % 32) as u32) {
-        change_source(part, wires, change, i);
+    if k == 0 {
+        return joined64(value, 0);
     }
+    joined64(0, value)
 }
 
-// The same for the sources `from` to `end` - 1, whose bits one word has. It stops after the last set bit.
-fn change_bits(
-    part: &mut [u32; DOMAIN_SIZE],
-    wires: [u32; SOURCE_SET_SIZE],
-    change: Change,
-    value: u32,
-    from: usize,
-    end: usize,
-)
-    requires { (from ≤ end) × (end ≤ slot_count) × (end ≤ from / 32 * 32 + 32) }
-    ensures { domain_of part.new
-        ≡ changed_from (domain_of part.old) wires change value from (end - from) }
-{
-    let mut i = from;
-    while i < end {
-        if value >> ((i % 32) as u32) == 0 {
-            return;
-        }
-        change_bit(part, wires, change, value, i);
-        i += 1;
-    }
-}
-
+// The sources whose bits are set in `value`, which is written to word `k` of a family. There is no source 0.
 pub fn change_word(
     part: &mut [u32; DOMAIN_SIZE],
     wires: [u32; SOURCE_SET_SIZE],
@@ -100,10 +74,8 @@ pub fn change_word(
     ensures { domain_of part.new
         ≡ word_changed (domain_of part.old) wires change k value }
 {
-    if k == 0 {
-        change_bits(part, wires, change, value, 1, 32);
-    } else {
-        change_bits(part, wires, change, value, 32, SLOT_COUNT);
+    for i in Members::from(named(k, value), 1) {
+        change_source(part, wires, change, i);
     }
 }
 

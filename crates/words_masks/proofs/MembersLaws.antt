@@ -2,6 +2,7 @@
 -- Assumes nothing.
 --   listed-ext        tests that agree list the same numbers
 --   listed-none       where none holds, none is listed
+--   listed-short      those after the last that holds are left out
 --   listed-skip       those before the first that holds are passed over
 --   listed-first      the first that holds comes first
 --   Head p k m i is   of the numbers from k on and below m of which p holds i is the first, and is are the others
@@ -42,6 +43,16 @@ unfolding listed
 listed-none p i zero e = refl
 listed-none p i (suc n) e =
     rw (e i (omega arith) (omega arith)) (listed-none p (suc i) n (λ j l h. e j (omega arith) (omega arith)))
+
+-- none of the last k holds
+pub listed-short : (p : ℕ → Bool) (i n k : ℕ) → ((j : ℕ) → i + n ≤ j → j < i + n + k → p j ≡ false)
+    → listed p i (n + k) ≡ listed p i n
+unfolding listed
+listed-short p i zero k e = rw (zero-add) (listed-none p i k (λ j l h. e j (omega arith) (omega arith)))
+listed-short p i (suc n) k e =
+    let more : suc n + k ≡ suc (n + k) = omega arith in
+    rw more (ap (λ (l : List ℕ). cond (p i) (i ∷ l) l)
+    (listed-short p (suc i) n k (λ j l h. e j (omega arith) (omega arith))))
 
 -- k numbers that are passed over
 passed : (p : ℕ → Bool) (i k n : ℕ) → ((j : ℕ) → i ≤ j → j < i + k → p j ≡ false)
