@@ -1,28 +1,28 @@
--- Laws of specs/Answer.antt, on what `let .. else` finds of an answer. No contract cites this file. Assumes
+-- Laws of specs/Answer.antt, on what `?` finds of a test's answer. No contract cites this file. Assumes
 -- nothing.
---   NotDone r    r is one of the cases after Done
 use Prim.Native.Nat.{ℕ}
-use mathlib.Core.Path.{◌≡◌, sym, ap, ◌∙◌, refl}
+use mathlib.Core.Path.{◌≡◌, sym, ap, ◌∙◌}
 use mathlib.Core.Logic.{◌≢◌}
 use native.Mathlib.Omega.{arith}
-use Rattle.board_call.specs.declared.Answer.{Answer}
-use Rattle.board_call.specs.declared.Answer.TheVariants.{Done, StateLength, LogLength, BrokenRule}
-use Rattle.board_call.specs.declared.Answer.TheVariants.{NoSuch}
-use Rattle.board_call.specs.declared.Answer.TheVariants.{BadAddress, IllegalSelect}
-use Rattle.board_call.specs.Answer.{refusal_number, Refuses}
+use Rattle.std.proofs.Common.{Result, Ok, Err}
+use Rattle.board_call.specs.declared.Refusal.{Refusal}
+use Rattle.board_call.specs.declared.Refusal.TheVariants.{StateLength, LogLength, BrokenRule}
+use Rattle.board_call.specs.declared.Refusal.TheVariants.{NoSuch, BadAddress, IllegalSelect}
+use Rattle.board_call.specs.Answer.{number_of, refusal_number, Refuses}
 
-abbrev pub NotDone : Answer → Type 0
-NotDone r = (v n : ℕ) → r ≢ Done v n
+pub refused-case : (e : Refusal) → number_of e ≢ 0
+refused-case StateLength z = omega arith
+refused-case LogLength z = omega arith
+refused-case BrokenRule z = omega arith
+refused-case NoSuch z = omega arith
+refused-case BadAddress z = omega arith
+refused-case IllegalSelect z = omega arith
 
-pub refused-case : (r : Answer) → NotDone r → refusal_number r ≢ 0
-refused-case (Done v n) k z = k v n refl
-refused-case StateLength k z = omega arith
-refused-case LogLength k z = omega arith
-refused-case BrokenRule k z = omega arith
-refused-case NoSuch k z = omega arith
-refused-case BadAddress k z = omega arith
-refused-case IllegalSelect k z = omega arith
+module _ (r : Result Unit Refusal) (n : ℕ) (said : Refuses r n) where
+  -- no test failed
+  pub passed-case : {u : Unit} → r ≡ Ok u → n ≡ 0
+  passed-case e = sym said ∙ ap refusal_number e
 
--- a test that answers the refusal n, and its answer is Done
-pub done-case : (r : Answer) (n : ℕ) → Refuses r n → {v m : ℕ} → r ≡ Done v m → n ≡ 0
-done-case r n e d = sym e.number ∙ ap refusal_number d
+  -- the first that failed
+  pub failed-case : {e : Refusal} → r ≡ Err e → number_of e ≡ n
+  failed-case q = sym (ap refusal_number q) ∙ said

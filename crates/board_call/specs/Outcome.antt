@@ -16,9 +16,8 @@ use Rattle.files.specs.Files.{all_reached}
 use Rattle.domain_sending.specs.Sending.{logged}
 use Rattle.wired.specs.Controller.{flushed}
 use Rattle.board_block.specs.Block.{Board, with_files, with_wired, board_of, block_of}
-use Rattle.board_call.specs.declared.Answer.{Answer}
 use Rattle.board_call.specs.declared.Call.{Call}
-use Rattle.board_call.specs.Answer.{refusal_number, answer_value, answer_count}
+use Rattle.board_call.specs.Answer.{Answer, refusal_number, answer_value, answer_count}
 use Rattle.board_call.specs.Refusal.{refusal_of}
 use Rattle.board_call.specs.Change.{Changed, change}
 

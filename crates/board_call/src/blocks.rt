@@ -1,35 +1,32 @@
-// The tests of the two lent blocks: their lengths, and the state rules. Each answers the refusal, or done if
+// The tests of the two lent blocks: their lengths, and the state rules. Each answers the refusal, or nothing if
 // no test fails.
 ghost use Rattle.std.specs.Prelude.{true, false};
 ghost use Rattle.board_call.specs.Answer.{Refuses};
 ghost use Rattle.board_call.specs.Refusal.{block_refusal};
 
-use super::Answer;
+use super::Refusal;
 use sizes::{BLOCK_SIZE, LOG_SIZE};
 
 // Refusal 1 or 2.
-pub fn lengths(state: &[u32], log: &[u32]) -> Answer
+pub fn lengths(state: &[u32], log: &[u32]) -> Result<(), Refusal>
     ensures { Refuses result (block_refusal false state.now log.now) }
 {
     if state.len() != BLOCK_SIZE {
-        return Answer::StateLength;
+        return Err(Refusal::StateLength);
     }
     if log.len() != LOG_SIZE {
-        return Answer::LogLength;
+        return Err(Refusal::LogLength);
     }
-    Answer::Done(0, 0)
+    Ok(())
 }
 
 // Refusal 1, 2 or 3.
-pub fn check(state: &[u32], log: &[u32]) -> Answer
+pub fn check(state: &[u32], log: &[u32]) -> Result<(), Refusal>
     ensures { Refuses result (block_refusal true state.now log.now) }
 {
-    let answer = lengths(state, log);
-    let Answer::Done(_, _) = answer else {
-        return answer;
-    };
+    lengths(state, log)?;
     if !board_block::sound(state) {
-        return Answer::BrokenRule;
+        return Err(Refusal::BrokenRule);
     }
-    answer
+    Ok(())
 }

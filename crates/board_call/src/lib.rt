@@ -34,10 +34,17 @@ pub enum Call {
     Move(u64, u64, u64, u64, u64),
 }
 
-#[derive(Clone, Copy)]
-pub enum Answer {
-    // value, count of messages
-    Done(u64, u32),
+// What an accepted call answers.
+#[derive(Clone, Copy, Debug, PartialEq, Eq)]
+pub struct Done {
+    pub value: u64,
+    // the number of messages
+    pub count: u32,
+}
+
+// Why a call is refused, in the order of the tests.
+#[derive(Clone, Copy, Debug, PartialEq, Eq)]
+pub enum Refusal {
     StateLength,
     LogLength,
     BrokenRule,
@@ -45,3 +52,5 @@ pub enum Answer {
     BadAddress,
     IllegalSelect,
 }
+
+pub type Answer = Result<Done, Refusal>;

@@ -13,14 +13,17 @@ use Rattle.domain_sending.specs.Sending.{logged}
 use Rattle.domain_sending.proofs.SendingLaws.{logged_none}
 use Rattle.wired.specs.Controller.{Out}
 use Rattle.board_block.specs.Block.{Board, board_of, board_sound}
-use Rattle.board_call.specs.declared.Answer.{Answer}
-use Rattle.board_call.specs.declared.Answer.TheVariants.{Done, NoSuch, BadAddress, IllegalSelect}
+use Rattle.std.proofs.Common.{Result, Err}
+use Rattle.std.proofs.lemmas.Result.{err_from_is_err_and}
+use Rattle.std.specs.Result.{IsErrAnd}
+use Rattle.board_call.specs.declared.Refusal.{Refusal}
+use Rattle.board_call.specs.declared.Refusal.TheVariants.{NoSuch, BadAddress, IllegalSelect}
 use Rattle.board_call.specs.declared.Call.{Call}
-use Rattle.board_call.specs.Answer.{Refuses}
+use Rattle.board_call.specs.Answer.{Answer, done_with, Refuses}
 use Rattle.board_call.specs.Calls.{Tests, tests_rules, present, addressed, selected, row_of}
 use Rattle.board_call.specs.Refusal.{block_refusal, name_refusal}
 use Rattle.board_call.specs.Outcome.{Stepped, step, outcome, Gives, Does}
-use Rattle.board_call.proofs.AnswerLaws.{NotDone}
+use Rattle.board_call.proofs.AnswerLaws.{failed-case}
 use Rattle.board_call.proofs.RefusalLaws.{passed-state, passed-rules, numbers-name}
 use Rattle.board_call_laws.proofs.OutcomeEffects.{gives-blocks, gives-name, gives-address}
 use Rattle.board_call_laws.proofs.OutcomeEffects.{gives_select}
@@ -55,22 +58,25 @@ module _ {c : Call} {n : Board → Bool} {a s : Bool} (t : Tested c n a s) (l g 
   by-rules : block_refusal (tests_rules c) l g ≡ block_refusal true l g
   by-rules = ap (λ (x : Tests). block_refusal x.rules l g) t.row
 
-  -- r is what the test of the blocks answered
-  pub tests-blocks : (r : Answer) → Refuses r (block_refusal true l g) → NotDone r → Does c l g r l g
-  tests-blocks r e = gives-blocks c l g r (subst (Refuses r) (sym by-rules) e)
+  -- r is what the test of the blocks answered, and the call returns its refusal by `?`
+  pub tests-blocks : (r : Result Unit Refusal) → Refuses r (block_refusal true l g) → {e : Refusal} → r ≡ Err e
+      → (q : Answer) → IsErrAnd q (λ y. y ≡ e) → Does c l g q l g
+  tests-blocks r said failed q back =
+      let p = err_from_is_err_and q back in
+      rw (p.1, p.2) (gives-blocks c l g _ (failed-case r _ said failed ∙ sym by-rules))
 
   module _ (z : block_refusal true l g ≡ 0) where
     passed : block_refusal (tests_rules c) l g ≡ 0
     passed = by-rules ∙ z
 
-    pub tests-name : n (board_of l) ≡ false → Does c l g NoSuch l g
+    pub tests-name : n (board_of l) ≡ false → Does c l g (Err NoSuch) l g
     tests-name x = gives-name c l g passed (named (board_of l) ∙ x)
 
     module _ (x : n (board_of l) ≡ true) where
-      pub tests-address : a ≡ false → Does c l g BadAddress l g
+      pub tests-address : a ≡ false → Does c l g (Err BadAddress) l g
       tests-address y = gives-address c l g passed (named (board_of l) ∙ x) (at_address ∙ y)
 
-      pub tests-select : a ≡ true → s ≡ false → Does c l g IllegalSelect l g
+      pub tests-select : a ≡ true → s ≡ false → Does c l g (Err IllegalSelect) l g
       tests-select y w =
           gives_select c l g passed (named (board_of l) ∙ x) (at_address ∙ y) (at-select ∙ w)
 
@@ -83,7 +89,7 @@ module _ {c : Call} {n : Board → Bool} {a s : Bool} (t : Tested c n a s) (l g 
       pub tests_left : a ≡ true → s ≡ true → (u : List ℕ) (o : Stepped) → step c (board_of l) u ≡ o
           → (v m : ℕ) (l' g' u' : List ℕ) → length l' ≡ block_size → v ≡ o.value → board_of l' ≡ o.board
           → g' ≡ logged g o.messages → m ≡ length o.messages → u' ≡ o.saved
-          → Gives (outcome c l g u) (Done v m) l' g' u'
+          → Gives (outcome c l g u) (done_with v m) l' g' u'
       tests_left y w u o q v m l' g' u' long value board log count kept =
           gives-done c l g passed (tests-numbers y w) u o q v m value count l' g' u' long board log kept
 
@@ -92,7 +98,7 @@ module _ {c : Call} {n : Board → Bool} {a s : Bool} (t : Tested c n a s) (l g 
           → ((u : List ℕ) → step c (board_of l) u ≡ wired_step (board_of l) o 0 u) → (m : ℕ)
           → (l' g' : List ℕ) → length l' ≡ block_size
           → board_of l' ≡ (wired_step (board_of l) o 0 []).board → g' ≡ logged g o.messages
-          → m ≡ length o.messages → Does c l g (Done 0 m) l' g'
+          → m ≡ length o.messages → Does c l g (done_with 0 m) l' g'
       tests-sent y w o q m l' g' long board log count u =
           tests_left y w u _ (q u) 0 m l' g' u long refl board log count refl
 
@@ -100,6 +106,6 @@ module _ {c : Call} {n : Board → Bool} {a s : Bool} (t : Tested c n a s) (l g 
       pub tests-done : a ≡ true → s ≡ true → (b : Board) (v' : ℕ)
           → ((u : List ℕ) → step c (board_of l) u ≡ quiet b v' u)
           → (v : ℕ) → v ≡ v' → (l' : List ℕ) → length l' ≡ block_size → board_of l' ≡ b
-          → Does c l g (Done v 0) l' g
+          → Does c l g (done_with v 0) l' g
       tests-done y w b v' q v p l' long board u =
           tests_left y w u _ (q u) v 0 l' g u long p board (sym (logged_none g)) refl refl

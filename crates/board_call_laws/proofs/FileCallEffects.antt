@@ -23,7 +23,7 @@ use Rattle.file.specs.Top.{top_of, claimed}
 use Rattle.files.specs.Files.{file_number, is_guest, files_of, the_file, with_file}
 use Rattle.board_block.specs.Block.{Board, with_files, board_of, board_sound}
 use Rattle.board_block.proofs.BlockLaws.{files-long, files-part, files_put, put-files}
-use Rattle.board_call.specs.declared.Answer.TheVariants.{Done}
+use Rattle.board_call.specs.Answer.{done_with}
 use Rattle.board_call.specs.declared.Call.TheVariants.{PageRead, PageWrite, Register, Top, Claim}
 use Rattle.board_call.specs.Change.{kind_of, change}
 use Rattle.board_call.specs.Numbers.{is_file, is_page_address}
@@ -142,13 +142,13 @@ module _ (b : Board) (sound : board_sound b ≡ true) (h f : ℕ) (x : File)
 module _ (l g : List ℕ) (z : block_refusal true l g ≡ 0) (h f : ℕ) (x : File)
     (here : x ≡ the_file (board_of l).files (file_number h f)) where
   pub page_read-done : (a : ℕ) → is_file h f ≡ true → is_page_address a ≡ true → (v : ℕ) → v ≡ page_read x a
-      → Does (PageRead h f a) l g (Done v 0) l g
+      → Does (PageRead h f a) l g (done_with v 0) l g
   page_read-done a there at v p =
       tests-done (tests-page_read h f a) l g z there at refl (board_of l) (page_read x a)
       (step-page_read (board_of l) (checked-sound l g z) h f x here a) v p l (checked-long l g z) refl
 
   pub top-done : is_file h f ≡ true → (v : ℕ) → v ≡ top_of identities x
-      → Does (Top h f) l g (Done v 0) l g
+      → Does (Top h f) l g (done_with v 0) l g
   top-done there v p =
       tests-done (tests-top h f) l g z there refl refl (board_of l) (top_of identities x)
       (step-top (board_of l) (checked-sound l g z) h f x here) v p l (checked-long l g z) refl
@@ -163,7 +163,7 @@ module _ (l g : List ℕ) (z : block_refusal true l g ≡ 0) (h f : ℕ) (x : Fi
     only q = stored ∙ ap (only_file (board_of l) (file_number h f)) q
 
     pub page_write-done : (a v : ℕ) → is_file h f ≡ true → is_page_address a ≡ true
-        → y ≡ page_written identities x a v → Does (PageWrite h f a v) l g (Done 0 0) l' g
+        → y ≡ page_written identities x a v → Does (PageWrite h f a v) l g (done_with 0 0) l' g
     page_write-done a v there at q =
         tests-done (tests-page_write h f a v) l g z there at refl _ 0
         (step-page_write (board_of l) (checked-sound l g z) h f x here a v) 0 refl l' long (only q)
@@ -171,13 +171,13 @@ module _ (l g : List ℕ) (z : block_refusal true l g ≡ 0) (h f : ℕ) (x : Fi
     pub register-done : (kind s v : ℕ) → (is_file h f && ltb kind 4) ≡ true → select_legal s ≡ true
         → (r : Accessed) → r ≡ accessed identities (is_guest (file_number h f)) x (kind_of kind) s v
         → y ≡ r.file → (u : ℕ) → u ≡ reply_value r.answer
-        → Does (Register h f kind s v) l g (Done u 0) l' g
+        → Does (Register h f kind s v) l g (done_with u 0) l' g
     register-done kind s v there legal r did q u p =
         tests-done (tests-register h f kind s v) l g z there refl legal _ _
         (step-register (board_of l) (checked-sound l g z) h f x here kind s v r did) u p l' long (only q)
 
     pub claim-done : is_file h f ≡ true → y ≡ claimed identities x → (v : ℕ) → v ≡ top_of identities x
-        → Does (Claim h f) l g (Done v 0) l' g
+        → Does (Claim h f) l g (done_with v 0) l' g
     claim-done there q v p =
         tests-done (tests-claim h f) l g z there refl refl _ (top_of identities x)
         (step-claim (board_of l) (checked-sound l g z) h f x here) v p l' long (only q)

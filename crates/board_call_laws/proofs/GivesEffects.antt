@@ -4,28 +4,29 @@ use Prim.Native.Nat.{ℕ}
 use mathlib.Core.Path.{◌≡◌, refl, sym, subst, ◌∙◌}
 use mathlib.Core.List.{List, [], ◌∷◌}
 use lib.ListN.{get_or}
-use Rattle.board_call.specs.declared.Answer.{Answer}
-use Rattle.board_call.specs.declared.Answer.TheVariants.{Done, StateLength, LogLength, BrokenRule, NoSuch}
-use Rattle.board_call.specs.declared.Answer.TheVariants.{BadAddress, IllegalSelect}
-use Rattle.board_call.specs.Answer.{refusal_number, answer_value, answer_count}
+use Rattle.std.proofs.Common.{Ok, Err}
+use Rattle.board_call.specs.declared.Refusal.TheVariants.{StateLength, LogLength, BrokenRule, NoSuch}
+use Rattle.board_call.specs.declared.Refusal.TheVariants.{BadAddress, IllegalSelect}
+use Rattle.board_call.specs.Answer.{Answer, done_with, refusal_number, answer_value, answer_count}
 use Rattle.board_call.specs.declared.Call.{Call}
 use Rattle.board_call.specs.Outcome.{Outcome, outcome, Gives}
 
 -- the answer with these numbers
 told : ℕ → ℕ → ℕ → Answer
 told k v n =
-    let cases = Done v n ∷ StateLength ∷ LogLength ∷ BrokenRule ∷ NoSuch ∷ BadAddress ∷ IllegalSelect ∷ [] in
-    get_or cases k (Done v n)
+    let cases = done_with v n ∷ Err StateLength ∷ Err LogLength ∷ Err BrokenRule ∷ Err NoSuch
+    ∷ Err BadAddress ∷ Err IllegalSelect ∷ [] in
+    get_or cases k (done_with v n)
 
 told_back : (r : Answer) → told (refusal_number r) (answer_value r) (answer_count r) ≡ r
 unfolding told
-told_back (Done v n) = refl
-told_back StateLength = refl
-told_back LogLength = refl
-told_back BrokenRule = refl
-told_back NoSuch = refl
-told_back BadAddress = refl
-told_back IllegalSelect = refl
+told_back (Ok d) = refl
+told_back (Err StateLength) = refl
+told_back (Err LogLength) = refl
+told_back (Err BrokenRule) = refl
+told_back (Err NoSuch) = refl
+told_back (Err BadAddress) = refl
+told_back (Err IllegalSelect) = refl
 
 -- an answer is settled by its refusal, value and count
 pub answer-one : (r s : Answer) → refusal_number r ≡ refusal_number s → answer_value r ≡ answer_value s

@@ -24,15 +24,17 @@ use Rattle.wired_state.specs.Wires.{Wired, wired_of, domain_in}
 use Rattle.board_block.specs.Block.{Board, board_of, board_sound}
 use Rattle.board_block.specs.Start.{start_board}
 use Rattle.board_block.proofs.BlockLaws.{wired-part}
-use Rattle.board_call.specs.declared.Answer.{Answer}
-use Rattle.board_call.specs.declared.Answer.TheVariants.{Done}
+use Rattle.std.proofs.Common.{Result, Err}
+use Rattle.std.proofs.lemmas.Result.{err_from_is_err_and}
+use Rattle.std.specs.Result.{IsErrAnd}
+use Rattle.board_call.specs.declared.Refusal.{Refusal}
 use Rattle.board_call.specs.declared.Call.TheVariants.{Reset, Signals}
-use Rattle.board_call.specs.Answer.{Refuses}
+use Rattle.board_call.specs.Answer.{Answer, done_with, Refuses}
 use Rattle.board_call.specs.Change.{signal_at, signals_to, change}
 use Rattle.board_call.specs.Calls.{row_of}
 use Rattle.board_call.specs.Refusal.{block_refusal, name_refusal}
 use Rattle.board_call.specs.Outcome.{step, Does}
-use Rattle.board_call.proofs.AnswerLaws.{NotDone}
+use Rattle.board_call.proofs.AnswerLaws.{failed-case}
 use Rattle.board_call.proofs.RefusalLaws.{passed-state, numbers-name}
 use Rattle.board_call_laws.proofs.OutcomeEffects.{gives-blocks, gives-done}
 use Rattle.board_call_laws.proofs.StepEffects.{step-answering, step-reset}
@@ -45,17 +47,21 @@ unfolding row_of
 reset-names b = numbers-name (row_of Reset).tests b refl refl refl
 
 module _ (l g : List ℕ) where
-  -- r is what the test of the lengths answered
-  pub reset-blocks : (r : Answer) → Refuses r (block_refusal false l g) → NotDone r → Does Reset l g r l g
+  -- r is what the test of the lengths answered, and the call returns its refusal by `?`
+  pub reset-blocks : (r : Result Unit Refusal) → Refuses r (block_refusal false l g) → {e : Refusal}
+      → r ≡ Err e
+      → (q : Answer) → IsErrAnd q (λ y. y ≡ e) → Does Reset l g q l g
   unfolding row_of
-  reset-blocks = gives-blocks Reset l g
+  reset-blocks r said failed q back =
+      let p = err_from_is_err_and q back in
+      rw (p.1, p.2) (gives-blocks Reset l g _ (failed-case r _ said failed))
 
   module _ (z : block_refusal false l g ≡ 0) where
     pub reset-long : length l ≡ block_size
     reset-long = passed-state false l g z
 
     pub reset-done : (l' : List ℕ) → length l' ≡ length l → board_of l' ≡ start_board
-        → Does Reset l g (Done 0 0) l' g
+        → Does Reset l g (done_with 0 0) l' g
     unfolding row_of
     reset-done l' kept board u =
         gives-done Reset l g z (reset-names (board_of l)) u (quiet start_board 0 u)
@@ -131,7 +137,7 @@ unfolding step change
 step-signals b sound h u = step-answering b sound _ u
 
 pub signals-done : (l g : List ℕ) (z : block_refusal true l g ≡ 0) (h : ℕ) → h < 4
-    → (v : ℕ) → v ≡ signals_to (board_of l) h 5 → Does (Signals h) l g (Done v 0) l g
+    → (v : ℕ) → v ≡ signals_to (board_of l) h 5 → Does (Signals h) l g (done_with v 0) l g
 signals-done l g z h there v p =
     tests-done (tests-signals h) l g z (lt-ltb h 4 there) refl refl (board_of l)
     (signals_to (board_of l) h 5) (step-signals (board_of l) (checked-sound l g z) h) v p l

@@ -5,7 +5,6 @@ use mathlib.Core.Path.{◌≡◌, refl, sym, ap, subst, ◌∙◌}
 use mathlib.Core.Bool.{true, false}
 use mathlib.Core.List.{List}
 use mathlib.Core.Logic.{◌≢◌}
-use native.Mathlib.Omega.{arith}
 use lib.ListN.{length}
 use lib.Dec.{eqb}
 use borrow.Author.Tests.{eqb-true, eq-eqb, ne_eqb}
@@ -13,14 +12,15 @@ use Rattle.words.proofs.TestsLaws.{tested}
 use Rattle.domain_sending.specs.Sending.{logged}
 use Rattle.board_block.specs.Block.{Board, board_of, block_of}
 use Rattle.board_block_laws.proofs.BlockBack.{block_back}
-use Rattle.board_call.specs.declared.Answer.{Answer}
-use Rattle.board_call.specs.declared.Answer.TheVariants.{Done, NoSuch, BadAddress, IllegalSelect}
+use Rattle.std.proofs.Common.{Err}
+use Rattle.board_call.specs.declared.Refusal.{Refusal}
+use Rattle.board_call.specs.declared.Refusal.TheVariants.{NoSuch, BadAddress, IllegalSelect}
 use Rattle.board_call.specs.declared.Call.{Call}
-use Rattle.board_call.specs.Answer.{refusal_number, answer_value, answer_count, Refuses}
+use Rattle.board_call.specs.Answer.{done_with, number_of}
 use Rattle.board_call.specs.Calls.{Tests, tests_rules, present, addressed, selected, row_of}
 use Rattle.board_call.specs.Refusal.{block_refusal, name_refusal, refusal_of}
 use Rattle.board_call.specs.Outcome.{Stepped, step, Outcome, refused_as, done_as, outcome, Gives, Does}
-use Rattle.board_call.proofs.AnswerLaws.{NotDone, refused-case}
+use Rattle.board_call.proofs.AnswerLaws.{refused-case}
 use Rattle.board_call.proofs.RefusalLaws.{refused-blocks, refused-numbers, refused-name, refused-address}
 use Rattle.board_call.proofs.RefusalLaws.{refused-select}
 use Rattle.sizes.specs.Sizes.{block_size}
@@ -43,24 +43,20 @@ module _ (c : Call) (l g : List ℕ) where
   outcome-number s =
       let n = refusal_of c l g in tested (eqb n 0) (λ t. rw t (sym (eqb-true n 0 t))) (λ f. rw f)
 
-  -- an answer with the refusal's number, and 0 and 0
-  gives-number : (k : ℕ) → refusal_of c l g ≡ k → k ≢ 0 → (r : Answer) → refusal_number r ≡ k → answer_value r
-      ≡ 0
-      → answer_count r ≡ 0 → Does c l g r l g
-  gives-number k e h r a v n s =
-      subst (λ (o : Outcome). Gives o r l g s) (sym (outcome-refused s k e h))
-      record { number = a; value = v; count = n; block = refl; log = refl; saved = refl }
+  -- the refusal with its number
+  gives-number : (e : Refusal) → refusal_of c l g ≡ number_of e → Does c l g (Err e) l g
+  gives-number e said s =
+      subst (λ (o : Outcome). Gives o (Err e) l g s)
+      (sym (outcome-refused s (number_of e) said (refused-case e)))
+      record { number = refl; value = refl; count = refl; block = refl; log = refl; saved = refl }
 
 -- ---- what each test gives
 
 module _ (c : Call) (l g : List ℕ) where
-  -- r is what the test of the blocks answered
-  pub gives-blocks : (r : Answer) → Refuses r (block_refusal (tests_rules c) l g) → NotDone r
-      → Does c l g r l g
-  gives-blocks r e d =
-      gives-number c l g (refusal_number r) (refused-blocks (row_of c).tests l g (refusal_number r) e.number
-      (refused-case r d))
-      (refused-case r d) r refl e.value e.count
+  -- e is what the test of the blocks refused with
+  pub gives-blocks : (e : Refusal) → number_of e ≡ block_refusal (tests_rules c) l g → Does c l g (Err e) l g
+  gives-blocks e said =
+      gives-number c l g e (refused-blocks (row_of c).tests l g (number_of e) said (refused-case e))
 
   module _ (z : block_refusal (tests_rules c) l g ≡ 0) where
     abbrev b : Board
@@ -69,29 +65,24 @@ module _ (c : Call) (l g : List ℕ) where
     abbrev t : Tests
     t = (row_of c).tests
 
-    pub gives-name : present c b ≡ false → Does c l g NoSuch l g
-    gives-name n =
-        gives-number c l g 4 (refused-numbers t l g z ∙ refused-name t b n) (λ q. omega arith) NoSuch
-        refl refl refl
+    pub gives-name : present c b ≡ false → Does c l g (Err NoSuch) l g
+    gives-name n = gives-number c l g NoSuch (refused-numbers t l g z ∙ refused-name t b n)
 
-    pub gives-address : present c b ≡ true → addressed c ≡ false → Does c l g BadAddress l g
-    gives-address n a =
-        gives-number c l g 5 (refused-numbers t l g z ∙ refused-address t b n a) (λ q. omega arith) BadAddress
-        refl refl refl
+    pub gives-address : present c b ≡ true → addressed c ≡ false → Does c l g (Err BadAddress) l g
+    gives-address n a = gives-number c l g BadAddress (refused-numbers t l g z ∙ refused-address t b n a)
 
     pub gives_select : present c b ≡ true → addressed c ≡ true → selected c ≡ false
-        → Does c l g IllegalSelect l g
+        → Does c l g (Err IllegalSelect) l g
     gives_select n a s =
-        gives-number c l g 6 (refused-numbers t l g z ∙ refused-select t b n a s) (λ q. omega arith)
-        IllegalSelect refl refl refl
+        gives-number c l g IllegalSelect (refused-numbers t l g z ∙ refused-select t b n a s)
 
     -- an accepted call, from what its code left
     pub gives-done : name_refusal c b ≡ 0 → (s : List ℕ) (x : Stepped) → step c b s ≡ x
         → (v n : ℕ) → v ≡ x.value → n ≡ length x.messages → (l' g' s' : List ℕ) → length l' ≡ block_size
         → board_of l' ≡ x.board → g' ≡ logged g x.messages → s' ≡ x.saved
-        → Gives (outcome c l g s) (Done v n) l' g' s'
+        → Gives (outcome c l g s) (done_with v n) l' g' s'
     gives-done a s x q v n ev en l' g' s' long board log kept =
-        subst (λ (o : Outcome). Gives o (Done v n) l' g' s')
+        subst (λ (o : Outcome). Gives o (done_with v n) l' g' s')
         (sym (outcome-done c l g s (refused-numbers t l g z ∙ a) ∙ ap (λ (y : Stepped). done_as y g) q))
         record {
           number = refl;

@@ -15,7 +15,7 @@ use Rattle.wired_state.specs.Wires.{Wired}
 use Rattle.wired_registers.specs.Wired.{read_in}
 use Rattle.wired.specs.Controller.{wire_call, read_call, write_call}
 use Rattle.board_block.specs.Block.{Board, with_wired, board_of}
-use Rattle.board_call.specs.declared.Answer.TheVariants.{Done}
+use Rattle.board_call.specs.Answer.{done_with}
 use Rattle.board_call.specs.declared.Call.TheVariants.{Wire, DomainRead, DomainWrite}
 use Rattle.board_call.specs.Numbers.{is_wire}
 use Rattle.board_call.specs.Calls.{row_of}
@@ -66,7 +66,7 @@ tests-domain_write d a v = record { row = refl }
 module _ (l g : List ℕ) (z : block_refusal true l g ≡ 0) where
   pub wire-done : (i level : ℕ) → is_wire i level ≡ true → (l' g' : List ℕ) (n : ℕ) → length l' ≡ block_size
       → Left (wire_call (board_of l).wired i (eqb level 1)) l l' g g' n
-      → Does (Wire i level) l g (Done 0 n) l' g'
+      → Does (Wire i level) l g (done_with 0 n) l' g'
   wire-done i level n l' g' m long (b, h, c) =
       tests-sent (tests-wire i level) l g z n refl refl _ (step-wire (board_of l) i level) m l' g' long
       b h c
@@ -76,7 +76,7 @@ module _ (l g : List ℕ) (z : block_refusal true l g ≡ 0) where
         → (read_call (board_of l).wired (eqb d 1) (word_at a)).messages ≡ []
         → v ≡ read_in (board_of l).wired (eqb d 1) (word_at a)
         → board_of l' ≡ with_wired (board_of l) (read_call (board_of l).wired (eqb d 1) (word_at a)).wired
-        → Does (DomainRead d a) l g (Done v 0) l' g
+        → Does (DomainRead d a) l g (done_with v 0) l' g
     unfolding all_reached
     domain_read-done l' v long none value board =
         tests-done (tests-domain_read d a) l g z (lt-ltb d 2 n) b refl _ _
@@ -87,7 +87,7 @@ module _ (l g : List ℕ) (z : block_refusal true l g ≡ 0) where
 
     pub domain_write-done : (v : ℕ) (l' g' : List ℕ) (m : ℕ) → length l' ≡ block_size
         → Left (write_call (board_of l).wired (eqb d 1) (word_at a) v) l l' g g' m
-        → Does (DomainWrite d a v) l g (Done 0 m) l' g'
+        → Does (DomainWrite d a v) l g (done_with 0 m) l' g'
     domain_write-done v l' g' m long (x, h, c) =
         tests-sent (tests-domain_write d a v) l g z (lt-ltb d 2 n) b refl _
         (step-domain_write (board_of l) d a v) m l' g' long x h c

@@ -3,7 +3,7 @@ ghost use Rattle.board_call.specs.declared.Call.TheVariants as the;
 ghost use Rattle.board_call.specs.Outcome.{Does};
 
 use super::block_file::{is_access, load_file, store_file, value_of};
-use board_call::{Answer, check};
+use board_call::{Answer, Done, Refusal, check};
 use sizes::FIRST_GUEST;
 
 // The kind is 0 for read, 1 for write, 2 for set bits, 3 for clear bits.
@@ -19,15 +19,12 @@ pub fn register(
     ensures { Does (the.Register hart file kind select value) state.old log.old result
         state.new log.new }
 {
-    let answer = check(state, log);
-    let Answer::Done(_, _) = answer else {
-        return answer;
-    };
+    check(state, log)?;
     if !is_access(hart, file, kind) {
-        return Answer::NoSuch;
+        return Err(Refusal::NoSuch);
     }
     if !file_select::select_legal(select) {
-        return Answer::IllegalSelect;
+        return Err(Refusal::IllegalSelect);
     }
     let f = load_file(state, hart, file);
     let done = f.access(
@@ -38,5 +35,8 @@ pub fn register(
     );
     let answer = done.answer;
     store_file(state, hart, file, done.file);
-    Answer::Done(value_of(answer), 0)
+    Ok(Done {
+        value: value_of(answer),
+        count: 0,
+    })
 }

@@ -3,7 +3,7 @@ ghost use Rattle.board_call.specs.declared.Call.TheVariants as the;
 ghost use Rattle.board_call.specs.Outcome.{Does};
 
 use super::block_file::{load_file, store_file};
-use board_call::{Answer, check, is_file, is_page_address};
+use board_call::{Answer, Done, Refusal, check, is_file, is_page_address};
 
 pub fn page_write(
     state: &mut [u32],
@@ -16,17 +16,14 @@ pub fn page_write(
     ensures { Does (the.PageWrite hart file address value) state.old log.old result
         state.new log.new }
 {
-    let answer = check(state, log);
-    let Answer::Done(_, _) = answer else {
-        return answer;
-    };
+    check(state, log)?;
     if !is_file(hart, file) {
-        return Answer::NoSuch;
+        return Err(Refusal::NoSuch);
     }
     if !is_page_address(address) {
-        return Answer::BadAddress;
+        return Err(Refusal::BadAddress);
     }
     let f = load_file(state, hart, file);
     store_file(state, hart, file, f.page_write(address, value));
-    Answer::Done(0, 0)
+    Ok(Done { value: 0, count: 0 })
 }

@@ -3,19 +3,16 @@ ghost use Rattle.board_call.specs.declared.Call.TheVariants as the;
 ghost use Rattle.board_call.specs.Outcome.{Does};
 
 use super::signal::all_signals;
-use board_call::{Answer, check, lengths};
+use board_call::{Answer, Done, Refusal, check, lengths};
 use sizes::HART_COUNT;
 
 pub fn reset(state: &mut [u32], log: &mut [u32]) -> Answer
     ensures { Does the.Reset state.old log.old result
         state.new log.new }
 {
-    let answer = lengths(state, log);
-    let Answer::Done(_, _) = answer else {
-        return answer;
-    };
+    lengths(state, log)?;
     board_block::start(state);
-    Answer::Done(0, 0)
+    Ok(Done { value: 0, count: 0 })
 }
 
 const HARTS: u64 = HART_COUNT as u64;
@@ -24,12 +21,12 @@ pub fn signals(state: &mut [u32], log: &mut [u32], hart: u64) -> Answer
     ensures { Does (the.Signals hart) state.old log.old result
         state.new log.new }
 {
-    let answer = check(state, log);
-    let Answer::Done(_, _) = answer else {
-        return answer;
-    };
+    check(state, log)?;
     if HARTS <= hart {
-        return Answer::NoSuch;
+        return Err(Refusal::NoSuch);
     }
-    Answer::Done(all_signals(state, hart as usize) as u64, 0)
+    Ok(Done {
+        value: all_signals(state, hart as usize) as u64,
+        count: 0,
+    })
 }

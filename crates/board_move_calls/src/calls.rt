@@ -4,7 +4,7 @@ ghost use Rattle.board_call.specs.Outcome.{outcome, Gives};
 
 use super::acts::perform;
 use super::targets::by_messages;
-use board_call::{Answer, check, is_move};
+use board_call::{Answer, Done, Refusal, check, is_move};
 use board_move_steps::act_of;
 use sizes::SAVED_SIZE;
 
@@ -23,17 +23,14 @@ pub fn make_access(
         log.old saved.old) result
         state.new log.new saved.new }
 {
-    let answer = check(state, log);
-    let Answer::Done(_, _) = answer else {
-        return answer;
-    };
+    check(state, log)?;
     if !is_move(oldhart, oldfile, newhart, newfile, access) {
-        return Answer::NoSuch;
+        return Err(Refusal::NoSuch);
     }
     if !by_messages(state) {
-        return Answer::NoSuch;
+        return Err(Refusal::NoSuch);
     }
     let act = act_of(access);
     perform(state, saved, oldhart, oldfile, newhart, newfile, act);
-    Answer::Done(0, 0)
+    Ok(Done { value: 0, count: 0 })
 }

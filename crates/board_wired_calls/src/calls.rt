@@ -5,7 +5,7 @@ ghost use Rattle.board_call.specs.Outcome.{Does};
 use super::accepted_read::read_done;
 use super::accepted_wire::wire_done;
 use super::accepted_write::write_done;
-use board_call::{Answer, check};
+use board_call::{Answer, Done, Refusal, check};
 use domain_region::{address_legal, word_at};
 use sizes::DOMAIN_COUNT;
 
@@ -15,15 +15,15 @@ pub fn wire(state: &mut [u32], log: &mut [u32], wire: u64, level: u64) -> Answer
     ensures { Does (the.Wire wire level) state.old log.old result
         state.new log.new }
 {
-    let answer = check(state, log);
-    let Answer::Done(_, _) = answer else {
-        return answer;
-    };
+    check(state, log)?;
     if !board_call::is_wire(wire, level) {
-        return Answer::NoSuch;
+        return Err(Refusal::NoSuch);
     }
     let n = wire_done(state, log, wire as usize, level == 1);
-    Answer::Done(0, n as u32)
+    Ok(Done {
+        value: 0,
+        count: n as u32,
+    })
 }
 
 // Domain 0 is the machine domain, 1 the child.
@@ -31,18 +31,18 @@ pub fn domain_read(state: &mut [u32], log: &mut [u32], domain: u64, address: u64
     ensures { Does (the.DomainRead domain address) state.old log.old result
         state.new log.new }
 {
-    let answer = check(state, log);
-    let Answer::Done(_, _) = answer else {
-        return answer;
-    };
+    check(state, log)?;
     if DOMAINS <= domain {
-        return Answer::NoSuch;
+        return Err(Refusal::NoSuch);
     }
     if !address_legal(address) {
-        return Answer::BadAddress;
+        return Err(Refusal::BadAddress);
     }
     let value = read_done(state, domain == 1, word_at(address));
-    Answer::Done(value as u64, 0)
+    Ok(Done {
+        value: value as u64,
+        count: 0,
+    })
 }
 
 pub fn domain_write(
@@ -55,16 +55,16 @@ pub fn domain_write(
     ensures { Does (the.DomainWrite domain address value) state.old log.old result
         state.new log.new }
 {
-    let answer = check(state, log);
-    let Answer::Done(_, _) = answer else {
-        return answer;
-    };
+    check(state, log)?;
     if DOMAINS <= domain {
-        return Answer::NoSuch;
+        return Err(Refusal::NoSuch);
     }
     if !address_legal(address) {
-        return Answer::BadAddress;
+        return Err(Refusal::BadAddress);
     }
     let n = write_done(state, log, domain == 1, word_at(address), value);
-    Answer::Done(0, n as u32)
+    Ok(Done {
+        value: 0,
+        count: n as u32,
+    })
 }

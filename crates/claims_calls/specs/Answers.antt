@@ -1,11 +1,10 @@
 -- Claim-177, on the numbers of an answer: which number each case has, and that a contract takes each number
 -- from its own place of the outcome. 01, "Calls and their refusals", "Each place and its form".
 -- Premises: none. No axioms.
-use Rattle.std.specs.Prelude.{ℕ, ◌≡◌, List}
-use Rattle.board_call.specs.declared.Answer.{Answer}
-use Rattle.board_call.specs.declared.Answer.TheVariants.{Done, StateLength, LogLength, BrokenRule, NoSuch}
-use Rattle.board_call.specs.declared.Answer.TheVariants.{BadAddress, IllegalSelect}
-use Rattle.board_call.specs.Answer.{refusal_number, answer_value, answer_count}
+use Rattle.std.specs.Prelude.{ℕ, ◌≡◌, List, Err}
+use Rattle.board_call.specs.declared.Refusal.TheVariants.{StateLength, LogLength, BrokenRule, NoSuch}
+use Rattle.board_call.specs.declared.Refusal.TheVariants.{BadAddress, IllegalSelect}
+use Rattle.board_call.specs.Answer.{Answer, done_with, refusal_number, answer_value, answer_count}
 use Rattle.board_call.specs.declared.Call.{Call}
 use Rattle.board_call.specs.Outcome.{Outcome, outcome, Gives, Does}
 use Rattle.monitor_answer.specs.declared.VskAnswer.{VskAnswer}
@@ -23,9 +22,10 @@ RefusedAs r n = (refusal_number r ≡ n) × (answer_value r ≡ 0) × (answer_co
 unfoldable pub Claim-177 : Type 0
 Claim-177 =
     ((v n : ℕ)
-    → (refusal_number (Done v n) ≡ 0) × (answer_value (Done v n) ≡ v) × (answer_count (Done v n) ≡ n))
-    × RefusedAs StateLength 1 × RefusedAs LogLength 2 × RefusedAs BrokenRule 3 × RefusedAs NoSuch 4
-    × RefusedAs BadAddress 5 × RefusedAs IllegalSelect 6
+    → let r = done_with v n in
+    (refusal_number r ≡ 0) × (answer_value r ≡ v) × (answer_count r ≡ n))
+    × RefusedAs (Err StateLength) 1 × RefusedAs (Err LogLength) 2 × RefusedAs (Err BrokenRule) 3
+    × RefusedAs (Err NoSuch) 4 × RefusedAs (Err BadAddress) 5 × RefusedAs (Err IllegalSelect) 6
     × ((o : Outcome) (r : Answer) (l g s : List ℕ) → Gives o r l g s
     → (refusal_number r ≡ o.number) × (answer_value r ≡ o.value) × (answer_count r ≡ o.count)
     × (l ≡ o.block) × (g ≡ o.log) × (s ≡ o.saved))

@@ -25,7 +25,7 @@ use Rattle.wired_state.specs.Wires.{domain_in}
 use Rattle.board_block.specs.Block.{Board, board_of, block_of, board_sound}
 use Rattle.board_block.specs.Start.{start_board}
 use Rattle.board_block_laws.specs.Shape.{BoardShaped}
-use Rattle.board_call.specs.declared.Answer.{Answer}
+use Rattle.board_call.specs.Answer.{Answer}
 use Rattle.board_call.specs.declared.Call.{Call}
 use Rattle.board_call.specs.declared.Call.TheVariants.{Reset, Wire, DomainRead, DomainWrite, PageRead}
 use Rattle.board_call.specs.declared.Call.TheVariants.{PageWrite}

@@ -31,7 +31,7 @@ use Rattle.board_block.specs.Block.{Board}
 use Rattle.board_call.specs.declared.Call.TheVariants.{Move}
 use Rattle.board_call.specs.Numbers.{is_move}
 use Rattle.board_call.specs.Calls.{present}
-use Rattle.board_call.specs.declared.Answer.{Answer}
+use Rattle.board_call.specs.Answer.{Answer}
 use Rattle.board_call.specs.Outcome.{step, outcome, Gives}
 use Rattle.board_call_laws.specs.Fit.{Fit}
 use Rattle.monitor_answer.specs.declared.VskAnswer.{VskAnswer}

@@ -3,7 +3,7 @@
 use Prim.Native.Nat.{ℕ}
 use mathlib.Core.Path.{◌≡◌, sym, ◌∙◌}
 use mathlib.Core.List.{List}
-use Rattle.board_call.specs.declared.Answer.{Answer}
+use Rattle.board_call.specs.Answer.{Answer}
 use Rattle.board_call.specs.Outcome.{Outcome, Gives}
 use Rattle.monitor_answer.specs.declared.VskAnswer.{VskAnswer}
 use Rattle.monitor_answer.specs.Told.{Numbers, Told}

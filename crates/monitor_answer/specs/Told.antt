@@ -5,8 +5,7 @@
 --                        does as o says
 --   Tells c l g r l' g'  the same of one that is lent no saved numbers: any saved numbers stay as they are
 use Rattle.std.specs.Prelude.{◌≡◌, List, ℕ}
-use Rattle.board_call.specs.declared.Answer.{Answer}
-use Rattle.board_call.specs.Answer.{refusal_number, answer_value, answer_count}
+use Rattle.board_call.specs.Answer.{Answer, refusal_number, answer_value, answer_count}
 use Rattle.board_call.specs.declared.Call.{Call}
 use Rattle.board_call.specs.Outcome.{Outcome, outcome}
 use Rattle.monitor_answer.specs.declared.VskAnswer.{VskAnswer}

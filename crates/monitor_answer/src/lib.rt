@@ -1,10 +1,11 @@
-// What a monitor in C is answered: three numbers for the enum of the board's calls.
+// What a monitor in C is answered: three numbers for the answer of the board's calls.
 #![tactic(auto)]
 
 ghost use Rattle.std.specs.Prelude.{◌≡◌};
+ghost use Rattle.board_call.specs.Answer.{number_of};
 ghost use Rattle.monitor_answer.specs.Told.{Numbers};
 
-use board_call::Answer;
+use board_call::{Answer, Refusal};
 
 // What C is answered, in two registers. The refusal is 0 if the call is done.
 // [01 B16]
@@ -17,13 +18,17 @@ pub struct VskAnswer {
     pub refusal: u32,
 }
 
-fn refused(number: u32) -> VskAnswer
-    ensures { result ≡ record { value = 0; count = 0; refusal = number } }
+// The paper's number of a refusal.
+fn number_of(refusal: Refusal) -> u32
+    ensures { result ≡ number_of refusal }
 {
-    VskAnswer {
-        value: 0,
-        count: 0,
-        refusal: number,
+    match refusal {
+        Refusal::StateLength => 1,
+        Refusal::LogLength => 2,
+        Refusal::BrokenRule => 3,
+        Refusal::NoSuch => 4,
+        Refusal::BadAddress => 5,
+        Refusal::IllegalSelect => 6,
     }
 }
 
@@ -31,16 +36,15 @@ pub fn numbers(answer: Answer) -> VskAnswer
     ensures { Numbers result answer }
 {
     match answer {
-        Answer::Done(value, count) => VskAnswer {
-            value: value,
-            count: count,
+        Ok(done) => VskAnswer {
+            value: done.value,
+            count: done.count,
             refusal: 0,
         },
-        Answer::StateLength => refused(1),
-        Answer::LogLength => refused(2),
-        Answer::BrokenRule => refused(3),
-        Answer::NoSuch => refused(4),
-        Answer::BadAddress => refused(5),
-        Answer::IllegalSelect => refused(6),
+        Err(refusal) => VskAnswer {
+            value: 0,
+            count: 0,
+            refusal: number_of(refusal),
+        },
     }
 }

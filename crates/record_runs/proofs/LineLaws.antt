@@ -8,7 +8,7 @@ use Rattle.record_call.specs.declared.Line.TheVariants as lines
 use Rattle.record_answer.specs.Shown.{line_shown}
 use Rattle.monitor_answer.specs.declared.VskAnswer.{VskAnswer}
 use Rattle.monitor_answer.specs.Told.{Numbers}
-use Rattle.board_call.specs.declared.Answer.{Answer}
+use Rattle.board_call.specs.Answer.{Answer}
 use Rattle.board_call.specs.declared.Call.{Call}
 use Rattle.board_call.specs.Outcome.{outcome, Gives}
 use Rattle.board_runs.specs.Runs.{Lent, after}

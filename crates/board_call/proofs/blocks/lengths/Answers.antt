@@ -5,25 +5,11 @@ use Rattle.board_call.proofs.RefusalLaws.{refused-state, refused-log, blocks-unt
 use Rattle.board_call.proofs.blocks.lengths.Goals as goal
 
 pub returns-then-state-ne-BLOCK_SIZE : goal.returns-then-state-ne-BLOCK_SIZE
-returns-then-state-ne-BLOCK_SIZE c =
-    record {
-      number = sym (refused-state false _ _ c.if-state-ne-BLOCK_SIZE.true);
-      value = refl;
-      count =
-          refl;
-    }
+returns-then-state-ne-BLOCK_SIZE c = sym (refused-state false _ _ c.if-state-ne-BLOCK_SIZE.true)
 
 pub returns-then-log-ne-LOG_SIZE : goal.returns-then-log-ne-LOG_SIZE
 returns-then-log-ne-LOG_SIZE c =
-    let long = c.if-state-ne-BLOCK_SIZE.false in
-    record { number = sym (refused-log false _ _ long c.if-log-ne-LOG_SIZE.true); value = refl; count = refl }
+    sym (refused-log false _ _ c.if-state-ne-BLOCK_SIZE.false c.if-log-ne-LOG_SIZE.true)
 
 pub returns : goal.returns
-returns c =
-    let long = c.if-state-ne-BLOCK_SIZE.false in
-    record {
-      number = sym (blocks-untested false _ _ long c.if-log-ne-LOG_SIZE.false refl);
-      value =
-          refl;
-      count = refl;
-    }
+returns c = sym (blocks-untested false _ _ c.if-state-ne-BLOCK_SIZE.false c.if-log-ne-LOG_SIZE.false refl)

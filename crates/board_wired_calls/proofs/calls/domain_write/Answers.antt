@@ -4,7 +4,7 @@ use mathlib.Core.Path.{refl, sym, ◌∙◌}
 use mathlib.Core.Bool.{true}
 use native.Mathlib.Omega.{arith}
 use borrow.Author.Tests.{lt-ltb, le-ltb}
-use Rattle.board_call.proofs.AnswerLaws.{done-case}
+use Rattle.board_call.proofs.AnswerLaws.{passed-case}
 use Rattle.board_call.proofs.RefusalLaws.{passed-state, passed-log, passed-rules}
 use mathlib.Core.Path.{ap, subst}
 use Rattle.domain_region.specs.Region.{Within}
@@ -18,32 +18,32 @@ use Rattle.board_call_laws.proofs.CallTests.{tests-blocks, tests-name, tests-add
 use Rattle.board_call_laws.proofs.WiredCallEffects.{tests-domain_write, domain_write-done}
 use Rattle.board_wired_calls.proofs.calls.domain_write.Goals as goal
 
-pub returns-in_default : goal.returns-in_default
-returns-in_default c =
+pub returns-in_err-check : goal.returns-in_err-check
+returns-in_err-check c =
     let args = c.args in
     tests-blocks (tests-domain_write args.domain args.address args.value) args.state.now
     args.log.now _
-    c.check-answer.ensures c.in_default.not-Done
+    c.check.ensures c.in_err-check.was _ c.from_residual.ensures.1
 
 pub returns-then-domain-ge-DOMAINS : goal.returns-then-domain-ge-DOMAINS
 returns-then-domain-ge-DOMAINS c =
     let args = c.args in
     tests-name (tests-domain_write args.domain args.address args.value) args.state.now
     args.log.now
-    (done-case _ _ c.check-answer.ensures c.in-Done.is) (le-ltb _ 2 c.if-domain-ge-DOMAINS.true)
+    (passed-case _ _ c.check.ensures c.in_ok-check.was) (le-ltb _ 2 c.if-domain-ge-DOMAINS.true)
 
 pub returns-then-not-address_legal : goal.returns-then-not-address_legal
 returns-then-not-address_legal c =
     let args = c.args in
     tests-address (tests-domain_write args.domain args.address args.value) args.state.now
     args.log.now
-    (done-case _ _ c.check-answer.ensures c.in-Done.is)
+    (passed-case _ _ c.check.ensures c.in_ok-check.was)
     (lt-ltb args.domain 2 (omega (arith, c.if-domain-ge-DOMAINS.false)))
     (sym c.address_legal.ensures ∙ c.if-not-address_legal.true)
 
 pub write_done-n-requires : goal.write_done-n-requires
 write_done-n-requires c =
-    let none = done-case _ _ c.check-answer.ensures c.in-Done.is in (
+    let none = passed-case _ _ c.check.ensures c.in_ok-check.was in (
       passed-state true _ _ none,
       passed-log true _ _ none,
       subst Within (sym c.word_at.ensures) (word-within _),
@@ -56,7 +56,7 @@ overflow_cast-result c = omega (arith, c.write_done-n.ensures.0)
 pub returns : goal.returns
 returns c =
     let args = c.args in
-    let none = done-case _ _ c.check-answer.ensures c.in-Done.is in
+    let none = passed-case _ _ c.check.ensures c.in_ok-check.was in
     let child = eqb args.domain 1 in
     domain_write-done args.state.now args.log.now none args.domain args.address
     (omega (arith, c.if-domain-ge-DOMAINS.false))

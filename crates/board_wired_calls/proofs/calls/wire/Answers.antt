@@ -3,30 +3,29 @@ use mathlib.Core.Path.{refl, sym, ◌∙◌}
 use mathlib.Core.Bool.{true}
 use native.Mathlib.Omega.{arith}
 use borrow.Author.Tests.{not-false}
-use Rattle.board_call.proofs.AnswerLaws.{done-case}
+use Rattle.board_call.proofs.AnswerLaws.{passed-case}
 use Rattle.board_call.proofs.RefusalLaws.{passed-state, passed-log, passed-rules}
 use Rattle.board_call_laws.proofs.WiredCallEffects.{wire-low, wire-high, tests-wire, wire-done}
 use Rattle.board_call_laws.proofs.CallTests.{tests-blocks, tests-name}
 use Rattle.board_wired_calls.proofs.calls.wire.Goals as goal
 
-pub returns-in_default : goal.returns-in_default
-returns-in_default c =
+pub returns-in_err-check : goal.returns-in_err-check
+returns-in_err-check c =
     let args = c.args in
     tests-blocks (tests-wire args.wire args.level) args.state.now args.log.now _
-    c.check-answer.ensures
-    c.in_default.not-Done
+    c.check.ensures c.in_err-check.was _ c.from_residual.ensures.1
 
 pub returns-then-not-is_wire : goal.returns-then-not-is_wire
 returns-then-not-is_wire c =
     let args = c.args in
     tests-name (tests-wire args.wire args.level) args.state.now args.log.now
-    (done-case _ _ c.check-answer.ensures c.in-Done.is)
+    (passed-case _ _ c.check.ensures c.in_ok-check.was)
     (sym c.is_wire.ensures ∙ c.if-not-is_wire.true)
 
 pub wire_done-n-requires : goal.wire_done-n-requires
 wire_done-n-requires c =
     let args = c.args in
-    let none = done-case _ _ c.check-answer.ensures c.in-Done.is in
+    let none = passed-case _ _ c.check.ensures c.in_ok-check.was in
     let there = sym c.is_wire.ensures ∙ c.if-not-is_wire.false in (
       passed-state true _ _ none,
       passed-log true _ _ none,
@@ -41,7 +40,7 @@ overflow_cast-result c = omega (arith, c.wire_done-n.ensures.0)
 pub returns : goal.returns
 returns c =
     let args = c.args in
-    let none = done-case _ _ c.check-answer.ensures c.in-Done.is in
+    let none = passed-case _ _ c.check.ensures c.in_ok-check.was in
     wire-done args.state.now args.log.now none
     args.wire args.level (sym c.is_wire.ensures ∙ c.if-not-is_wire.false) _ _ _
     (c.wire_done-n.auto.state ∙ passed-state true _ _ none) c.wire_done-n.ensures.1
