@@ -7,7 +7,7 @@ ghost use Rattle.board_block.specs.Block.{with_files, board_of};
 ghost use Rattle.board_call.specs.Numbers.{is_file};
 
 use board_call::is_file;
-use file::{File, Reply};
+use file::File;
 use sizes::{FILES_SIZE, HART_FILES};
 
 // There is such a file, and such a kind of access.
@@ -41,11 +41,11 @@ pub fn store_file(state: &mut [u32], hart: u64, file: u64, f: File)
 }
 
 // The value that a register access answers, 0 for an illegal one.
-pub fn value_of(answer: Reply) -> u64
+pub fn value_of(answer: Option<u64>) -> u64
     ensures { result ≡ reply_value answer }
 {
     match answer {
-        Reply::Value(v) => v,
-        Reply::Illegal => 0,
+        Some(v) => v,
+        None => 0,
     }
 }
