@@ -1,7 +1,7 @@
 -- Laws of specs/Pending.antt, one for each case. No contract cites this file. Assumes nothing.
 use Prim.Native.Nat.{ℕ}
 use mathlib.Core.Path.{◌≡◌, ◌∙◌}
-use mathlib.Core.Bool.{Bool, true, false, not, ◌&&◌, ◌||◌, and_assoc, and-false, or-false}
+use mathlib.Core.Bool.{Bool, true, false, not, ◌&&◌, ◌||◌, and_assoc, and-false}
 use Rattle.source.specs.declared.Source.{Source}
 use Rattle.source_mode.specs.Mode.{is_active, is_level, is_rectified}
 use Rattle.source_target.specs.Target.{start_target, kept_target}
@@ -29,28 +29,9 @@ module _ (s : Source) (m : Bool) where
   unfolding pended
   pended-inactive wire a = simp a
 
-  pub pended-other : (wire : Bool) → is_active s.mode ≡ true → is_level s.mode ≡ false
-      → pended s m wire ≡ with_pending s true
-  unfolding pended
-  pended-other wire a l = simp (a, l)
-
-  pub pended-messages : (wire : Bool) → is_active s.mode ≡ true → is_level s.mode ≡ true → m ≡ true
-      → pended s m wire ≡ with_pending s (s.pending || is_rectified s.mode wire)
-  unfolding pended
-  pended-messages wire a l e = simp (a, l, e)
-
-  pub pended-direct : (wire : Bool) → is_active s.mode ≡ true → is_level s.mode ≡ true → m ≡ false
-      → pended s m wire ≡ s
-  unfolding pended
-  pended-direct wire a l e = simp (a, l, e, or-false)
-
   pub cleared-other : is_level s.mode ≡ false → cleared s m ≡ with_pending s false
   unfolding cleared
   cleared-other l = simp l
-
-  pub cleared-messages : is_level s.mode ≡ true → m ≡ true → cleared s m ≡ with_pending s false
-  unfolding cleared
-  cleared-messages l e = simp (l, e)
 
   pub cleared-direct : is_level s.mode ≡ true → m ≡ false → cleared s m ≡ s
   unfolding cleared

@@ -18,71 +18,58 @@ pub const LEVEL1: u32 = 6;
 
 pub const LEVEL0: u32 = 7;
 
+#[tactic(auto, unfolding(crate::specs::Mode::is_active))]
 pub fn active(mode: u32) -> bool
     ensures { result ≡ is_active mode }
 {
-    if mode == 0 {
-        return false;
-    }
-    mode < DELEGATED_WORD
+    mode != 0 && mode < DELEGATED_WORD
 }
 
+#[tactic(auto, unfolding(crate::specs::Mode::is_level))]
 pub fn level(mode: u32) -> bool
     ensures { result ≡ is_level mode }
 {
-    if mode == LEVEL1 {
-        return true;
-    }
-    mode == LEVEL0
+    matches!(mode, LEVEL1 | LEVEL0)
 }
 
 // Edge1 and Level1 are high with the wire, Edge0 and Level0 while it is low, and no other mode ever is.
+#[tactic(auto, unfolding(crate::specs::Mode::is_rectified))]
 pub fn rectified(mode: u32, wire: bool) -> bool
     ensures { result ≡ is_rectified mode wire }
 {
-    if mode == EDGE1 {
-        return wire;
+    match mode {
+        EDGE1 | LEVEL1 => wire,
+        EDGE0 | LEVEL0 => !wire,
+        _ => false,
     }
-    if mode == LEVEL1 {
-        return wire;
-    }
-    if mode == EDGE0 {
-        return !wire;
-    }
-    if mode == LEVEL0 {
-        return !wire;
-    }
-    false
 }
 
+#[tactic(auto, unfolding(crate::specs::Mode::kept_mode))]
 pub fn kept_mode(value: u32) -> u32
     ensures { result ≡ kept_mode value }
 {
-    let mode = words::field32(value, 0, 3);
-    if mode == 2 {
-        return 0;
+    match words::field32(value, 0, 3) {
+        2 | 3 => 0,
+        mode => mode,
     }
-    if mode == 3 {
-        return 0;
-    }
-    mode
 }
 
 // What a sourcecfg write stores. `has` says that the child has the source.
+#[tactic(auto, unfolding(crate::specs::Mode::source_word))]
 pub fn source_word(child: bool, has: bool, value: u32) -> u32
     ensures { result ≡ source_word child has value }
 {
-    if words::has_bit(value, DELEGATED_BIT) {
-        if child {
-            return 0;
-        }
-        return DELEGATED_WORD;
-    }
+    let delegates = words::has_bit(value, DELEGATED_BIT);
     if child {
-        if has {
-            return kept_mode(value);
-        }
-        return 0;
+        return if has && !delegates {
+            kept_mode(value)
+        } else {
+            0
+        };
     }
-    kept_mode(value)
+    if delegates {
+        DELEGATED_WORD
+    } else {
+        kept_mode(value)
+    }
 }

@@ -4,6 +4,7 @@ use Prim.Native.Nat.{ℕ, ◌+◌, ◌*◌, ◌/◌, ◌%◌, ◌^◌, ◌≤◌
 use mathlib.Core.Path.{◌≡◌, refl, sym, ap, ◌∙◌}
 use mathlib.Core.Bool.{Bool, true, false, not, ◌&&◌, ◌||◌, cond, and-true, and-false, false≢true}
 use mathlib.Core.Logic.{◌≢◌, ◌⊎◌, inl, inr, ⊎_elim}
+use native.Mathlib.Decide.{ℕ_discrete}
 use native.Mathlib.Omega.{arith}
 use lib.Bits.{bit_and, bit_or, and_high, and_zero_r}
 use lib.Dec.{eqb}
@@ -29,12 +30,19 @@ module _ (m : ℕ) where
   pub mode-large : 7 < m → eqb m (kept_mode m) ≡ false
   mode-large h = ne_eqb m (kept_mode m) (λ e. omega (arith, kept-lt m))
 
-  pub mode-reserved : (m ≡ 2) ⊎ (m ≡ 3) → eqb m (kept_mode m) ≡ false
-  mode-reserved h =
+  reserved : (m ≡ 2) ⊎ (m ≡ 3) → eqb m (kept_mode m) ≡ false
+  reserved h =
       let field : (field_of m 0 3 ≡ 2) ⊎ (field_of m 0 3 ≡ 3) =
       ⊎_elim (λ e. inl (omega (arith, low))) (λ e. inr (omega (arith, low))) h in
       ne_eqb m (kept_mode m) (λ e. ⊎_elim (λ a. omega (arith, kept_reserved m field))
       (λ a. omega (arith, kept_reserved m field)) h)
+
+  pub mode-reserved : 2 ≤ m → m < 4 → eqb m (kept_mode m) ≡ false
+  mode-reserved l h = at (ℕ_discrete m 2)
+    where
+      at : Dec (m ≡ 2) → eqb m (kept_mode m) ≡ false
+      at (yes e) = reserved (inl e)
+      at (no n) = reserved (inr (omega (arith, n)))
 
   pub mode-legal : m ≤ 7 → m ≢ 2 → m ≢ 3 → eqb m (kept_mode m) ≡ true
   mode-legal h a b =

@@ -21,38 +21,23 @@ const GUEST: u32 = 0x3000;
 pub fn mode_fault(mode: u32) -> u32
     ensures { eqb result 0 ≡ eqb mode (kept_mode mode) }
 {
-    if LEVEL0 < mode {
-        return 1;
+    match mode {
+        0 | 1 | 4..=LEVEL0 => 0,
+        _ => 1,
     }
-    if mode == 2 {
-        return 1;
-    }
-    if mode == 3 {
-        return 1;
-    }
-    0
 }
 
 fn priority_fault(messages: bool, target: u32) -> u32
     ensures { eqb result 0 ≡ (messages || not (eqb (number_of target) 0)) }
 {
-    if messages {
-        return 0;
-    }
-    if source_target::number_of(target) == 0 {
-        return 1;
-    }
-    0
+    u32::from(!messages && source_target::number_of(target) == 0)
 }
 
 // Only the child's messages have a guest index.
 fn barred_guest(child: bool, messages: bool) -> u32
     ensures { result ≡ cond (child && messages) 0 12288 }
 {
-    if child & messages {
-        return 0;
-    }
-    GUEST
+    if child & messages { 0 } else { GUEST }
 }
 
 pub fn target_fault(child: bool, messages: bool, target: u32) -> u32
