@@ -41,6 +41,10 @@ module _ (wire : Bool) where
   rectified-inverted m =
       ⊎_elim (λ e. ap (λ (k : ℕ). is_rectified k wire) e) (λ e. ap (λ (k : ℕ). is_rectified k wire) e)
 
+  pub rectified-low : (m : ℕ) → m ≢ 4 → m ≢ 6 → m ≢ 5 → m ≢ 7 → is_rectified m wire ≡ false
+  unfolding is_rectified
+  rectified-low m a b c d = simp (ne_eqb m 4 a, ne_eqb m 6 b, ne_eqb m 5 c, ne_eqb m 7 d)
+
 module _ (v : ℕ) where
   pub kept_reserved : (field_of v 0 3 ≡ 2) ⊎ (field_of v 0 3 ≡ 3) → kept_mode v ≡ 0
   unfolding kept_mode
