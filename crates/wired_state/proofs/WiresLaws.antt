@@ -1,7 +1,7 @@
 -- Laws of specs/Wires.antt: a domain's part lent and put back is that domain replaced. No contract cites this
 -- file.
 -- Assumes nothing.
-use Prim.Native.Nat.{ℕ, ◌/◌, ◌%◌, ◌<◌}
+use Prim.Native.Nat.{ℕ, ◌+◌, ◌/◌, ◌%◌, ◌≤◌, ◌<◌}
 use mathlib.Core.Path.{◌≡◌, refl, sym, ap, ◌∙◌}
 use mathlib.Core.Bool.{Bool, true, false}
 use mathlib.Core.List.{List, [], ◌∷◌, ◌++◌, append_assoc}
@@ -15,7 +15,7 @@ use Rattle.words.proofs.SegmentLaws.{segment-long}
 use Rattle.words.proofs.SetsLaws.{put_word}
 use Rattle.domain.specs.Domain.{Domain, domain_of}
 use Rattle.domain.specs.Slot.{source_at}
-use Rattle.wired_state.specs.Wires.{Wired, wired_of, domain_in, with_domain, is_delegated, with_wires}
+use Rattle.wired_state.specs.Wires.{Wired, wired_of, place_of, domain_in, with_domain, is_delegated, with_wires}
 use Rattle.sizes.specs.Sizes.{child_place, domain_size, wired_size}
 
 -- two controllers are equal if their parts are
@@ -79,27 +79,45 @@ module _ (l : List ℕ) (long : length l ≡ wired_size) where
       sym (ap (take 2) (drop-cons l 0 0 (omega arith))
       ∙ ap (λ (x : List ℕ). get_or l 0 0 ∷ take 1 x) (drop-cons l 1 0 (omega arith)))
 
--- ---- both parts lent, one after the other
+-- ---- a domain's words, lent from where they begin
 
-module _ (l ys : List ℕ) (long : length l ≡ wired_size) (part : length ys ≡ domain_size) where
-  pub put-long : length (take 2 l ++ (ys ++ drop domain_size (drop 2 l))) ≡ wired_size
-  put-long = simp (length-append, length-take, length-drop) (omega arith)
+place-within : (c : Bool) → place_of c + domain_size ≤ wired_size
+place-within true = omega arith
+place-within false = omega arith
 
-  pub second-part : domain_of
-      (take domain_size (drop child_place (take 2 l ++ (ys ++ drop domain_size (drop 2 l))))) ≡
-      (wired_of l).child
-  second-part =
-      child-part (take 2 l ++ (ys ++ drop domain_size (drop 2 l))) put-long
-      ∙ ap (λ (w : Wired). w.child) (put-machine l ys long part)
+pub part-read : (l : List ℕ) (c : Bool)
+    → domain_of (take domain_size (drop (place_of c) l)) ≡ domain_in (wired_of l) c
+unfolding domain_in wired_of
+part-read l true = refl
+part-read l false = refl
 
-  pub both-put : (zs : List ℕ) → length zs ≡ domain_size
-      → wired_of (take child_place (take 2 l ++ (ys ++ drop domain_size (drop 2 l)))
-      ++ (zs ++ drop domain_size (drop child_place (take 2 l ++ (ys ++ drop domain_size (drop 2 l))))))
-      ≡ record { wires = (wired_of l).wires; machine = domain_of ys; child = domain_of zs }
-  both-put zs rest =
-      put-child (take 2 l ++ (ys ++ drop domain_size (drop 2 l))) zs put-long rest
-      ∙ ap (λ (w : Wired). record { wires = w.wires; machine = w.machine; child = domain_of zs })
-      (put-machine l ys long part)
+part-put : (l ys : List ℕ) (c : Bool) → length l ≡ wired_size → length ys ≡ domain_size
+    → wired_of (take (place_of c) l ++ (ys ++ drop domain_size (drop (place_of c) l)))
+    ≡ with_domain (wired_of l) c (domain_of ys)
+unfolding with_domain
+part-put l ys true = put-child l ys
+part-put l ys false = put-machine l ys
+
+-- what the lender is afterwards: before, in front of it; behind, what begins with it
+module _ (l : List ℕ) (c : Bool) {from : ℕ} (at : from ≡ place_of c) {behind : List ℕ}
+    (rest : behind ≡ drop from l) where
+  pub part-lent : (part : List ℕ) → part ≡ take domain_size behind
+      → domain_of part ≡ domain_in (wired_of l) c
+  part-lent part e = rw (e, rest, at) (part-read l c)
+
+  pub part-back : length l ≡ wired_size → (before ys : List ℕ) → before ≡ take from l
+      → length (ys ++ drop domain_size behind) ≡ length behind → {d : Domain} → domain_of ys ≡ d
+      → wired_of (before ++ (ys ++ drop domain_size behind)) ≡ with_domain (wired_of l) c d
+  part-back long before ys front same e =
+      let within = place-within c in
+      let here : length ys ≡ domain_size =
+      omega (
+        arith,
+        length-append ys (drop domain_size behind),
+        length-drop domain_size behind,
+        ap length rest ∙ length-drop from l,
+      ) in
+      rw (front, rest, at, ← e) (part-put l ys c long here)
 
 -- ---- a wire
 

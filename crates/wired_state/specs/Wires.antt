@@ -3,6 +3,7 @@
 --   Wired                    wires: the levels of wires 1 to 63, a set; machine: the machine domain; child
 --   wired_of l               the controller whose words are l: 2 of wires, 144 of the machine domain, 144 of
 --                            the child
+--   place_of c               where the words of that domain begin
 --   domain_in w c            the child (c), or the machine domain
 --   with_domain w c d        w with that domain as d
 --   is_delegated w i         source i is delegated: the machine domain's sourcecfg says so
@@ -34,6 +35,9 @@ wired_of l =
     }
 
 -- ---- one of the two domains
+
+abbrev pub place_of : Bool → ℕ
+place_of c = cond c child_place machine_place
 
 unfoldable pub domain_in : Wired → Bool → Domain
 domain_in w c = cond c w.child w.machine

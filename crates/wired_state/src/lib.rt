@@ -4,5 +4,5 @@
 mod state;
 mod wire;
 
-pub use state::{delegated, wires};
+pub use state::{delegated, domain_part, place_of, store_source, wires};
 pub use wire::set_wire;

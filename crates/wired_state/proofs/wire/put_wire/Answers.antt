@@ -3,6 +3,4 @@ use Rattle.wired_state.proofs.WiresLaws.{wire-put}
 use Rattle.wired_state.proofs.wire.put_wire.Goals as goal
 
 pub returns : goal.returns
-returns c =
-    wire-put c.args.w.now c.args.i _ c.args.level c.requires.1
-    c.put_bit.ensures
+returns c = wire-put c.args.w.now c.args.i _ c.args.level c.requires c.put_bit.ensures
