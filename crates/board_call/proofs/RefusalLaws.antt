@@ -123,6 +123,18 @@ module _ (t : Tests) (b : Board) where
       unfolding name_refusal_by name_tests first_failed
       numbers-name s = simp (n, a, s)
 
+-- where no test of the numbers fails
+module _ (t : Tests) (b : Board) (z : name_refusal_by t b ≡ 0) where
+  pub accepted-address : t.address ≡ true
+  accepted-address =
+      tested t.address (λ y. y)
+      (λ n. absurd (omega (arith, refused-address t b (accepted-present t b z) n, z)))
+
+  pub accepted-select : t.select ≡ true
+  accepted-select =
+      tested t.select (λ y. y)
+      (λ n. absurd (omega (arith, refused-select t b (accepted-present t b z) accepted-address n, z)))
+
 -- ---- of both
 
 module _ (t : Tests) (l g : List ℕ) where

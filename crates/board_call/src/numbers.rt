@@ -1,18 +1,26 @@
-// Which numbers name something.
-ghost use Rattle.std.specs.Prelude.{◌≡◌};
+// Which numbers name something, and the refusals of those that do not.
+ghost use Rattle.std.specs.Prelude.{◌≡◌, cond, ltb, Ok, Err};
 ghost use Rattle.board_call.specs.Numbers.{is_wire, is_file, is_guest_file, is_move, is_page_address};
+ghost use Rattle.board_call.specs.Answer.{Refuses};
+ghost use Rattle.board_call.specs.Calls.{numbered};
 ghost use Rattle.board_call.specs.Change.{kind_of};
+ghost use Rattle.board_call.specs.Refusal.{name_refusal_by};
+ghost use Rattle.board_call.specs.declared.Refusal.TheVariants.{NoSuch};
+ghost use Rattle.board_block.specs.Block.{Board};
 
+use super::Refusal;
 use board_move_steps::ACCESSES;
 use file::Access;
 use sizes::{FIRST_GUEST, HART_COUNT, HART_FILES, SOURCE_COUNT};
 
+#[tactic(auto, unfolding(crate::specs::Numbers::is_wire))]
 pub fn is_wire(wire: u64, level: u64) -> bool
     ensures { result ≡ is_wire wire level }
 {
     (1 <= wire) & (wire <= SOURCE_COUNT as u64) & (level <= 1)
 }
 
+#[tactic(auto, unfolding(crate::specs::Numbers::is_file))]
 pub fn is_file(hart: u64, file: u64) -> bool
     ensures { result ≡ is_file hart file }
 {
@@ -20,6 +28,7 @@ pub fn is_file(hart: u64, file: u64) -> bool
 }
 
 // Files 2 to 4 are the guests'.
+#[tactic(auto, unfolding(crate::specs::Numbers::is_guest_file))]
 fn is_guest_file(hart: u64, file: u64) -> bool
     ensures { result ≡ is_guest_file hart file }
 {
@@ -27,6 +36,7 @@ fn is_guest_file(hart: u64, file: u64) -> bool
 }
 
 // Two different guest files, and one of the 89 accesses.
+#[tactic(auto, unfolding(crate::specs::Numbers::is_move))]
 pub fn is_move(oldhart: u64, oldfile: u64, newhart: u64, newfile: u64, access: u64) -> bool
     ensures { result ≡ is_move oldhart oldfile newhart newfile access }
 {
@@ -38,24 +48,39 @@ pub fn is_move(oldhart: u64, oldfile: u64, newhart: u64, newfile: u64, access: u
 }
 
 // A file's page has 4,096 bytes.
+#[tactic(auto, unfolding(crate::specs::Numbers::is_page_address))]
 pub fn is_page_address(address: u64) -> bool
     ensures { result ≡ is_page_address address }
 {
     (address % 4 == 0) & (address < 4096)
 }
 
-// Reading is 0, writing 1, setting bits 2 and clearing them 3.
-pub fn kind_of(kind: u64) -> Access
-    ensures { result ≡ kind_of kind }
+// Reading is 0, writing 1, setting bits 2 and clearing them 3; there is no other kind.
+#[tactic(auto, unfolding(crate::specs::Change::kind_of))]
+pub fn kind_of(kind: u64) -> Result<Access, Refusal>
+    ensures { result ≡ cond (ltb kind 4) (Ok (kind_of kind)) (Err NoSuch) }
 {
-    if kind == 0 {
-        return Access::Read;
+    match kind {
+        0 => Ok(Access::Read),
+        1 => Ok(Access::Write),
+        2 => Ok(Access::Set),
+        3 => Ok(Access::Clear),
+        _ => Err(Refusal::NoSuch),
     }
-    if kind == 1 {
-        return Access::Write;
+}
+
+// Refusal 4, 5 or 6: of what a call names, of its address, of its select number.
+pub fn check_numbers(names: bool, address: bool, select: bool) -> Result<(), Refusal>
+    ensures { (b : Board) → Refuses result (name_refusal_by (numbered names address select) b) }
+{
+    if !names {
+        return Err(Refusal::NoSuch);
     }
-    if kind == 2 {
-        return Access::Set;
+    if !address {
+        return Err(Refusal::BadAddress);
     }
-    Access::Clear
+    if !select {
+        return Err(Refusal::IllegalSelect);
+    }
+    Ok(())
 }

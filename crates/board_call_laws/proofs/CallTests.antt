@@ -7,27 +7,26 @@
 use Prim.Native.Nat.{ℕ}
 use mathlib.Core.Path.{◌≡◌, refl, sym, ap, subst, ◌∙◌}
 use mathlib.Core.Bool.{Bool, true, false}
-use mathlib.Core.List.{List, []}
+use mathlib.Core.List.{List, [], ◌∷◌}
 use lib.ListN.{length}
 use Rattle.domain_sending.specs.Sending.{logged}
 use Rattle.domain_sending.proofs.SendingLaws.{logged_none}
 use Rattle.wired.specs.Controller.{Out}
 use Rattle.board_block.specs.Block.{Board, board_of, board_sound}
-use Rattle.std.proofs.Common.{Result, Err}
+use Rattle.std.proofs.Common.{Result, Ok, Err}
 use Rattle.std.proofs.lemmas.Result.{err_from_is_err_and}
 use Rattle.std.specs.Result.{IsErrAnd}
 use Rattle.board_call.specs.declared.Refusal.{Refusal}
-use Rattle.board_call.specs.declared.Refusal.TheVariants.{NoSuch, BadAddress, IllegalSelect}
+use Rattle.board_call.specs.declared.Refusal.TheVariants.{NoSuch}
 use Rattle.board_call.specs.declared.Call.{Call}
 use Rattle.board_call.specs.Answer.{Answer, done_with, Refuses}
-use Rattle.board_call.specs.Calls.{Tests, tests_rules, present, addressed, selected, row_of}
-use Rattle.board_call.specs.Refusal.{block_refusal, name_refusal}
+use Rattle.board_call.specs.Calls.{Tests, numbered, tests_rules, present, addressed, selected, row_of}
+use Rattle.board_call.specs.Refusal.{first_failed, block_refusal, name_tests, name_refusal_by, name_refusal}
 use Rattle.board_call.specs.Outcome.{Stepped, step, outcome, Gives, Does}
-use Rattle.board_call.proofs.AnswerLaws.{failed-case}
-use Rattle.board_call.proofs.RefusalLaws.{passed-state, passed-rules, numbers-name}
-use Rattle.board_call_laws.proofs.OutcomeEffects.{gives-blocks, gives-name, gives-address}
-use Rattle.board_call_laws.proofs.OutcomeEffects.{gives_select}
-use Rattle.board_call_laws.proofs.OutcomeEffects.{gives-done}
+use Rattle.board_call.proofs.AnswerLaws.{passed-case, failed-case}
+use Rattle.board_call.proofs.RefusalLaws.{passed-state, passed-rules, numbers-name, refused-name}
+use Rattle.board_call.proofs.RefusalLaws.{accepted-present, accepted-address, accepted-select}
+use Rattle.board_call_laws.proofs.OutcomeEffects.{gives-blocks, gives-numbers, gives-done}
 use Rattle.board_call_laws.proofs.StepEffects.{wired_step}
 use Rattle.sizes.specs.Sizes.{block_size}
 
@@ -70,16 +69,40 @@ module _ {c : Call} {n : Board → Bool} {a s : Bool} (t : Tested c n a s) (l g 
     passed = by-rules ∙ z
 
     pub tests-name : n (board_of l) ≡ false → Does c l g (Err NoSuch) l g
-    tests-name x = gives-name c l g passed (named (board_of l) ∙ x)
+    tests-name x =
+        gives-numbers c l g passed NoSuch
+        (sym (refused-name (row_of c).tests (board_of l) (named (board_of l) ∙ x)))
+
+    -- the numbers were tested with m, d and k, and r is what the test answered
+    module _ {m d k : Bool} (x : m ≡ n (board_of l)) (y : d ≡ a) (w : k ≡ s) (r : Result Unit Refusal)
+        (said : (b : Board) → Refuses r (name_refusal_by (numbered m d k) b)) where
+      by-numbers : name_refusal_by (numbered m d k) (board_of l) ≡ name_refusal c (board_of l)
+      unfolding name_refusal_by name_tests
+      by-numbers = λ i. first_failed (
+        record { number = 4; passed = (x ∙ sym (named (board_of l))) i }
+        ∷ record { number = 5; passed = (y ∙ sym at_address) i }
+        ∷ record { number = 6; passed = (w ∙ sym at-select) i }
+        ∷ []
+      )
+
+      -- the call returns its refusal by `?`
+      pub tests-failed : {e : Refusal} → r ≡ Err e → (q : Answer) → IsErrAnd q (λ y. y ≡ e) → Does c l g q l g
+      tests-failed failed q back =
+          let p = err_from_is_err_and q back in
+          rw (p.1, p.2)
+          (gives-numbers c l g passed _ (failed-case r _ (said (board_of l)) failed ∙ by-numbers))
+
+      pub tests-passed : {u : Unit} → r ≡ Ok u → (n (board_of l) ≡ true) × (a ≡ true) × (s ≡ true)
+      tests-passed done =
+          let b = board_of l in
+          let z = passed-case r _ (said b) done in
+          let t = numbered m d k in (
+            sym x ∙ accepted-present t b z,
+            sym y ∙ accepted-address t b z,
+            sym w ∙ accepted-select t b z,
+          )
 
     module _ (x : n (board_of l) ≡ true) where
-      pub tests-address : a ≡ false → Does c l g (Err BadAddress) l g
-      tests-address y = gives-address c l g passed (named (board_of l) ∙ x) (at_address ∙ y)
-
-      pub tests-select : a ≡ true → s ≡ false → Does c l g (Err IllegalSelect) l g
-      tests-select y w =
-          gives_select c l g passed (named (board_of l) ∙ x) (at_address ∙ y) (at-select ∙ w)
-
       tests-numbers : a ≡ true → s ≡ true → name_refusal c (board_of l) ≡ 0
       tests-numbers y w = numbers-name (row_of c).tests (board_of l) (named (board_of l) ∙ x) (at_address ∙ y)
           (at-select ∙ w)

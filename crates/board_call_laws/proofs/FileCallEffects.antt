@@ -3,14 +3,14 @@
 --   only_file b k f    the board b with f as file number k
 use Prim.Native.Nat.{ℕ, ◌+◌, ◌*◌, ◌<◌}
 use mathlib.Core.Path.{◌≡◌, refl, sym, ap, ap₂, ◌∙◌}
-use mathlib.Core.Bool.{Bool, true, ◌&&◌}
+use mathlib.Core.Bool.{Bool, true, false, cond, ◌&&◌}
 use mathlib.Core.List.{List}
 use native.Mathlib.Nat.{mod-eq_of_lt, mul-add-mod_self_left}
 use native.Mathlib.Omega.{arith}
 use lib.Dec.{ltb, leb}
 use lib.ListN.{length, take}
 use borrow.Author.Tests.{ltb-true}
-use Rattle.words.proofs.TestsLaws.{and_first, and_second}
+use Rattle.words.proofs.TestsLaws.{tested, and_first, and_second}
 use Rattle.sizes.specs.Sizes.{identities, block_size, files_size, file_count}
 use Rattle.file_select.specs.Select.{select_legal}
 use Rattle.file.specs.declared.File.{File}
@@ -23,15 +23,24 @@ use Rattle.file.specs.Top.{top_of, claimed}
 use Rattle.files.specs.Files.{file_number, is_guest, files_of, the_file, with_file}
 use Rattle.board_block.specs.Block.{Board, with_files, board_of, board_sound}
 use Rattle.board_block.proofs.BlockLaws.{files-long, files-part, files_put, put-files}
-use Rattle.board_call.specs.Answer.{done_with}
+use Rattle.board_call.specs.Answer.{Answer, done_with, refusal_number}
+use Rattle.board_call.specs.declared.Refusal.{Refusal}
+use Rattle.board_call.specs.declared.Refusal.TheVariants.{NoSuch}
+use Rattle.std.proofs.Common.{Result, Ok, Err, Option, Some, None}
+use Rattle.std.proofs.lemmas.Result.{err_from_is_err_and}
+use Rattle.std.specs.Option.{unwrap_or}
+use Rattle.std.specs.Result.{IsErrAnd, result_unwrap_or}
+use Rattle.file.specs.declared.register.Access.TheVariants.{Read}
 use Rattle.board_call.specs.declared.Call.TheVariants.{PageRead, PageWrite, Register, Top, Claim}
 use Rattle.board_call.specs.Change.{kind_of, change}
 use Rattle.board_call.specs.Numbers.{is_file, is_page_address}
 use Rattle.board_call.specs.Calls.{row_of}
 use Rattle.board_call.specs.Refusal.{block_refusal}
 use Rattle.board_call.specs.Outcome.{step, Does}
+use Rattle.board_call.proofs.AnswerLaws.{refused-case}
 use Rattle.board_call_laws.proofs.StepEffects.{step-on_file, step-answering}
-use Rattle.board_call_laws.proofs.CallTests.{Tested, quiet, checked-long, checked-sound, tests-done}
+use Rattle.board_call_laws.proofs.CallTests.{Tested, quiet, checked-long, checked-sound, tests-name}
+use Rattle.board_call_laws.proofs.CallTests.{tests-done}
 
 -- ---- a file that is there
 
@@ -62,6 +71,36 @@ module _ (h f : ℕ) where
       → r ≡ accessed identities (is_guest (file_number h f)) x (kind_of kind) s v
   register-did there x kind s v a e r did =
       did ∙ ap₂ (λ (g : Bool) (b : Access). accessed identities g x b s v) (guest-file there) e
+
+-- ---- a kind of access
+
+abbrev refusal_or : Result Access Refusal → Refusal
+refusal_or (Ok a) = NoSuch
+refusal_or (Err e) = e
+
+module _ (kind : ℕ) (r : Result Access Refusal) (said : r ≡ cond (ltb kind 4) (Ok (kind_of kind)) (Err NoSuch)) where
+  there : ltb kind 4 ≡ true → r ≡ Ok (kind_of kind)
+  there t = said ∙ simp t
+
+  missing : ltb kind 4 ≡ false → r ≡ Err NoSuch
+  missing f = said ∙ simp f
+
+  pub kind-read : {a : Access} → r ≡ Ok a → (ltb kind 4 ≡ true) × (a ≡ kind_of kind)
+  kind-read p =
+      tested (ltb kind 4)
+      (λ t. (t, ap (λ (x : Result Access Refusal). result_unwrap_or x Read) (sym p ∙ there t)))
+      (λ f. absurd (omega (arith, ap refusal_number (sym p ∙ missing f))))
+
+  pub kind-none : {e : Refusal} → r ≡ Err e → (ltb kind 4 ≡ false) × (e ≡ NoSuch)
+  kind-none {e} p =
+      tested (ltb kind 4)
+      (λ t. absurd (refused-case e (ap refusal_number (sym p ∙ there t))))
+      (λ f. (f, ap refusal_or (sym p ∙ missing f)))
+
+-- the value of what an access answers
+pub value-or : (a : Option ℕ) → unwrap_or a 0 ≡ reply_value a
+value-or (Some v) = refl
+value-or None = refl
 
 -- ---- a file in the block
 
@@ -106,6 +145,21 @@ module _ (h f : ℕ) where
   pub tests-claim : Tested (Claim h f) (λ b. is_file h f) true true
   unfolding row_of
   tests-claim = record { row = refl }
+
+-- the kind is none, and the call returns the refusal by `?`
+pub register-no_kind : (l g : List ℕ) → block_refusal true l g ≡ 0 → (h f k s v : ℕ) (r : Result Access Refusal)
+    → r ≡ cond (ltb k 4) (Ok (kind_of k)) (Err NoSuch) → {e : Refusal} → r ≡ Err e → (q : Answer)
+    → IsErrAnd q (λ y. y ≡ e) → Does (Register h f k s v) l g q l g
+register-no_kind l g z h f k s v r said failed q back =
+    let p = err_from_is_err_and q back in
+    let none = kind-none k r said failed in
+    rw (p.1, p.2, none.1)
+    (tests-name (tests-register h f k s v) l g z
+    (tested (is_file h f) (λ t. simp (t, none.0)) (λ u. simp u)))
+
+-- the file that is named with a kind
+pub with-kind : (h f k : ℕ) → ltb k 4 ≡ true → (m : Bool) → m ≡ is_file h f → m ≡ (is_file h f && ltb k 4)
+with-kind h f k t m e = e ∙ tested (is_file h f) (λ u. simp (u, t)) (λ u. simp u)
 
 -- ---- what each call does to a sound board, where x is its file
 

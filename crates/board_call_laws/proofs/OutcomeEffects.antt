@@ -2,7 +2,6 @@
 -- file. Assumes nothing.
 use Prim.Native.Nat.{ℕ}
 use mathlib.Core.Path.{◌≡◌, refl, sym, ap, subst, ◌∙◌}
-use mathlib.Core.Bool.{true, false}
 use mathlib.Core.List.{List}
 use mathlib.Core.Logic.{◌≢◌}
 use lib.ListN.{length}
@@ -14,15 +13,13 @@ use Rattle.board_block.specs.Block.{Board, board_of, block_of}
 use Rattle.board_block_laws.proofs.BlockBack.{block_back}
 use Rattle.std.proofs.Common.{Err}
 use Rattle.board_call.specs.declared.Refusal.{Refusal}
-use Rattle.board_call.specs.declared.Refusal.TheVariants.{NoSuch, BadAddress, IllegalSelect}
 use Rattle.board_call.specs.declared.Call.{Call}
 use Rattle.board_call.specs.Answer.{done_with, number_of}
-use Rattle.board_call.specs.Calls.{Tests, tests_rules, present, addressed, selected, row_of}
+use Rattle.board_call.specs.Calls.{Tests, tests_rules, row_of}
 use Rattle.board_call.specs.Refusal.{block_refusal, name_refusal, refusal_of}
 use Rattle.board_call.specs.Outcome.{Stepped, step, Outcome, refused_as, done_as, outcome, Gives, Does}
 use Rattle.board_call.proofs.AnswerLaws.{refused-case}
-use Rattle.board_call.proofs.RefusalLaws.{refused-blocks, refused-numbers, refused-name, refused-address}
-use Rattle.board_call.proofs.RefusalLaws.{refused-select}
+use Rattle.board_call.proofs.RefusalLaws.{refused-blocks, refused-numbers}
 use Rattle.sizes.specs.Sizes.{block_size}
 
 module _ (c : Call) (l g : List ℕ) where
@@ -65,16 +62,9 @@ module _ (c : Call) (l g : List ℕ) where
     abbrev t : Tests
     t = (row_of c).tests
 
-    pub gives-name : present c b ≡ false → Does c l g (Err NoSuch) l g
-    gives-name n = gives-number c l g NoSuch (refused-numbers t l g z ∙ refused-name t b n)
-
-    pub gives-address : present c b ≡ true → addressed c ≡ false → Does c l g (Err BadAddress) l g
-    gives-address n a = gives-number c l g BadAddress (refused-numbers t l g z ∙ refused-address t b n a)
-
-    pub gives_select : present c b ≡ true → addressed c ≡ true → selected c ≡ false
-        → Does c l g (Err IllegalSelect) l g
-    gives_select n a s =
-        gives-number c l g IllegalSelect (refused-numbers t l g z ∙ refused-select t b n a s)
+    -- e is what the test of the numbers refused with
+    pub gives-numbers : (e : Refusal) → number_of e ≡ name_refusal c b → Does c l g (Err e) l g
+    gives-numbers e said = gives-number c l g e (refused-numbers t l g z ∙ sym said)
 
     -- an accepted call, from what its code left
     pub gives-done : name_refusal c b ≡ 0 → (s : List ℕ) (x : Stepped) → step c b s ≡ x

@@ -2,8 +2,9 @@
 ghost use Rattle.board_call.specs.declared.Call.TheVariants as the;
 ghost use Rattle.board_call.specs.Outcome.{Does};
 
-use super::block_file::{is_access, load_file, store_file, value_of};
-use board_call::{Answer, Done, Refusal, check};
+use super::block_file::{load_file, store_file};
+use board_call::{Answer, Done, check, check_numbers, is_file, kind_of};
+use file_select::select_legal;
 use sizes::FIRST_GUEST;
 
 // The kind is 0 for read, 1 for write, 2 for set bits, 3 for clear bits.
@@ -20,23 +21,13 @@ pub fn register(
         state.new log.new }
 {
     check(state, log)?;
-    if !is_access(hart, file, kind) {
-        return Err(Refusal::NoSuch);
-    }
-    if !file_select::select_legal(select) {
-        return Err(Refusal::IllegalSelect);
-    }
+    let access = kind_of(kind)?;
+    check_numbers(is_file(hart, file), true, select_legal(select))?;
     let f = load_file(state, hart, file);
-    let done = f.access(
-        FIRST_GUEST as u64 <= file,
-        board_call::kind_of(kind),
-        select,
-        value,
-    );
-    let answer = done.answer;
+    let done = f.access(FIRST_GUEST as u64 <= file, access, select, value);
     store_file(state, hart, file, done.file);
     Ok(Done {
-        value: value_of(answer),
+        value: done.answer.unwrap_or(0),
         count: 0,
     })
 }

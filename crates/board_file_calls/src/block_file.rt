@@ -1,21 +1,12 @@
 // One file of the block, by hart and file.
-ghost use Rattle.std.specs.Prelude.{◌≡◌, true, ◌&&◌, ltb, length};
+ghost use Rattle.std.specs.Prelude.{◌≡◌, true, length};
 ghost use Rattle.sizes.specs.Sizes.{block_size};
-ghost use Rattle.file.specs.Reply.{reply_value};
 ghost use Rattle.files.specs.Files.{file_number, the_file, with_file};
 ghost use Rattle.board_block.specs.Block.{with_files, board_of};
 ghost use Rattle.board_call.specs.Numbers.{is_file};
 
-use board_call::is_file;
 use file::File;
 use sizes::{FILES_SIZE, HART_FILES};
-
-// There is such a file, and such a kind of access.
-pub fn is_access(hart: u64, file: u64, kind: u64) -> bool
-    ensures { result ≡ (is_file hart file && ltb kind 4) }
-{
-    is_file(hart, file) & (kind < 4)
-}
 
 pub fn load_file(state: &[u32], hart: u64, file: u64) -> File
     requires { (length state.now ≡ block_size) × (is_file hart file ≡ true) }
@@ -38,14 +29,4 @@ pub fn store_file(state: &mut [u32], hart: u64, file: u64, f: File)
         (HART_FILES as u64 * hart + file) as usize,
         f,
     );
-}
-
-// The value that a register access answers, 0 for an illegal one.
-pub fn value_of(answer: Option<u64>) -> u64
-    ensures { result ≡ reply_value answer }
-{
-    match answer {
-        Some(v) => v,
-        None => 0,
-    }
 }

@@ -3,7 +3,7 @@ ghost use Rattle.board_call.specs.declared.Call.TheVariants as the;
 ghost use Rattle.board_call.specs.Outcome.{Does};
 
 use super::signal::all_signals;
-use board_call::{Answer, Done, Refusal, check, lengths};
+use board_call::{Answer, Done, check, check_numbers, lengths};
 use sizes::HART_COUNT;
 
 pub fn reset(state: &mut [u32], log: &mut [u32]) -> Answer
@@ -22,9 +22,7 @@ pub fn signals(state: &mut [u32], log: &mut [u32], hart: u64) -> Answer
         state.new log.new }
 {
     check(state, log)?;
-    if HARTS <= hart {
-        return Err(Refusal::NoSuch);
-    }
+    check_numbers(hart < HARTS, true, true)?;
     Ok(Done {
         value: all_signals(state, hart as usize) as u64,
         count: 0,

@@ -4,7 +4,7 @@ ghost use Rattle.board_call.specs.Outcome.{outcome, Gives};
 
 use super::acts::perform;
 use super::targets::by_messages;
-use board_call::{Answer, Done, Refusal, check, is_move};
+use board_call::{Answer, Done, check, check_numbers, is_move};
 use board_move_steps::act_of;
 use sizes::SAVED_SIZE;
 
@@ -24,12 +24,11 @@ pub fn make_access(
         state.new log.new saved.new }
 {
     check(state, log)?;
-    if !is_move(oldhart, oldfile, newhart, newfile, access) {
-        return Err(Refusal::NoSuch);
-    }
-    if !by_messages(state) {
-        return Err(Refusal::NoSuch);
-    }
+    check_numbers(
+        is_move(oldhart, oldfile, newhart, newfile, access) & by_messages(state),
+        true,
+        true,
+    )?;
     let act = act_of(access);
     perform(state, saved, oldhart, oldfile, newhart, newfile, act);
     Ok(Done { value: 0, count: 0 })

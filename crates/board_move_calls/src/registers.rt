@@ -7,7 +7,7 @@ ghost use Rattle.board_block.specs.Block.{board_of};
 ghost use Rattle.board_call.specs.Numbers.{is_guest_file};
 ghost use Rattle.board_call.specs.Move.{register_on, with_one};
 
-use board_file_calls::{load_file, store_file, value_of};
+use board_file_calls::{load_file, store_file};
 use file::{Access, Accessed};
 use sizes::SAVED_SIZE;
 
@@ -34,8 +34,7 @@ pub fn save(
         (reply_value (register_on (board_of state.now) hart file access.Read select 0).answer) }
 {
     let done = accessed(state, hart, file, Access::Read, select, 0);
-    let answer = done.answer;
-    saved[place] = value_of(answer);
+    saved[place] = done.answer.unwrap_or(0);
 }
 
 // A register is written, or bits of it are set or cleared.

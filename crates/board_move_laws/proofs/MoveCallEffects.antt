@@ -8,7 +8,6 @@ use mathlib.Core.List.{List}
 use lib.Dec.{leb, ltb}
 use lib.ListN.{length, get_or, set}
 use borrow.Author.Tests.{ltb-true, leb-true, lt-ltb, le-leb}
-use Rattle.std.proofs.Common.{Err}
 use Rattle.words.proofs.TestsLaws.{and_first, and_second, and_both}
 use Rattle.sizes.specs.Sizes.{identities, block_size}
 use Rattle.file.specs.declared.File.{File}
@@ -35,14 +34,13 @@ use Rattle.board_move_steps.specs.declared.Act.TheVariants.{Save, Zero, Target, 
 use Rattle.board_block.specs.Block.{Board, with_wired, board_of, board_sound}
 use Rattle.board_block_laws.proofs.BlockBack.{board_of-shaped}
 use Rattle.board_call.specs.Answer.{done_with}
-use Rattle.board_call.specs.declared.Refusal.TheVariants.{NoSuch}
 use Rattle.board_call.specs.declared.Call.TheVariants.{Move}
 use Rattle.board_call.specs.Numbers.{is_file, is_guest_file, is_move}
 use Rattle.board_call.specs.Calls.{row_of}
 use Rattle.board_call.specs.Refusal.{block_refusal}
 use Rattle.board_call.specs.Move.{register_on, with_one, retargeted_in, acted}
-use Rattle.board_call.specs.Outcome.{outcome, Gives, Does}
-use Rattle.board_call_laws.proofs.CallTests.{Tested, checked-long, checked-sound, tests-name}
+use Rattle.board_call.specs.Outcome.{outcome, Gives}
+use Rattle.board_call_laws.proofs.CallTests.{Tested, checked-long, checked-sound}
 use Rattle.board_call_laws.proofs.CallTests.{tests_left}
 use Rattle.board_call_laws.proofs.FileCallEffects.{guest-file}
 use Rattle.board_call_laws.proofs.FitEffects.{shaped-steady}
@@ -157,13 +155,7 @@ unfolding row_of
 tests-move oh of nh nf n = record { row = refl }
 
 module _ (l g : List ℕ) (z : block_refusal true l g ≡ 0) (oh of nh nf n : ℕ) where
-  pub move-unnamed : is_move oh of nh nf n ≡ false → Does (Move oh of nh nf n) l g (Err NoSuch) l g
-  move-unnamed f = tests-name (tests-move oh of nh nf n) l g z (simp f)
-
   module _ (there : is_move oh of nh nf n ≡ true) where
-    pub move-barred : by_messages (board_of l).wired.child ≡ false → Does (Move oh of nh nf n) l g (Err NoSuch) l g
-    move-barred f = tests-name (tests-move oh of nh nf n) l g z (simp (there, f))
-
     -- its code left the block l' and the saved numbers s'
     pub move-done : by_messages (board_of l).wired.child ≡ true → (a : Act) → a ≡ act_of n
         → (l' s s' : List ℕ) → length l' ≡ length l → Made a oh of nh nf (board_of l) s (board_of l') s'

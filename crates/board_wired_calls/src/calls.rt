@@ -1,11 +1,18 @@
 // The calls, with their refusals.
 ghost use Rattle.board_call.specs.declared.Call.TheVariants as the;
+ghost use Rattle.std.specs.Prelude.{true, ltb};
+ghost use Rattle.sizes.specs.Sizes.{domain_count};
+ghost use Rattle.domain_region.specs.Region.{address_legal};
+ghost use Rattle.board_block.specs.Block.{Board};
+ghost use Rattle.board_call.specs.Answer.{Refuses};
+ghost use Rattle.board_call.specs.Calls.{numbered};
 ghost use Rattle.board_call.specs.Outcome.{Does};
+ghost use Rattle.board_call.specs.Refusal.{name_refusal_by};
 
 use super::accepted_read::read_done;
 use super::accepted_wire::wire_done;
 use super::accepted_write::write_done;
-use board_call::{Answer, Done, Refusal, check};
+use board_call::{Answer, Done, Refusal, check, check_numbers};
 use domain_region::{address_legal, word_at};
 use sizes::DOMAIN_COUNT;
 
@@ -16,14 +23,20 @@ pub fn wire(state: &mut [u32], log: &mut [u32], wire: u64, level: u64) -> Answer
         state.new log.new }
 {
     check(state, log)?;
-    if !board_call::is_wire(wire, level) {
-        return Err(Refusal::NoSuch);
-    }
+    check_numbers(board_call::is_wire(wire, level), true, true)?;
     let n = wire_done(state, log, wire as usize, level == 1);
     Ok(Done {
         value: 0,
         count: n as u32,
     })
+}
+
+// There is such a domain, and such an address of its region.
+fn check_domain(domain: u64, address: u64) -> Result<(), Refusal>
+    ensures { (b : Board) → Refuses result (name_refusal_by
+        (numbered (ltb domain domain_count) (address_legal address) true) b) }
+{
+    check_numbers(domain < DOMAINS, address_legal(address), true)
 }
 
 // Domain 0 is the machine domain, 1 the child.
@@ -32,12 +45,7 @@ pub fn domain_read(state: &mut [u32], log: &mut [u32], domain: u64, address: u64
         state.new log.new }
 {
     check(state, log)?;
-    if DOMAINS <= domain {
-        return Err(Refusal::NoSuch);
-    }
-    if !address_legal(address) {
-        return Err(Refusal::BadAddress);
-    }
+    check_domain(domain, address)?;
     let value = read_done(state, domain == 1, word_at(address));
     Ok(Done {
         value: value as u64,
@@ -56,12 +64,7 @@ pub fn domain_write(
         state.new log.new }
 {
     check(state, log)?;
-    if DOMAINS <= domain {
-        return Err(Refusal::NoSuch);
-    }
-    if !address_legal(address) {
-        return Err(Refusal::BadAddress);
-    }
+    check_domain(domain, address)?;
     let n = write_done(state, log, domain == 1, word_at(address), value);
     Ok(Done {
         value: 0,

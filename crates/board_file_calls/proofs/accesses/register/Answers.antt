@@ -1,10 +1,10 @@
--- `board_file_calls::accesses::register` meets its contract: refused, or its file accessed and stored. The
--- file
--- is long because each of four ways out asks for the lengths of both blocks. Assumes nothing.
-use mathlib.Core.Path.{refl, sym, ◌∙◌}
+-- `board_file_calls::accesses::register` meets its contract: refused, or its file accessed and stored. Assumes
+-- nothing.
+use mathlib.Core.Path.{refl, ◌∙◌}
 use Rattle.words.proofs.TestsLaws.{and_first}
 use Rattle.board_call.proofs.AnswerLaws.{passed-case}
-use Rattle.board_call_laws.proofs.CallTests.{checked-long, tests-blocks, tests-name, tests-select}
+use Rattle.board_call_laws.proofs.CallTests.{checked-long, tests-blocks, tests-failed, tests-passed}
+use Rattle.board_call_laws.proofs.FileCallEffects.{kind-read, with-kind, register-no_kind, value-or}
 use Rattle.board_call_laws.proofs.FileCallEffects.{register-did, tests-register, register-done}
 use Rattle.board_file_calls.proofs.accesses.register.Goals as goal
 
@@ -12,40 +12,46 @@ pub returns-in_err-check : goal.returns-in_err-check
 returns-in_err-check c =
     tests-blocks (tests-register _ _ _ _ _) _ _ _ c.check.ensures c.in_err-check.was _ c.from_residual.ensures.1
 
-pub returns-then-not-is_access : goal.returns-then-not-is_access
-returns-then-not-is_access c =
+pub returns-in_err-access : goal.returns-in_err-access
+returns-in_err-access c =
     let none = passed-case _ _ c.check.ensures c.in_ok-check.was in
-    tests-name (tests-register _ _ _ _ _) _ _ none
-    (sym c.is_access.ensures ∙ c.if-not-is_access.true)
+    register-no_kind _ _ none _ _ _ _ _ _ c.kind_of.ensures c.in_err-access.was _
+    c.from_residual-in_err-access.ensures.1
 
-pub returns-then-not-select_legal : goal.returns-then-not-select_legal
-returns-then-not-select_legal c =
+pub returns-in_err-check_numbers : goal.returns-in_err-check_numbers
+returns-in_err-check_numbers c =
     let none = passed-case _ _ c.check.ensures c.in_ok-check.was in
-    tests-select (tests-register _ _ _ _ _) _ _ none
-    (sym c.is_access.ensures ∙ c.if-not-is_access.false) refl
-    (sym c.select_legal.ensures ∙ c.if-not-select_legal.true)
+    let kind = kind-read _ _ c.kind_of.ensures c.in_ok-access.was in
+    tests-failed (tests-register _ _ _ _ _) _ _ none (with-kind _ _ _ kind.0 _ c.is_file.ensures) refl
+    c.select_legal.ensures _ c.check_numbers.ensures c.in_err-check_numbers.was _
+    c.from_residual-in_err-check_numbers.ensures.1
 
 pub load_file-f-requires : goal.load_file-f-requires
 load_file-f-requires c =
-    let none = passed-case _ _ c.check.ensures c.in_ok-check.was in (
-      checked-long _ _ none,
-      and_first _ _ (sym c.is_access.ensures ∙ c.if-not-is_access.false),
-    )
+    let none = passed-case _ _ c.check.ensures c.in_ok-check.was in
+    let kind = kind-read _ _ c.kind_of.ensures c.in_ok-access.was in
+    let passed = tests-passed (tests-register _ _ _ _ c.args.value) _ _ none
+        (with-kind _ _ _ kind.0 _ c.is_file.ensures) refl c.select_legal.ensures _ c.check_numbers.ensures
+        c.in_ok-check_numbers.was in
+    (checked-long _ _ none, and_first _ _ passed.0)
 
 pub store_file-requires : goal.store_file-requires
 store_file-requires c =
-    let none = passed-case _ _ c.check.ensures c.in_ok-check.was in (
-      checked-long _ _ none,
-      and_first _ _ (sym c.is_access.ensures ∙ c.if-not-is_access.false),
-    )
+    let none = passed-case _ _ c.check.ensures c.in_ok-check.was in
+    let kind = kind-read _ _ c.kind_of.ensures c.in_ok-access.was in
+    let passed = tests-passed (tests-register _ _ _ _ c.args.value) _ _ none
+        (with-kind _ _ _ kind.0 _ c.is_file.ensures) refl c.select_legal.ensures _ c.check_numbers.ensures
+        c.in_ok-check_numbers.was in
+    (checked-long _ _ none, and_first _ _ passed.0)
 
 pub returns : goal.returns
 returns c =
     let none = passed-case _ _ c.check.ensures c.in_ok-check.was in
-    let there = sym c.is_access.ensures ∙ c.if-not-is_access.false in
-    register-done _ _ none _ _ _
-    c.load_file-f.ensures _ _ c.store_file.auto.state
-    c.store_file.ensures _ _ _ there
-    (sym c.select_legal.ensures ∙ c.if-not-select_legal.false) _
-    (register-did _ _ (and_first _ _ there) _ _ _ _ _ c.kind_of.ensures _
-    c.access-done.ensures) refl _ c.value_of.ensures
+    let kind = kind-read _ _ c.kind_of.ensures c.in_ok-access.was in
+    let passed = tests-passed (tests-register _ _ _ _ c.args.value) _ _ none
+        (with-kind _ _ _ kind.0 _ c.is_file.ensures) refl c.select_legal.ensures _ c.check_numbers.ensures
+        c.in_ok-check_numbers.was in
+    register-done _ _ none _ _ _ c.load_file-f.ensures _ _ c.store_file.auto.state c.store_file.ensures _ _ _
+    passed.0 passed.2 _
+    (register-did _ _ (and_first _ _ passed.0) _ _ _ _ _ kind.1 _ c.access-done.ensures) refl _
+    (c.unwrap_or.ensures ∙ value-or c.access-done.result.answer)

@@ -1,7 +1,7 @@
--- `board_file_calls::tops::top` meets its contract: refused, or the top of its file. Assumes nothing.
-use mathlib.Core.Path.{sym, ◌∙◌}
+-- `board_file_calls::tops::top` meets its contract: refused, or done. Assumes nothing.
+use mathlib.Core.Path.{refl}
 use Rattle.board_call.proofs.AnswerLaws.{passed-case}
-use Rattle.board_call_laws.proofs.CallTests.{checked-long, tests-blocks, tests-name}
+use Rattle.board_call_laws.proofs.CallTests.{checked-long, tests-blocks, tests-failed, tests-passed}
 use Rattle.board_call_laws.proofs.FileCallEffects.{tests-top, top-done}
 use Rattle.board_file_calls.proofs.tops.top.Goals as goal
 
@@ -9,22 +9,22 @@ pub returns-in_err-check : goal.returns-in_err-check
 returns-in_err-check c =
     tests-blocks (tests-top _ _) _ _ _ c.check.ensures c.in_err-check.was _ c.from_residual.ensures.1
 
-pub returns-then-not-is_file : goal.returns-then-not-is_file
-returns-then-not-is_file c =
+pub returns-in_err-check_numbers : goal.returns-in_err-check_numbers
+returns-in_err-check_numbers c =
     let none = passed-case _ _ c.check.ensures c.in_ok-check.was in
-    tests-name (tests-top _ _) _ _ none
-    (sym c.is_file.ensures ∙ c.if-not-is_file.true)
+    tests-failed (tests-top _ _) _ _ none c.is_file.ensures refl refl _ c.check_numbers.ensures
+    c.in_err-check_numbers.was _ c.from_residual-in_err-check_numbers.ensures.1
 
-pub load_file-f-requires : goal.load_file-f-requires
-load_file-f-requires c =
-    let none = passed-case _ _ c.check.ensures c.in_ok-check.was in (
-      checked-long _ _ none,
-      sym c.is_file.ensures ∙ c.if-not-is_file.false,
-    )
+pub load_file-requires : goal.load_file-requires
+load_file-requires c =
+    let none = passed-case _ _ c.check.ensures c.in_ok-check.was in
+    let passed = tests-passed (tests-top _ _) _ _ none c.is_file.ensures refl refl _ c.check_numbers.ensures
+        c.in_ok-check_numbers.was in
+    (checked-long _ _ none, passed.0)
 
 pub returns : goal.returns
 returns c =
     let none = passed-case _ _ c.check.ensures c.in_ok-check.was in
-    top-done _ _ none _ _ _
-    c.load_file-f.ensures
-    (sym c.is_file.ensures ∙ c.if-not-is_file.false) _ c.top.ensures
+    let passed = tests-passed (tests-top _ _) _ _ none c.is_file.ensures refl refl _ c.check_numbers.ensures
+        c.in_ok-check_numbers.was in
+    top-done _ _ none _ _ _ c.load_file.ensures passed.0 _ c.top-top.ensures

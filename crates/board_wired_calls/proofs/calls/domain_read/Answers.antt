@@ -2,8 +2,7 @@
 -- nothing.
 use mathlib.Core.Path.{refl, sym, ◌∙◌}
 use mathlib.Core.Bool.{true}
-use native.Mathlib.Omega.{arith}
-use borrow.Author.Tests.{lt-ltb, le-ltb}
+use borrow.Author.Tests.{ltb-true}
 use Rattle.board_call.proofs.AnswerLaws.{passed-case}
 use Rattle.board_call.proofs.RefusalLaws.{passed-state, passed-rules}
 use mathlib.Core.Path.{ap, subst}
@@ -16,7 +15,7 @@ use Rattle.wired_registers.specs.Wired.{read_in}
 use Rattle.wired.specs.Controller.{read_call}
 use Rattle.board_block.specs.Block.{with_wired, board_of}
 use Rattle.board_wired_calls.proofs.AcceptedLaws.{read_none}
-use Rattle.board_call_laws.proofs.CallTests.{tests-blocks, tests-name, tests-address}
+use Rattle.board_call_laws.proofs.CallTests.{tests-blocks, tests-failed, tests-passed}
 use Rattle.board_call_laws.proofs.WiredCallEffects.{tests-domain_read, domain_read-done}
 use Rattle.board_wired_calls.proofs.calls.domain_read.Goals as goal
 
@@ -26,19 +25,12 @@ returns-in_err-check c =
     tests-blocks (tests-domain_read args.domain args.address) args.state.now args.log.now _
     c.check.ensures c.in_err-check.was _ c.from_residual.ensures.1
 
-pub returns-then-domain-ge-DOMAINS : goal.returns-then-domain-ge-DOMAINS
-returns-then-domain-ge-DOMAINS c =
+pub returns-in_err-check_domain : goal.returns-in_err-check_domain
+returns-in_err-check_domain c =
     let args = c.args in
-    tests-name (tests-domain_read args.domain args.address) args.state.now args.log.now
-    (passed-case _ _ c.check.ensures c.in_ok-check.was) (le-ltb _ 2 c.if-domain-ge-DOMAINS.true)
-
-pub returns-then-not-address_legal : goal.returns-then-not-address_legal
-returns-then-not-address_legal c =
-    let args = c.args in
-    tests-address (tests-domain_read args.domain args.address) args.state.now args.log.now
-    (passed-case _ _ c.check.ensures c.in_ok-check.was)
-    (lt-ltb args.domain 2 (omega (arith, c.if-domain-ge-DOMAINS.false)))
-    (sym c.address_legal.ensures ∙ c.if-not-address_legal.true)
+    let none = passed-case _ _ c.check.ensures c.in_ok-check.was in
+    tests-failed (tests-domain_read args.domain args.address) args.state.now args.log.now none refl refl refl _ c.check_domain.ensures
+    c.in_err-check_domain.was _ c.from_residual-in_err-check_domain.ensures.1
 
 pub read_done-value-requires : goal.read_done-value-requires
 read_done-value-requires c =
@@ -55,11 +47,12 @@ returns c =
     let none = passed-case _ _ c.check.ensures c.in_ok-check.was in
     let long = passed-state true l args.log.now none in
     let child = eqb args.domain 1 in
+    let passed = tests-passed (tests-domain_read args.domain args.address) args.state.now args.log.now none refl refl refl _ c.check_domain.ensures
+    c.in_ok-check_domain.was in
     let word = c.word_at.ensures in
     let read = c.read_done-value.ensures in
     domain_read-done l args.log.now none
-    args.domain args.address (omega (arith, c.if-domain-ge-DOMAINS.false))
-    (sym c.address_legal.ensures ∙ c.if-not-address_legal.false) _ _
+    args.domain args.address (ltb-true args.domain 2 passed.0) passed.1 _ _
     (c.read_done-value.auto.state ∙ long)
     (read_none l long (passed-rules true l args.log.now none refl) child (word_at args.address))
     (read.0 ∙ ap (read_in (board_of l).wired child) word)

@@ -3,7 +3,7 @@
 use mathlib.Core.Path.{refl, sym, ◌∙◌}
 use mathlib.Core.Bool.{true}
 use native.Mathlib.Omega.{arith}
-use borrow.Author.Tests.{lt-ltb, le-ltb}
+use borrow.Author.Tests.{ltb-true}
 use Rattle.board_call.proofs.AnswerLaws.{passed-case}
 use Rattle.board_call.proofs.RefusalLaws.{passed-state, passed-log, passed-rules}
 use mathlib.Core.Path.{ap, subst}
@@ -14,7 +14,7 @@ use lib.Dec.{eqb}
 use Rattle.wired.specs.Controller.{write_call}
 use Rattle.board_block.specs.Block.{board_of}
 use Rattle.board_wired_calls.proofs.AcceptedLaws.{left-of}
-use Rattle.board_call_laws.proofs.CallTests.{tests-blocks, tests-name, tests-address}
+use Rattle.board_call_laws.proofs.CallTests.{tests-blocks, tests-failed, tests-passed}
 use Rattle.board_call_laws.proofs.WiredCallEffects.{tests-domain_write, domain_write-done}
 use Rattle.board_wired_calls.proofs.calls.domain_write.Goals as goal
 
@@ -25,21 +25,12 @@ returns-in_err-check c =
     args.log.now _
     c.check.ensures c.in_err-check.was _ c.from_residual.ensures.1
 
-pub returns-then-domain-ge-DOMAINS : goal.returns-then-domain-ge-DOMAINS
-returns-then-domain-ge-DOMAINS c =
+pub returns-in_err-check_domain : goal.returns-in_err-check_domain
+returns-in_err-check_domain c =
     let args = c.args in
-    tests-name (tests-domain_write args.domain args.address args.value) args.state.now
-    args.log.now
-    (passed-case _ _ c.check.ensures c.in_ok-check.was) (le-ltb _ 2 c.if-domain-ge-DOMAINS.true)
-
-pub returns-then-not-address_legal : goal.returns-then-not-address_legal
-returns-then-not-address_legal c =
-    let args = c.args in
-    tests-address (tests-domain_write args.domain args.address args.value) args.state.now
-    args.log.now
-    (passed-case _ _ c.check.ensures c.in_ok-check.was)
-    (lt-ltb args.domain 2 (omega (arith, c.if-domain-ge-DOMAINS.false)))
-    (sym c.address_legal.ensures ∙ c.if-not-address_legal.true)
+    let none = passed-case _ _ c.check.ensures c.in_ok-check.was in
+    tests-failed (tests-domain_write args.domain args.address args.value) args.state.now args.log.now none refl refl refl _ c.check_domain.ensures
+    c.in_err-check_domain.was _ c.from_residual-in_err-check_domain.ensures.1
 
 pub write_done-n-requires : goal.write_done-n-requires
 write_done-n-requires c =
@@ -57,11 +48,11 @@ pub returns : goal.returns
 returns c =
     let args = c.args in
     let none = passed-case _ _ c.check.ensures c.in_ok-check.was in
-    let child = eqb args.domain 1 in
+    let passed = tests-passed (tests-domain_write args.domain args.address args.value) args.state.now args.log.now none refl refl refl _ c.check_domain.ensures
+    c.in_ok-check_domain.was in
     domain_write-done args.state.now args.log.now none args.domain args.address
-    (omega (arith, c.if-domain-ge-DOMAINS.false))
-    (sym c.address_legal.ensures ∙ c.if-not-address_legal.false) args.value
+    (ltb-true args.domain 2 passed.0) passed.1 args.value
     _ _ _
     (c.write_done-n.auto.state ∙ passed-state true _ _ none)
-    (left-of (ap (λ (r : Word). write_call (board_of args.state.now).wired child r args.value)
+    (left-of (ap (λ (r : Word). write_call (board_of args.state.now).wired (eqb args.domain 1) r args.value)
     c.word_at.ensures) _ _ _ _ _ c.write_done-n.ensures.1)

@@ -1,12 +1,11 @@
 -- `board_wired_calls::calls::wire` meets its contract: refusal by refusal, and the call. Assumes nothing.
-use mathlib.Core.Path.{refl, sym, ◌∙◌}
+use mathlib.Core.Path.{refl, ◌∙◌}
 use mathlib.Core.Bool.{true}
 use native.Mathlib.Omega.{arith}
-use borrow.Author.Tests.{not-false}
 use Rattle.board_call.proofs.AnswerLaws.{passed-case}
 use Rattle.board_call.proofs.RefusalLaws.{passed-state, passed-log, passed-rules}
 use Rattle.board_call_laws.proofs.WiredCallEffects.{wire-low, wire-high, tests-wire, wire-done}
-use Rattle.board_call_laws.proofs.CallTests.{tests-blocks, tests-name}
+use Rattle.board_call_laws.proofs.CallTests.{tests-blocks, tests-failed, tests-passed}
 use Rattle.board_wired_calls.proofs.calls.wire.Goals as goal
 
 pub returns-in_err-check : goal.returns-in_err-check
@@ -15,22 +14,23 @@ returns-in_err-check c =
     tests-blocks (tests-wire args.wire args.level) args.state.now args.log.now _
     c.check.ensures c.in_err-check.was _ c.from_residual.ensures.1
 
-pub returns-then-not-is_wire : goal.returns-then-not-is_wire
-returns-then-not-is_wire c =
+pub returns-in_err-check_numbers : goal.returns-in_err-check_numbers
+returns-in_err-check_numbers c =
     let args = c.args in
-    tests-name (tests-wire args.wire args.level) args.state.now args.log.now
-    (passed-case _ _ c.check.ensures c.in_ok-check.was)
-    (sym c.is_wire.ensures ∙ c.if-not-is_wire.true)
+    let none = passed-case _ _ c.check.ensures c.in_ok-check.was in
+    tests-failed (tests-wire args.wire args.level) args.state.now args.log.now none c.is_wire.ensures refl refl _ c.check_numbers.ensures
+    c.in_err-check_numbers.was _ c.from_residual-in_err-check_numbers.ensures.1
 
 pub wire_done-n-requires : goal.wire_done-n-requires
 wire_done-n-requires c =
     let args = c.args in
     let none = passed-case _ _ c.check.ensures c.in_ok-check.was in
-    let there = sym c.is_wire.ensures ∙ c.if-not-is_wire.false in (
+    let passed = tests-passed (tests-wire args.wire args.level) args.state.now args.log.now none c.is_wire.ensures refl refl _ c.check_numbers.ensures
+    c.in_ok-check_numbers.was in (
       passed-state true _ _ none,
       passed-log true _ _ none,
-      wire-low args.wire args.level there,
-      wire-high args.wire args.level there,
+      wire-low args.wire args.level passed.0,
+      wire-high args.wire args.level passed.0,
       passed-rules true _ _ none refl,
     )
 
@@ -41,6 +41,7 @@ pub returns : goal.returns
 returns c =
     let args = c.args in
     let none = passed-case _ _ c.check.ensures c.in_ok-check.was in
-    wire-done args.state.now args.log.now none
-    args.wire args.level (sym c.is_wire.ensures ∙ c.if-not-is_wire.false) _ _ _
+    let passed = tests-passed (tests-wire args.wire args.level) args.state.now args.log.now none c.is_wire.ensures refl refl _ c.check_numbers.ensures
+    c.in_ok-check_numbers.was in
+    wire-done args.state.now args.log.now none args.wire args.level passed.0 _ _ _
     (c.wire_done-n.auto.state ∙ passed-state true _ _ none) c.wire_done-n.ensures.1
