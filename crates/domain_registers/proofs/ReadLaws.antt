@@ -42,3 +42,6 @@ module _ (d : Domain) (w : Word) where
       at (Configures i) = none
       at Generates = none
       at Plain = none
+
+-- for a read
+pub ruleset claims = (claim-value, claimed-by, claimed-none)
