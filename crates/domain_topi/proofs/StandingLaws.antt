@@ -1,6 +1,6 @@
 -- The search that goes from one source that is pending and enabled to the next. No contract cites this file.
 -- Assumes nothing.
---   Left d h left best   where the search stands: left are the sources still to come, best the best before them
+--   Left d h left best   where the search stands: left are the sources to come, best the best before them
 --   left-start           it holds at the start
 --   left-head            the next of left is a source that stands
 --   left-next            it holds after the next

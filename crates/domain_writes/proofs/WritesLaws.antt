@@ -15,7 +15,8 @@ use Rattle.words.specs.Parts.{joined}
 use Rattle.words.proofs.BitsLaws.{has_bit-nothing}
 use Rattle.words.proofs.PartsLaws.{has_bit-joined-low, has_bit-joined-high}
 use Rattle.words_masks.specs.Members.{listed}
-use Rattle.words_masks.proofs.MembersLaws.{Head, listed-ext, listed-skip, listed-short, listed-head, listed-end}
+use Rattle.words_masks.proofs.MembersLaws.{Head, listed-ext, listed-skip, listed-short, listed-head}
+use Rattle.words_masks.proofs.MembersLaws.{listed-end}
 use Rattle.source.specs.declared.Source.{Source}
 use Rattle.source.specs.declared.Change.{Change}
 use Rattle.source.specs.declared.Change.TheVariants.{Pend, Clear, Enable, Disable}
@@ -104,7 +105,8 @@ module _ (d : Domain) (ws : List ℕ) (c : Change) (v : ℕ) where
       let more : suc k + n ≡ suc (k + n) = omega arith in
       let on : i + suc k ≡ suc i + k = omega arith in
       rw (more, on)
-      (ap (λ (x : Domain). changed_from x ws c v (suc i) (k + n)) (bit-clear i (f i (omega arith) (omega arith)))
+      (ap (λ (x : Domain). changed_from x ws c v (suc i) (k + n))
+      (bit-clear i (f i (omega arith) (omega arith)))
       ∙ changed-past k n (suc i) (λ j l h. f j (omega arith) (omega arith)))
 
   pub word_first : (k : ℕ) → k ≡ 0 → word_changed d ws c k v ≡ changed_from d ws c v 1 31

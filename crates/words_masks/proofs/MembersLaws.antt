@@ -5,7 +5,7 @@
 --   listed-short      those after the last that holds are left out
 --   listed-skip       those before the first that holds are passed over
 --   listed-first      the first that holds comes first
---   Head p k m i is   of the numbers from k on and below m of which p holds i is the first, and is are the others
+--   Head p k m i is   of the numbers from k on and below m of which p holds, i is the first and is the others
 --   listed-head       that is what a list that begins with i says
 --   listed-end        where none is listed, none holds
 --   raised-bit        a word shifted down and up again has the same bits from there on
@@ -20,11 +20,11 @@ use mathlib.Core.Logic.{◌≢◌}
 use native.Mathlib.Omega.{arith}
 use native.Mathlib.Nat.{zero-add, add-zero}
 use lib.Count.{count_trailing_zeros}
-use lib.Dec.{eqb}
 use lib.ListN.{get_or, length, drop}
 use lib.Pow.{pow_pos}
 use Rattle.std.proofs.Math.Nat.{div-mul-le_self, mul-div_cancel}
 use Rattle.words.specs.Bits.{bit_of, has_bit}
+use Rattle.words.proofs.BitsLaws.{has_bit-bit_of}
 use Rattle.words.proofs.TestsLaws.{tested, from_next}
 use Rattle.words.proofs.ZerosLaws.{bit_of-shr}
 use Rattle.words.proofs.WalkLaws.{Walk, walk_none, walk-lt, walk-on, walk-passed, walk-next}
@@ -129,10 +129,9 @@ down : (w k : ℕ) → w * 2 ^ k / 2 ^ k ≡ w
 down w k = mul-div_cancel w (pow_pos k)
 
 same-from : (w v k : ℕ) → w / 2 ^ k ≡ v / 2 ^ k → (j : ℕ) → k ≤ j → has_bit w j ≡ has_bit v j
-unfolding has_bit
 same-from w v k e j l =
     let place : j ≡ k + (j - k) = omega arith in
-    rw place (ap (λ (b : ℕ). eqb b 1)
+    rw place (has_bit-bit_of w (k + (j - k)) v (k + (j - k))
     (sym (bit_of-shr w k (j - k)) ∙ ap (λ (x : ℕ). bit_of x (j - k)) e ∙ bit_of-shr v k (j - k)))
 
 pub raised-bit : (w k j : ℕ) → k ≤ j → has_bit (w / 2 ^ k * 2 ^ k) j ≡ has_bit w j

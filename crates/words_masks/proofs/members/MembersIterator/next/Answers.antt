@@ -9,7 +9,8 @@ use Rattle.words_masks.proofs.members.MembersIterator.next.Goals as goal
 pub returns-then-self-eq0-clause-steps : goal.returns-then-self-eq0-clause-steps
 returns-then-self-eq0-clause-steps c =
     let s = c.self in
-    let none = sym s.view_is ∙ left-end s.inside.rest s.inside.at s.invariant.1 s.invariant.0 c.if-self-eq0.true in
+    let end = left-end s.inside.rest s.inside.at s.invariant.1 s.invariant.0 c.if-self-eq0.true in
+    let none = sym s.view_is ∙ end in
     (none, none)
 
 pub invariant_of-self : goal.invariant_of-self
