@@ -44,3 +44,6 @@ module _ (w : Wired) (c : Bool) (r : Word) (v : ℕ) where
       at (Configures i) e = let range = configures-range r q i e in source i range.0 (omega arith)
       at Generates e = part
       at Plain e = part
+
+-- for a write
+pub ruleset written = (written-source, written-part, configures-range)

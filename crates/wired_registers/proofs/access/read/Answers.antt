@@ -1,69 +1,31 @@
--- `wired_registers::access::read` meets its contract: one part is lent and comes back. Assumes nothing.
-use Prim.Native.Nat.{ℕ}
+-- `wired_registers::access::read` meets its contract: a domain's words go back where they were. Assumes
+-- nothing.
+use mathlib.Core.Path.{ap, ap₂, ◌∙◌}
 use mathlib.Core.List.{List}
+use Prim.Native.Nat.{ℕ}
+use borrow.Author.Rules.{rules}
+use native.Mathlib.Omega.{arith}
+use Rattle.std.proofs.lemmas.Grind.{common_steps}
 use Rattle.domain.specs.Domain.{Domain}
 use Rattle.domain_registers.specs.Read.{register_value, claimed_by}
-use mathlib.Core.Path.{ap, ap₂, sym, ◌∙◌}
-use Rattle.wired_state.specs.Wires.{wired_of}
-use Rattle.wired_state.proofs.WiresLaws.{child-long, machine-long, child-part, machine-part, put-child}
-use Rattle.wired_state.proofs.WiresLaws.{put-machine, domain-child, domain-machine, with-child, with-machine}
+use Rattle.wired_state.proofs.WiresLaws.{part-back, part-lent}
 use Rattle.wired_registers.proofs.access.read.Goals as goal
 
 pub read-requires : goal.read-requires
 read-requires c =
-    let l = c.args.w.now in
-    let same = domain-child (wired_of l) c.args.child c.if-child.true in
-    (child-long l c.requires.0, rw (child-part l c.requires.0, ← same) c.requires.1, c.requires.2)
-
-pub returns-then-child : goal.returns-then-child
-returns-then-child c =
-    let l = c.args.w.now in
-    let long = c.requires.0 in
-    let part = child-part l long
-    ∙ sym (domain-child (wired_of l) c.args.child c.if-child.true) in
-    let wires = c.wires-levels.ensures in
-    let put = put-child l c.read.new.part long (c.read.auto.part ∙ child-long l long) in (
-      c.read.ensures.0
-          ∙ ap₂ (λ (d : Domain) (ws : List ℕ). register_value d ws c.args.word) part wires,
-      put
-          ∙ ap (λ (d : Domain). record {
-            wires = (wired_of l).wires;
-            machine = (wired_of l).machine;
-            child =
-                d;
-          })
-          (c.read.ensures.1 ∙ ap (λ (d : Domain). claimed_by d c.args.word) part)
-          ∙ sym (with-child (wired_of l) c.args.child _ c.if-child.true),
-    )
-
-pub read-requires-2 : goal.read-requires-2
-read-requires-2 c =
-    let l = c.args.w.now in
-    let same = domain-machine (wired_of l) c.args.child c.if-child.false in (
-      machine-long l c.requires.0,
-      rw (machine-part l c.requires.0, ← same)
-          c.requires.1,
-      c.requires.2,
-    )
+    let args = c.args in
+    let lent = part-lent args.w.now args.child c.place_of.ensures c.split_at_mut-words.ensures.back
+    c.unwrap.result.now (grind (arith, common_steps)) in
+    (rw lent c.requires.0, c.requires.1)
 
 pub returns : goal.returns
 returns c =
-    let l = c.args.w.now in
-    let long = c.requires.0 in
-    let part =
-    machine-part l long ∙ sym (domain-machine (wired_of l) c.args.child c.if-child.false) in
-    let wires = c.wires-levels.ensures in
-    let put =
-    put-machine l c.read-2.new.part long (c.read-2.auto.part ∙ machine-long l long) in (
-      c.read-2.ensures.0
-          ∙ ap₂ (λ (d : Domain) (ws : List ℕ). register_value d ws c.args.word) part wires,
-      put
-          ∙ ap (λ (d : Domain). record {
-            wires = (wired_of l).wires;
-            machine = d;
-            child =
-                (wired_of l).child;
-          })
-          (c.read-2.ensures.1 ∙ ap (λ (d : Domain). claimed_by d c.args.word) part)
-          ∙ sym (with-machine (wired_of l) c.args.child _ c.if-child.false),
+    let args = c.args in
+    let cut = c.split_at_mut-words.ensures in
+    let lent = part-lent args.w.now args.child c.place_of.ensures cut.back c.unwrap.result.now
+    (grind (arith, common_steps)) in (
+      c.read.ensures.0
+          ∙ ap₂ (λ (d : Domain) (ws : List ℕ). register_value d ws args.word) lent c.wires-levels.ensures,
+      part-back args.w.now args.child c.place_of.ensures cut.back c.told-w _ _ cut.front (search rules)
+          (c.read.ensures.1 ∙ ap (λ (d : Domain). claimed_by d args.word) lent),
     )
