@@ -153,3 +153,6 @@ wired-sound-read w p q r x =
     (λ t. ap (λ (b : Bool). not (member w.wires 0) && domain_sound false w.wires w.machine
     && domain_sound true w.wires w.child && b) (delegated-word w t))
     (λ f. simp (f, and-false))
+
+-- for the rules of a domain
+pub ruleset read = (domain-sound-read)

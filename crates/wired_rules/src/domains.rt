@@ -1,6 +1,6 @@
 // The rules of a domain, those that concern both, and all of them.
-ghost use Rattle.std.specs.Prelude.{◌≡◌, ◌&&◌, length};
-ghost use Rattle.sizes.specs.Sizes.{source_count, slot_count, domain_size, wired_size};
+ghost use Rattle.std.specs.Prelude.{◌≡◌, ◌&&◌};
+ghost use Rattle.sizes.specs.Sizes.{source_count, slot_count};
 ghost use Rattle.words_masks.specs.Masks.{gathered};
 ghost use Rattle.domain.specs.Domain.{domain_of};
 ghost use Rattle.wired_state.specs.Wires.{wired_of};
@@ -14,19 +14,20 @@ ghost use Rattle.wired_rules.specs.Bits.{bits_at};
 use super::Tested;
 use super::structures::structure_pass;
 use domain_slots::{Gathered, gather};
-use sizes::{CHILD_PLACE, MACHINE_PLACE, SOURCE_SET_SIZE, WIRED_SIZE};
+use sizes::{DOMAIN_SIZE, SOURCE_SET_SIZE, WIRED_SIZE};
 use source_bits::{none_low, none_missing, none_unsent, none_unused, one_word};
+use wired_state::domain_part;
 
-fn domaincfg_rule(part: &[u32]) -> bool
-    requires { length part.now ≡ domain_size }
+#[tactic(auto, unfolding(crate::specs::Rules::domaincfg_range))]
+fn domaincfg_rule(part: &[u32; DOMAIN_SIZE]) -> bool
     ensures { result ≡ domaincfg_range (domain_of part.now) }
 {
     let word = domain::domaincfg(part);
     word == domain_domaincfg::kept_domaincfg(word)
 }
 
-fn genmsi_rules(part: &[u32]) -> bool
-    requires { length part.now ≡ domain_size }
+#[tactic(auto, unfolding(crate::specs::Rules::genmsi_range, crate::specs::Rules::genmsi_rule))]
+fn genmsi_rules(part: &[u32; DOMAIN_SIZE]) -> bool
     ensures { result ≡ (genmsi_range (domain_of part.now)
         && genmsi_rule (domain_of part.now)) }
 {
@@ -35,8 +36,13 @@ fn genmsi_rules(part: &[u32]) -> bool
 }
 
 // The bits of all sources; source 0, which is none, has no bits.
-fn bits_rules(part: &[u32], child: bool, wires: [u32; SOURCE_SET_SIZE], g: Gathered) -> bool
-    requires { (length part.now ≡ domain_size) × SoFar child (domain_of part.now) slot_count g }
+fn bits_rules(
+    part: &[u32; DOMAIN_SIZE],
+    child: bool,
+    wires: [u32; SOURCE_SET_SIZE],
+    g: Gathered,
+) -> bool
+    requires { SoFar child (domain_of part.now) slot_count g }
     ensures { result ≡ (source_zero_rule (domain_of part.now).pending
         && source_zero_rule (domain_of part.now).enable
         && every (bits_at child wires (domain_of part.now)) 1 source_count) }
@@ -52,8 +58,8 @@ fn bits_rules(part: &[u32], child: bool, wires: [u32; SOURCE_SET_SIZE], g: Gathe
         & none_missing(messages, g.straight, g.inverted, levels, pending)
 }
 
-fn domain_rules(part: &[u32], child: bool, wires: [u32; SOURCE_SET_SIZE]) -> Tested
-    requires { length part.now ≡ domain_size }
+#[tactic(auto, using(crate::proofs::RulesLaws::read))]
+fn domain_rules(part: &[u32; DOMAIN_SIZE], child: bool, wires: [u32; SOURCE_SET_SIZE]) -> Tested
     ensures { (result.sound ≡ domain_sound child wires (domain_of part.now))
         × (result.active ≡ gathered (has (occupied child) (domain_of part.now)) slot_count)
         × (result.delegated ≡ gathered (has (held_back child) (domain_of part.now)) slot_count) }
@@ -73,13 +79,12 @@ fn domain_rules(part: &[u32], child: bool, wires: [u32; SOURCE_SET_SIZE]) -> Tes
 
 // Whether the 290 words of the wired controller keep every rule. The child has a source only where it is
 // delegated.
-pub fn sound(w: &[u32]) -> bool
-    requires { length w.now ≡ wired_size }
+pub fn sound(w: &[u32; WIRED_SIZE]) -> bool
     ensures { result ≡ wired_sound (wired_of w.now) }
 {
     let wires = wired_state::wires(w);
-    let machine = domain_rules(&w[MACHINE_PLACE..CHILD_PLACE], false, wires);
-    let child = domain_rules(&w[CHILD_PLACE..WIRED_SIZE], true, wires);
+    let machine = domain_rules(domain_part(w, false), false, wires);
+    let child = domain_rules(domain_part(w, true), true, wires);
     !words::has_bit(wires[0], 0)
         & machine.sound
         & child.sound

@@ -8,7 +8,7 @@ pub returns : goal.returns
 returns c =
     let d = domain_of c.args.part.now in
     let ws = c.args.wires in
-    bits-read c.args.child ws d c.args.g c.requires.1
+    bits-read c.args.child ws d c.args.g c.requires
     c.one_word-pending.result c.one_word-enable.result c.one_word-levels.result
     c.by_messages-messages.ensures c.enabled.ensures
     c.none_unused.ensures c.none_unsent.ensures

@@ -10,7 +10,7 @@ use Rattle.words.proofs.SetsLaws.{member-word}
 use Rattle.words_masks.specs.Masks.{gathered}
 use Rattle.domain.specs.Domain.{Domain}
 use Rattle.wired_state.specs.Wires.{wired_of}
-use Rattle.wired_state.proofs.WiresLaws.{machine-part, child-part}
+use Rattle.wired_state.specs.Wires.{domain_in}
 use Rattle.wired_rules.specs.Rules.{domain_sound}
 use Rattle.source_rules.specs.SourceParts.{held_back, occupied}
 use Rattle.domain_slots.specs.Slots.{has}
@@ -18,11 +18,12 @@ use Rattle.wired_rules.proofs.RulesLaws.{wired-sound-read}
 use Rattle.wired_rules.proofs.domains.sound.Goals as goal
 
 pub returns : goal.returns
+unfolding domain_in
 returns c =
     let l = c.args.w.now in
     let wires = c.wires-wires.ensures in
-    let machine = machine-part l c.requires in
-    let child = child-part l c.requires in
+    let machine = c.domain_part.ensures in
+    let child = c.domain_part-2.ensures in
     wired-sound-read (wired_of l)
     (c.has_bit.ensures ∙ member-word _ 0 ∙ ap (λ (ws : List ℕ). member ws 0) wires)
     (c.domain_rules-machine.ensures.0
