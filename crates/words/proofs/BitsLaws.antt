@@ -15,8 +15,8 @@ use lib.Arith.{lt-one}
 use lib.Dec.{eqb}
 use lib.Pow.{pow_pos, pow-lt, shr-shr}
 use lib.Bits.{bit_and, bit_or, and_step, or_step, or_shr, or_mod, and_shr, and_mod, and_le_l, or_lt}
-use lib.Bits.{or_zero_r}
-use lib.Bits.{and_zero_r}
+use lib.Bits.{or_zero_r, and_zero_r}
+use Rattle.std.proofs.lemmas.Nat.{one_shl}
 use borrow.Author.Tests.{eq-eqb, ne_eqb}
 use Rattle.words.specs.Bits.{bit_of, has_bit, with_bit, without_bit, put_bit, union, without}
 
@@ -137,6 +137,10 @@ with_bit-or w (suc k) =
     or_step w (2 ^ suc k) ∙ ap (λ (x : ℕ). bit_or (w / 2) x * 2 + max (w % 2) (2 ^ suc k % 2)) (half_pow k)
     ∙ rw (with_bit-or (w / 2) k, bit_of-suc, pow-suc) (or_digits w (1 - bit_of (w / 2) k) (2 ^ k))
 
+-- the same at n bits
+pub with_bit-shl : (n w k : ℕ) → k < n → bit_or w (1 * 2 ^ k % 2 ^ n) ≡ with_bit w k
+with_bit-shl n w k h = ap (bit_or w) (one_shl k n h) ∙ with_bit-or w k
+
 -- what `w & (1 << k)` gives
 and_pow : (w k : ℕ) → bit_and w (2 ^ k) ≡ bit_of w k * 2 ^ k
 and_pow w zero = and_step w 1 ∙ omega (arith, and_zero_r (w / 2), bit_of-zero w)
@@ -151,6 +155,13 @@ with_bit-union w k = sym (with_bit-or w k)
 pub without_bit-without : (w k : ℕ) → without_bit w k ≡ without w (2 ^ k)
 unfolding without_bit without
 without_bit-without w k = ap (λ (x : ℕ). w - x) (sym (and_pow w k))
+
+-- what `w & !(1 << k)` gives at n bits
+pub without_bit-shl : (n w k : ℕ) → w < 2 ^ n → k < n
+    → bit_and w ((2 ^ n - 1) - 1 * 2 ^ k % 2 ^ n) ≡ without_bit w k
+without_bit-shl n w k hw hk =
+    ap (λ (x : ℕ). bit_and w ((2 ^ n - 1) - x)) (one_shl k n hk)
+    ∙ without-and n w (2 ^ k) hw (pow-lt hk) ∙ sym (without_bit-without w k)
 
 pub bit_of-with_bit-same : (w k : ℕ) → bit_of (with_bit w k) k ≡ 1
 bit_of-with_bit-same w k =

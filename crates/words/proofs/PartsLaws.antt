@@ -1,59 +1,33 @@
 -- Laws of specs/Parts.antt: what the code's shifts and masks give, and that parts and wholes undo each other.
 -- No contract cites this file.
 -- Assumes nothing.
-use Prim.Native.Nat.{ℕ, ◌+◌, ◌-◌, ◌*◌, ◌/◌, ◌%◌, ◌^◌, ◌≤◌, ◌<◌}
+use Prim.Native.Nat.{ℕ, ◌+◌, ◌-◌, ◌*◌, ◌/◌, ◌%◌, ◌^◌, ◌<◌}
 use mathlib.Core.Path.{◌≡◌, refl, sym, ap, ap₂, ◌∙◌}
 use native.Mathlib.Decide.{dec_lt}
-use native.Mathlib.Nat.{mod-lt, one-mul, mod-eq_of_lt}
+use native.Mathlib.Nat.{mod-lt, mod-eq_of_lt}
 use native.Mathlib.Omega.{arith}
-use lib.Dec.{lit<, lit≤}
 use lib.Arith.{digits_mod}
 use lib.Pow.{pow_pos, shl_exact, mod-mod-pow, shr-shr}
 use lib.Bits.{bit_and, bit_or, and_mask, or_shifted}
+use Rattle.std.proofs.lemmas.Nat.{one_shl}
 use Rattle.words.specs.Bits.{bit_of, has_bit}
 use Rattle.words.specs.Parts.{reversed, low, high, joined, field_of, packed}
 use Rattle.words.proofs.BitsLaws.{has_bit-bit_of}
 
 -- ---- what the code's shifts and masks give
 
--- `1 << k` at n bits
-pub one_shl : (n k : ℕ) → k < n → 1 * 2 ^ k % 2 ^ n ≡ 2 ^ k
-one_shl n k h = shl_exact 1 k n (lit< tt) (omega arith) ∙ one-mul (2 ^ k)
-
 -- `(w >> at) & ((1 << size) - 1)` at n bits
 pub field_of-and : (n w at size : ℕ) → size < n
     → bit_and (w / 2 ^ at) (1 * 2 ^ size % 2 ^ n - 1) ≡ field_of w at size
 unfolding field_of
 field_of-and n w at size h =
-    ap (λ (x : ℕ). bit_and (w / 2 ^ at) (x - 1)) (one_shl n size h) ∙ and_mask (w / 2 ^ at) size
+    ap (λ (x : ℕ). bit_and (w / 2 ^ at) (x - 1)) (one_shl size n h) ∙ and_mask (w / 2 ^ at) size
 
 -- `(hi << at) | lo` at n bits
 pub packed-or : (n hi at lo : ℕ) → lo < 2 ^ at → hi * 2 ^ at < 2 ^ n
     → bit_or (hi * 2 ^ at % 2 ^ n) lo ≡ packed hi at lo
 unfolding packed
 packed-or n hi at lo hlo hhi = ap (λ (x : ℕ). bit_or x lo) (mod-eq_of_lt hhi) ∙ or_shifted hi at lo hlo
-
--- a byte put at a place above what is there
-byte_or : (b at lo : ℕ) → b < 256 → lo < 2 ^ at → at + 8 ≤ 32
-    → bit_or (b * 2 ^ at % 2 ^ 32) lo ≡ b * 2 ^ at + lo
-byte_or b at lo hb hlo h =
-    ap (λ (x : ℕ). bit_or x lo) (shl_exact 8 at 32 hb (omega arith)) ∙ or_shifted b at lo hlo
-
-pub reversed-or : (w : ℕ) → w < 2 ^ 32
-    → bit_or (bit_and w 255 * 2 ^ 24 % 2 ^ 32)
-    (bit_or (bit_and (w / 2 ^ 8) 255 * 2 ^ 16 % 2 ^ 32)
-    (bit_or (bit_and (w / 2 ^ 16) 255 * 2 ^ 8 % 2 ^ 32) (w / 2 ^ 24)))
-    ≡ reversed w
-unfolding reversed
-reversed-or w h =
-    let d : w / 2 ^ 24 < 2 ^ 8 = omega arith in
-    let c : w / 2 ^ 16 % 256 * 2 ^ 8 + w / 2 ^ 24 < 2 ^ 16 = omega arith in
-    let b : w / 2 ^ 8 % 256 * 2 ^ 16 + (w / 2 ^ 16 % 256 * 2 ^ 8 + w / 2 ^ 24) < 2 ^ 24 = omega arith in
-    rw (and_mask w 8, and_mask (w / 2 ^ 8) 8, and_mask (w / 2 ^ 16) 8)
-    (ap (λ (x : ℕ). bit_or (w % 256 * 2 ^ 24 % 2 ^ 32) (bit_or (w / 2 ^ 8 % 256 * 2 ^ 16 % 2 ^ 32) x))
-    (byte_or (w / 2 ^ 16 % 256) 8 (w / 2 ^ 24) (omega arith) d (lit≤ tt))
-    ∙ ap (bit_or (w % 256 * 2 ^ 24 % 2 ^ 32)) (byte_or (w / 2 ^ 8 % 256) 16 _ (omega arith) c (lit≤ tt))
-    ∙ byte_or (w % 256) 24 _ (omega arith) b (lit≤ tt) ∙ omega arith)
 
 -- ---- halves
 

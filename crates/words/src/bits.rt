@@ -23,16 +23,19 @@ pub fn without_bit(w: u32, k: u32) -> u32
     w & !(1 << k)
 }
 
+#[tactic(auto, unfolding(crate::specs::Bits::put_bit))]
 pub fn put_bit(w: u32, k: u32, on: bool) -> u32
     requires { k < 32 }
     ensures { result ≡ put_bit w k on }
 {
     if on {
-        return with_bit(w, k);
+        with_bit(w, k)
+    } else {
+        without_bit(w, k)
     }
-    without_bit(w, k)
 }
 
+#[tactic(auto, unfolding(crate::specs::Bits::union))]
 pub fn union64(w: u64, v: u64) -> u64
     ensures { result ≡ union w v }
 {

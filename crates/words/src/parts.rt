@@ -2,18 +2,21 @@
 ghost use Rattle.std.specs.Prelude.{◌≡◌, ◌<◌, ◌^◌, ◌*◌};
 ghost use Rattle.words.specs.Parts.{reversed, low, high, joined, field_of, packed};
 
+#[tactic(auto, unfolding(crate::specs::Parts::reversed))]
 pub fn reversed32(w: u32) -> u32
     ensures { result ≡ reversed w }
 {
-    ((w & 255) << 24) | ((((w >> 8) & 255) << 16) | ((((w >> 16) & 255) << 8) | (w >> 24)))
+    w.swap_bytes()
 }
 
+#[tactic(auto, unfolding(crate::specs::Parts::low))]
 pub fn low32(w: u64) -> u32
     ensures { result ≡ low w }
 {
     (w % 4294967296) as u32
 }
 
+#[tactic(auto, unfolding(crate::specs::Parts::high))]
 pub fn high32(w: u64) -> u32
     ensures { result ≡ high w }
 {

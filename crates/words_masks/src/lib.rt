@@ -16,6 +16,7 @@ pub fn with_bit64(w: u64, k: u32) -> u64
     w | (1 << k)
 }
 
+#[tactic(auto, unfolding(crate::specs::Masks::common))]
 pub fn common64(w: u64, v: u64) -> u64
     ensures { result ≡ common w v }
 {
