@@ -28,14 +28,12 @@ pub fn lowest_shared(pending: [u32; FILE_SET_SIZE], enable: [u32; FILE_SET_SIZE]
     ensures { result ≡ lowest_shared pending enable }
 {
     let mut from: u32 = 1;
-    let mut at: usize = 0;
-    while at < FILE_SET_SIZE {
+    for at in 0..FILE_SET_SIZE {
         let k = first_bit(pending[at] & enable[at], from);
         if k < 32 {
             return (at as u32) * 32 + k;
         }
         from = 0;
-        at += 1;
     }
     0
 }

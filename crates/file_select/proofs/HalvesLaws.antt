@@ -2,9 +2,8 @@
 use Prim.Native.Nat.{ℕ, ◌+◌, ◌*◌, ◌≤◌}
 use mathlib.Core.Path.{◌≡◌, ap₂, ◌∙◌}
 use mathlib.Core.List.{List}
-use mathlib.Core.Logic.{◌≢◌}
 use native.Mathlib.Omega.{arith}
-use borrow.Author.Tests.{eq-eqb, ne_eqb}
+use borrow.Author.Tests.{eq-eqb}
 use lib.ListN.{length, set, length-set, get_or-eq_default}
 use lib.Seq.{set_out}
 use Rattle.words.specs.Bits.{without}
@@ -30,7 +29,3 @@ module _ (ws : List ℕ) (j : ℕ) where
 pub put_first : (ws : List ℕ) (j v : ℕ) → j ≡ 0 → put_doubleword ws j v ≡ put_halves ws 0 (without v 1)
 unfolding put_doubleword
 put_first ws j v e = simp (eq-eqb j 0 e) (ap₂ (put_halves ws) e (without_bit-without v 0))
-
-pub put-later : (ws : List ℕ) (j v : ℕ) → j ≢ 0 → put_doubleword ws j v ≡ put_halves ws j v
-unfolding put_doubleword
-put-later ws j v h = simp (ne_eqb j 0 h)

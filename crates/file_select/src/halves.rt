@@ -5,6 +5,7 @@ ghost use Rattle.file_select.specs.Halves.{doubleword, put_halves, put_doublewor
 use sizes::FILE_SET_SIZE;
 
 // Words 2 j and 2 j + 1 as one number; past the last word, 0.
+#[tactic(auto, unfolding(crate::specs::Halves::doubleword))]
 pub fn doubleword(ws: [u32; FILE_SET_SIZE], j: u64) -> u64
     ensures { result ≡ doubleword ws j }
 {
@@ -16,6 +17,7 @@ pub fn doubleword(ws: [u32; FILE_SET_SIZE], j: u64) -> u64
 }
 
 // The same two words replaced.
+#[tactic(auto, unfolding(crate::specs::Halves::put_halves))]
 pub fn put_halves(mut ws: [u32; FILE_SET_SIZE], j: u64, value: u64) -> [u32; FILE_SET_SIZE]
     ensures { result ≡ put_halves ws j value }
 {
@@ -29,6 +31,7 @@ pub fn put_halves(mut ws: [u32; FILE_SET_SIZE], j: u64, value: u64) -> [u32; FIL
 }
 
 // Identity 0 has no bit: what is written there is dropped.
+#[tactic(auto, unfolding(crate::specs::Halves::put_doubleword))]
 pub fn put_doubleword(ws: [u32; FILE_SET_SIZE], j: u64, value: u64) -> [u32; FILE_SET_SIZE]
     ensures { result ≡ put_doubleword ws j value }
 {

@@ -5,41 +5,26 @@ ghost use Rattle.sizes.specs.Sizes.{identities};
 
 use super::{EIDELIVERY, EIE0, EIP0, EITHRESHOLD, Register};
 
+#[tactic(auto, unfolding(crate::specs::Select::select_legal))]
 pub fn select_legal(select: u64) -> bool
     ensures { result ≡ select_legal select }
 {
-    if select < EIDELIVERY {
-        return false;
+    match select {
+        EIDELIVERY..EIP0 => true,
+        EIP0..=0xFF => select % 2 != 1,
+        _ => false,
     }
-    if 0xFF < select {
-        return false;
-    }
-    if select < EIP0 {
-        return true;
-    }
-    select % 2 != 1
 }
 
+#[tactic(auto, unfolding(crate::specs::Select::register_of, crate::specs::Select::registers_from))]
 pub fn register_of(select: u64) -> Register
     ensures { result ≡ register_of identities select }
 {
-    if select == EIDELIVERY {
-        return Register::Delivery;
+    match select {
+        EIDELIVERY => Register::Delivery,
+        EITHRESHOLD => Register::Threshold,
+        EIP0..0x88 => Register::Pending((select - EIP0) / 2),
+        EIE0..0xC8 => Register::Enable((select - EIE0) / 2),
+        _ => Register::Unused,
     }
-    if select == EITHRESHOLD {
-        return Register::Threshold;
-    }
-    if select < EIP0 {
-        return Register::Unused;
-    }
-    if select < 0x88 {
-        return Register::Pending((select - EIP0) / 2);
-    }
-    if select < EIE0 {
-        return Register::Unused;
-    }
-    if select < 0xC8 {
-        return Register::Enable((select - EIE0) / 2);
-    }
-    Register::Unused
 }

@@ -1,14 +1,11 @@
 -- `file_search::first_bit` meets its contract: what is left of the word has its bits from k on, and no bit
 -- before them is 1. Assumes nothing.
 use Prim.Native.Nat.{◌-◌}
-use mathlib.Core.Path.{refl, sym, ◌∙◌}
+use mathlib.Core.Path.{sym, ◌∙◌}
 use native.Mathlib.Omega.{arith}
 use Rattle.file_search.proofs.SearchLaws.{first_bit-hit-to, first_bit-miss-to, first_bit-none, rest-bit}
 use Rattle.file_search.proofs.SearchLaws.{rest-next, rest_lt}
 use Rattle.file_search.proofs.first_bit.Goals as goal
-
-pub loop-rest-init : goal.loop-rest-init
-loop-rest-init c = (omega arith, refl, refl)
 
 pub returns-then-has_bit : goal.returns-then-has_bit
 returns-then-has_bit c =
@@ -16,12 +13,6 @@ returns-then-has_bit c =
     let low = rest_lt _ _ _ left.invariant.1 (omega arith) c.loop-rest-test.true in
     let hit = sym (c.has_bit.ensures ∙ rest-bit _ _ _ left.invariant.1) ∙ c.if-has_bit.true in
     sym (left.invariant.2 ∙ first_bit-hit-to _ left.k 32 low hit)
-
-pub loop-rest-smaller : goal.loop-rest-smaller
-loop-rest-smaller c =
-    let left = c.loop-rest in
-    let low = rest_lt _ _ _ left.invariant.1 (omega arith) c.loop-rest-test.true in
-    omega arith
 
 pub loop-rest-preserved : goal.loop-rest-preserved
 loop-rest-preserved c =

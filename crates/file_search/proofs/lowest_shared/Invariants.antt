@@ -1,5 +1,5 @@
--- What the loop of this function keeps, and its measure. Assumes nothing.
-use Prim.Native.Nat.{◌+◌, ◌-◌, ◌*◌, ◌≤◌, ◌<◌}
+-- What the loop of this function keeps. Assumes nothing.
+use Prim.Native.Nat.{◌+◌, ◌*◌, ◌<◌}
 use mathlib.Core.Path.{◌≡◌}
 use Rattle.file_search.specs.Search.{lowest_shared}
 use Rattle.file_search.proofs.SearchLaws.{shared_from}
@@ -7,8 +7,5 @@ use Rattle.file_search.proofs.lowest_shared.Given as goal
 
 abbrev pub invariant-loop-at : goal.invariant-loop-at
 invariant-loop-at l =
-    (l.at ≤ 8) × (l.from < 32) ×
+    (l.from < 32) ×
     (lowest_shared l.pending l.enable ≡ shared_from l.pending l.enable (32 * l.at + l.from))
-
-abbrev pub decreases-loop-at : goal.decreases-loop-at
-decreases-loop-at l = 8 - l.at

@@ -2,12 +2,9 @@
 -- nothing.
 use mathlib.Core.Path.{ap, sym, ◌∙◌}
 use Rattle.file_select.specs.Halves.{put_halves}
-use Rattle.file_select.proofs.HalvesLaws.{put_first, put-later}
+use Rattle.file_select.proofs.HalvesLaws.{put_first}
 use Rattle.file_select.proofs.halves.put_doubleword.Goals as goal
 
 pub returns-then-j-eq0 : goal.returns-then-j-eq0
 returns-then-j-eq0 c = c.put_halves.ensures ∙ ap (put_halves _ 0) c.without64.ensures
     ∙ sym (put_first _ _ _ c.if-j-eq0.true)
-
-pub returns : goal.returns
-returns c = c.put_halves-2.ensures ∙ sym (put-later _ _ _ c.if-j-eq0.false)
