@@ -2,4 +2,3 @@
 pub mod PageLaws
 pub mod TopLaws
 pub mod RegisterLaws
-pub mod RulesLaws

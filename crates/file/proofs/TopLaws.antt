@@ -2,13 +2,12 @@
 -- what a claim and the signal make of it. No contract cites this file. Assumes nothing.
 use Prim.Native.Nat.{ℕ, ◌≤◌}
 use mathlib.Core.Path.{◌≡◌, sym, ap, ◌∙◌}
-use mathlib.Core.Bool.{Bool, true, false, not, ◌&&◌, and-false}
+use mathlib.Core.Bool.{Bool, true, false, ◌&&◌}
 use mathlib.Core.Logic.{◌≢◌}
 use native.Mathlib.Omega.{arith}
-use lib.Dec.{eqb}
-use borrow.Author.Tests.{eq-eqb, ne_eqb, eqb-true, eqb-false}
+use borrow.Author.Tests.{eq-eqb, ne_eqb}
 use Rattle.words.specs.Sets.{member, remove}
-use Rattle.words.proofs.TestsLaws.{tested, and_first, and_second}
+use Rattle.words.proofs.TestsLaws.{and_first, and_second}
 use Rattle.words.proofs.ThresholdLaws.{passes-above}
 use Rattle.sizes.specs.Sizes.{identities}
 use Rattle.file_search.specs.Search.{lowest, lowest_shared}
@@ -41,14 +40,6 @@ module _ (f : File) (i : ℕ) where
   pub qualifies-passes : qualifies f i ≡ true → passes f.threshold i ≡ true
   unfolding qualifies
   qualifies-passes e = and_second (pends && enabled) passing e
-
-  pub unpending : member f.pending i ≡ false → qualifies f i ≡ false
-  unfolding qualifies
-  unpending e = simp e
-
-  pub disabled : member f.enable i ≡ false → qualifies f i ≡ false
-  unfolding qualifies
-  disabled e = simp (e, and-false)
 
   pub qualifies-standing : member f.pending i ≡ true → member f.enable i ≡ true
       → qualifies f i ≡ passes f.threshold i
@@ -104,15 +95,6 @@ module _ (n : ℕ) (f : File) where
       ≡ with_pending_set f (remove f.pending (top_identity n f))
   unfolding claimed
   claimed-some h = simp (ne_eqb (top_identity n f) 0 h)
-
-  -- the signal as the code works it out
-  pub signals-on : f.delivery ≡ 1 → signals n f ≡ not (eqb (top_identity n f) 0)
-  unfolding signals
-  signals-on e =
-      simp (eq-eqb f.delivery 1 e)
-      (tested (eqb (top_identity n f) 0)
-      (λ t. ap not (eq-eqb (top_of n f) 0 (top_of-zero-2 (eqb-true (top_identity n f) 0 t)) ∙ sym t))
-      (λ u. ap not (ne_eqb (top_of n f) 0 (λ z. eqb-false (top_identity n f) 0 u (top_of-zero-1 z)) ∙ sym u)))
 
   pub signals-off : f.delivery ≢ 1 → signals n f ≡ false
   unfolding signals

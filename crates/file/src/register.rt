@@ -24,31 +24,27 @@ pub struct Accessed {
 }
 
 impl File {
+    #[tactic(auto, unfolding(crate::specs::Register::held))]
     fn held(self, register: Register) -> u64
         ensures { result ≡ held self register }
     {
         match register {
             Register::Delivery => self.delivery as u64,
             Register::Threshold => self.threshold as u64,
-            Register::Pending(j) => {
-                let ws = self.pending;
-                doubleword(ws, j)
-            }
-            Register::Enable(j) => {
-                let ws = self.enable;
-                doubleword(ws, j)
-            }
+            Register::Pending(j) => doubleword(self.pending, j),
+            Register::Enable(j) => doubleword(self.enable, j),
             Register::Unused => 0,
         }
     }
 
+    #[tactic(auto, unfolding(crate::specs::Register::written))]
     fn written(mut self, guest: bool, register: Register, value: u64) -> File
         ensures { result ≡ written identities guest self register value }
     {
         match register {
             Register::Delivery => {
                 if delivery_legal(guest, value) {
-                    self.delivery = (value % 4294967296) as u32;
+                    self.delivery = value as u32;
                 }
                 self
             }
@@ -57,21 +53,18 @@ impl File {
                 self
             }
             Register::Pending(j) => {
-                let ws = self.pending;
-                let new = put_doubleword(ws, j, value);
-                self.pending = new;
+                self.pending = put_doubleword(self.pending, j, value);
                 self
             }
             Register::Enable(j) => {
-                let ws = self.enable;
-                let new = put_doubleword(ws, j, value);
-                self.enable = new;
+                self.enable = put_doubleword(self.enable, j, value);
                 self
             }
             Register::Unused => self,
         }
     }
 
+    #[tactic(auto, unfolding(crate::specs::Register::accessed, crate::specs::Register::accessed_at))]
     pub fn access(self, guest: bool, kind: Access, select: u64, value: u64) -> Accessed
         ensures { result ≡ accessed identities guest self kind select value }
     {

@@ -8,18 +8,13 @@ use file_select::delivery_legal;
 use sizes::IDENTITIES;
 
 impl File {
+    // No test is left out when one before it fails: without branches all are made in fewer instructions.
     pub fn sound(self, guest: bool) -> bool
         ensures { result ≡ file_sound identities guest self }
     {
-        if !delivery_legal(guest, self.delivery as u64) {
-            return false;
-        }
-        if IDENTITIES < self.threshold {
-            return false;
-        }
-        if words::has_bit(self.pending[0], 0) {
-            return false;
-        }
-        !words::has_bit(self.enable[0], 0)
+        delivery_legal(guest, self.delivery as u64)
+            & (self.threshold <= IDENTITIES)
+            & !words::has_bit(self.pending[0], 0)
+            & !words::has_bit(self.enable[0], 0)
     }
 }

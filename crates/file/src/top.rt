@@ -1,5 +1,5 @@
 // A file's top interrupt, its claim, and its signal to the hart.
-ghost use Rattle.std.specs.Prelude.{◌≡◌};
+ghost use Rattle.std.specs.Prelude.{◌≡◌, ◌≤◌};
 ghost use Rattle.sizes.specs.Sizes.{identities};
 ghost use Rattle.file.specs.Top.{top_identity, top_of, claimed, signals};
 
@@ -16,17 +16,18 @@ impl File {
     // The lowest identity that qualifies, or 0. If the threshold shuts out the lowest that is pending and
     // enabled, it shuts out every higher one; if there is none, both ways give 0.
     pub fn top_identity(self) -> u32
-        ensures { result ≡ top_identity identities self }
+        ensures value { result ≡ top_identity identities self }
+        ensures low { result ≤ identities }
     {
-        let pending = self.pending;
-        let enable = self.enable;
-        let i = lowest_shared(pending, enable);
+        let i = lowest_shared(self.pending, self.enable);
         if words::passes(self.threshold, i) {
-            return i;
+            i
+        } else {
+            0
         }
-        0
     }
 
+    #[tactic(auto, unfolding(crate::specs::Top::top_of))]
     pub fn top(self) -> u32
         ensures { result ≡ top_of identities self }
     {
@@ -51,13 +52,10 @@ impl File {
 
     // Whether the file signals by itself: its delivery is 1 and it has a top. With delivery 0x40000000 the
     // signal is that of its domain, which a file does not know: the board has it.
+    #[tactic(auto, unfolding(crate::specs::Top::top_of, crate::specs::Top::signals))]
     pub fn signals(self) -> bool
         ensures { result ≡ signals identities self }
     {
-        let delivery = self.delivery;
-        if delivery == 1 {
-            return self.top_identity() != 0;
-        }
-        false
+        self.delivery == 1 && self.top_identity() != 0
     }
 }

@@ -8,14 +8,6 @@ use Rattle.file_message.specs.Message.{log_word, hart_in, file_in, identity_in}
 -- ---- the parts of a log word
 
 module _ (m : ℕ) where
-  pub hart_in-lt : hart_in m < 4
-  unfolding hart_in
-  hart_in-lt = omega arith
-
-  pub file_in-lt : file_in m < 8
-  unfolding file_in
-  file_in-lt = omega arith
-
   pub identity_in-lt : identity_in m < 256
   unfolding identity_in
   identity_in-lt = omega arith

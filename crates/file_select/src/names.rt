@@ -10,8 +10,7 @@ pub fn select_legal(select: u64) -> bool
     ensures { result ≡ select_legal select }
 {
     match select {
-        EIDELIVERY..EIP0 => true,
-        EIP0..=0xFF => select % 2 != 1,
+        EIDELIVERY..=0xFF => select < EIP0 || select % 2 != 1,
         _ => false,
     }
 }

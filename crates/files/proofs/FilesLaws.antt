@@ -152,11 +152,7 @@ all_reached-more fs l k h =
 
 -- `Named` said of each word of the log
 module _ (l : List ℕ) (n : ℕ) where
-  pub named-each : Named l n → (k : ℕ) → k < n → file_in (get_or l k 0) < 5
-  unfolding Named
-  named-each named = named
-
-  -- the same of the first n words alone
+  -- the first n words alone
   pub named-first : Named l n → (k : ℕ) → k < length (take n l) → file_in (get_or (take n l) k 0) < 5
   unfolding Named
   named-first named k h =
