@@ -1,4 +1,4 @@
--- Claims 1 to 14: what the contract says is the claim itself. Assumes nothing.
+-- Claims 1 to 14: what the contract says, or one clause of it, is the claim itself. Assumes nothing.
 use Rattle.claims_file.specs.FileCalls.{Claim-1, Claim-2, Claim-3, Claim-4, Claim-5, Claim-6, Claim-7}
 use Rattle.claims_file.specs.FileCalls.{Claim-8, Claim-9, Claim-10, Claim-11, Claim-12, Claim-13}
 use Rattle.claims_file.specs.FileCalls.{Claim-14}
@@ -17,7 +17,7 @@ claim-3 f a r learnt = learnt
 
 pub claim-4 : Claim-4
 unfolding Claim-4
-claim-4 f r learnt = learnt
+claim-4 f r learnt = learnt.value
 
 pub claim-5 : Claim-5
 unfolding Claim-5
