@@ -17,7 +17,7 @@ claim-3 f a r learnt = learnt
 
 pub claim-4 : Claim-4
 unfolding Claim-4
-claim-4 f r learnt = learnt.value
+claim-4 f r learnt = learnt.0
 
 pub claim-5 : Claim-5
 unfolding Claim-5
