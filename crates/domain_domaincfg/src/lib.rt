@@ -50,10 +50,8 @@ fn redeliver(part: &mut [u32; DOMAIN_SIZE], wires: [u32; SOURCE_SET_SIZE])
         ≡ redelivered_from (domain_of part.old) wires 1 source_count }
 {
     let messages = domain::by_messages(part);
-    let mut i: usize = 1;
-    while i < SLOT_COUNT {
+    for i in 1..SLOT_COUNT {
         redeliver_source(part, wires, messages, i);
-        i += 1;
     }
 }
 

@@ -32,10 +32,8 @@ fn with_eight(mut x: Rectified, part: &[u32; DOMAIN_SIZE], k: usize, b: u32) -> 
     requires { (k < source_set_size) × (b + 8 ≤ 32) × RectifiedTo (domain_of part.now) k b x }
     ensures { RectifiedTo (domain_of part.now) k (b + 8) result }
 {
-    let mut j: u32 = 0;
-    while j < 8 {
+    for j in 0..8 {
         x = with_source(x, part, k, b + j);
-        j += 1;
     }
     x
 }
@@ -45,10 +43,8 @@ fn gather(part: &[u32; DOMAIN_SIZE], k: usize) -> Rectified
     ensures { RectifiedTo (domain_of part.now) k 32 result }
 {
     let mut x = Rectified { high: 0, low: 0 };
-    let mut b: u32 = 0;
-    while b < 32 {
-        x = with_eight(x, part, k, b);
-        b += 8;
+    for eight in 0..4 {
+        x = with_eight(x, part, k, 8 * eight);
     }
     x
 }
