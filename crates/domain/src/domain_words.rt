@@ -1,6 +1,6 @@
 // A domain's own words: domaincfg, genmsi, and the pending and enable words.
-ghost use Rattle.std.specs.Prelude.{◌≡◌, ℕ, ◌<◌, length, get_or};
-ghost use Rattle.sizes.specs.Sizes.{source_set_size, slot_count, domain_size};
+ghost use Rattle.std.specs.Prelude.{◌≡◌, ℕ, ◌<◌, get_or};
+ghost use Rattle.sizes.specs.Sizes.{source_set_size, slot_count};
 ghost use Rattle.words.specs.Bits.{has_bit};
 ghost use Rattle.domain.specs.Domain.{domain_of, domaincfg_of, genmsi_of, is_enabled, by_messages};
 ghost use Rattle.domain.specs.Domain.{with_domaincfg, with_genmsi};
@@ -17,17 +17,19 @@ pub fn domaincfg(part: &[u32; DOMAIN_SIZE]) -> u32
 }
 
 // IE: the domain signals and sends.
+#[tactic(auto, unfolding(crate::specs::Domain::is_enabled))]
 pub fn enabled(part: &[u32; DOMAIN_SIZE]) -> bool
     ensures { result ≡ is_enabled (domain_of part.now) }
 {
-    words::has_bit(part[0], IE_BIT)
+    words::has_bit(domaincfg(part), IE_BIT)
 }
 
 // DM: false is direct delivery, true by messages.
+#[tactic(auto, unfolding(crate::specs::Domain::by_messages))]
 pub fn by_messages(part: &[u32; DOMAIN_SIZE]) -> bool
     ensures { result ≡ by_messages (domain_of part.now) }
 {
-    words::has_bit(part[0], DM_BIT)
+    words::has_bit(domaincfg(part), DM_BIT)
 }
 
 pub fn genmsi(part: &[u32; DOMAIN_SIZE]) -> u32

@@ -1,6 +1,7 @@
 // A source's slot: its mode and target words, its pending and enable bits.
-ghost use Rattle.std.specs.Prelude.{◌≡◌, ◌<◌, length, set};
-ghost use Rattle.sizes.specs.Sizes.{slot_count, domain_size};
+ghost use Rattle.std.specs.Prelude.{◌≡◌, ◌+◌, ◌/◌, ◌%◌, ◌≤◌, ◌<◌, set, get_or};
+ghost use Rattle.sizes.specs.Sizes.{slot_count, source_set_size, domain_size};
+ghost use Rattle.words.specs.Bits.{put_bit};
 ghost use Rattle.words.specs.Sets.{put};
 ghost use Rattle.domain.specs.Domain.{domain_of, with_targets, with_pendings, with_enables};
 ghost use Rattle.domain.specs.Slot.{source_at, with_source};
@@ -32,14 +33,23 @@ pub fn put_target(part: &mut [u32; DOMAIN_SIZE], i: usize, target: u32)
     part[TARGETS_PLACE + i] = target;
 }
 
+// Number `i` in the set whose words begin at `place`.
+fn put_member(part: &mut [u32; DOMAIN_SIZE], place: usize, i: usize, on: bool)
+    requires { (place + source_set_size ≤ domain_size) × (i < slot_count) }
+    ensures { part.new ≡ set part.old (place + i / 32)
+        (put_bit (get_or part.old (place + i / 32) 0) (i % 32) on) }
+{
+    let word = &mut part[place + i / 32];
+    *word = words::put_bit(*word, (i % 32) as u32, on);
+}
+
 // Its pending bit alone.
 pub fn put_pending(part: &mut [u32; DOMAIN_SIZE], i: usize, pending: bool)
     requires { i < slot_count }
     ensures { domain_of part.new ≡ with_pendings (domain_of part.old)
         (put (domain_of part.old).pending i pending) }
 {
-    let word = words::put_bit(part[PENDINGS_PLACE + i / 32], (i % 32) as u32, pending);
-    part[PENDINGS_PLACE + i / 32] = word;
+    put_member(part, PENDINGS_PLACE, i, pending);
 }
 
 // Its enable bit alone.
@@ -48,8 +58,7 @@ pub fn put_enabled(part: &mut [u32; DOMAIN_SIZE], i: usize, enabled: bool)
     ensures { domain_of part.new ≡ with_enables (domain_of part.old)
         (put (domain_of part.old).enable i enabled) }
 {
-    let word = words::put_bit(part[ENABLES_PLACE + i / 32], (i % 32) as u32, enabled);
-    part[ENABLES_PLACE + i / 32] = word;
+    put_member(part, ENABLES_PLACE, i, enabled);
 }
 
 // Both words are read before the first is stored: part by part is seven instructions dearer.

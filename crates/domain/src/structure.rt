@@ -1,6 +1,6 @@
 // A hart's delivery structure: three words.
-ghost use Rattle.std.specs.Prelude.{◌≡◌, ◌<◌, length};
-ghost use Rattle.sizes.specs.Sizes.{hart_count, domain_size};
+ghost use Rattle.std.specs.Prelude.{◌≡◌, ◌<◌};
+ghost use Rattle.sizes.specs.Sizes.{hart_count};
 ghost use Rattle.domain.specs.Domain.{domain_of};
 ghost use Rattle.domain.specs.Structure.{structure_at, with_structure};
 

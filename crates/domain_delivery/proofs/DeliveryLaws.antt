@@ -1,10 +1,10 @@
 -- Laws of specs/Delivery.antt. No contract cites this file. Assumes nothing.
 use Prim.Native.Nat.{ℕ, ◌%◌, ◌≤◌, ◌<◌}
 use mathlib.Core.Path.{◌≡◌, refl}
-use mathlib.Core.Bool.{Bool, true, false, not, ◌&&◌, and-false, or-true}
+use mathlib.Core.Bool.{Bool, true, false, not, ◌&&◌, or-true}
 use mathlib.Core.Logic.{◌≢◌, ◌↔◌, ◌⊎◌, inl, inr, ⊎_elim}
 use native.Mathlib.Omega.{arith}
-use lib.Dec.{eqb, leb, ltb}
+use lib.Dec.{eqb, leb}
 use borrow.Author.Tests.{eqb-true, eqb-false, leb-true, ltb-true, not-true}
 use borrow.Author.Tests.{lt-ltb, le-leb, lt-leb, eq-eqb, ne_eqb}
 use Rattle.words.proofs.TestsLaws.{tested, and_first, and_second, and_both, or_cases}
@@ -67,18 +67,6 @@ module _ (d : Delivery) where
         λ p. and_both _ _ (and_both _ _ (le-leb _ 1 p.0) (le-leb _ 1 p.1)) (lt-ltb _ 256 p.2),
       )
 
-  pub unsound-idelivery : 1 < d.idelivery → delivery_sound d ≡ false
-  unfolding delivery_sound
-  unsound-idelivery h = simp (lt-leb d.idelivery 1 h)
-
-  pub unsound-iforce : 1 < d.iforce → delivery_sound d ≡ false
-  unfolding delivery_sound
-  unsound-iforce h = simp (lt-leb d.iforce 1 h, and-false)
-
-  pub sound-rest : d.idelivery ≤ 1 → d.iforce ≤ 1 → delivery_sound d ≡ ltb d.ithreshold 256
-  unfolding delivery_sound
-  sound-rest a b = simp (le-leb d.idelivery 1 a, le-leb d.iforce 1 b)
-
 -- each write keeps it
 module _ (d : Delivery) (sound : delivery_sound d ≡ true) where
   pub idelivery-keeps : (v : ℕ) → delivery_sound (with_idelivery d v) ≡ true
@@ -131,18 +119,3 @@ module _ (d : Delivery) (e : Bool) (t : ℕ) where
             and_both _ _ (and_both _ _ p.0 (eq-eqb _ 1 p.1))
             (⊎_elim (λ n. simp (ne_eqb d.iforce 0 n)) (λ n. simp (ne_eqb t 0 n, or-true)) p.2),
       )
-
-  pub signals-disabled : e ≡ false → structure_signals d e t ≡ false
-  unfolding structure_signals
-  signals-disabled z = simp z
-
-  pub signals-off : d.idelivery ≢ 1 → structure_signals d e t ≡ false
-  unfolding structure_signals
-  signals-off n = simp (ne_eqb d.idelivery 1 n, and-false)
-
-  pub signals-forced : e ≡ true → d.idelivery ≡ 1 → d.iforce ≢ 0 → structure_signals d e t ≡ true
-  signals-forced z on n = signals-iff.1 (z, on, inl n)
-
-  pub signals-top : e ≡ true → d.idelivery ≡ 1 → d.iforce ≡ 0 → structure_signals d e t ≡ not (eqb t 0)
-  unfolding structure_signals
-  signals-top z on n = simp (z, eq-eqb d.idelivery 1 on, eq-eqb d.iforce 0 n)

@@ -15,58 +15,61 @@ pub struct Delivery {
 }
 
 // What a register that stores only 0 and 1 holds after `value` was written.
+#[tactic(auto, unfolding(crate::specs::Delivery::switch_of))]
 fn switch_of(old: u32, value: u32) -> u32
     ensures { result ≡ switch_of old value }
 {
-    if value < 2 {
-        return value;
-    }
-    old
+    if value < 2 { value } else { old }
 }
 
 impl Delivery {
-    pub fn with_idelivery(mut self, value: u32) -> Delivery
+    #[tactic(auto, unfolding(crate::specs::Delivery::with_idelivery))]
+    pub fn with_idelivery(self, value: u32) -> Delivery
         ensures { result ≡ with_idelivery self value }
     {
-        self.idelivery = switch_of(self.idelivery, value);
-        self
+        Delivery {
+            idelivery: switch_of(self.idelivery, value),
+            ..self
+        }
     }
 
-    pub fn with_iforce(mut self, value: u32) -> Delivery
+    #[tactic(auto, unfolding(crate::specs::Delivery::with_iforce))]
+    pub fn with_iforce(self, value: u32) -> Delivery
         ensures { result ≡ with_iforce self value }
     {
-        self.iforce = switch_of(self.iforce, value);
-        self
+        Delivery {
+            iforce: switch_of(self.iforce, value),
+            ..self
+        }
     }
 
-    pub fn with_ithreshold(mut self, value: u32) -> Delivery
+    #[tactic(auto, unfolding(crate::specs::Delivery::with_ithreshold))]
+    pub fn with_ithreshold(self, value: u32) -> Delivery
         ensures { result ≡ with_ithreshold self value }
     {
-        self.ithreshold = value % 256;
-        self
+        Delivery {
+            ithreshold: value % 256,
+            ..self
+        }
     }
 
     // What a claim that finds nothing does.
-    pub fn without_force(mut self) -> Delivery
+    #[tactic(auto, unfolding(crate::specs::Delivery::without_force))]
+    pub fn without_force(self) -> Delivery
         ensures { result ≡ without_force self }
     {
-        self.iforce = 0;
-        self
+        Delivery { iforce: 0, ..self }
     }
 
+    #[tactic(auto, unfolding(crate::specs::Delivery::delivery_sound))]
     pub fn sound(self) -> bool
         ensures { result ≡ delivery_sound self }
     {
-        if 1 < self.idelivery {
-            return false;
-        }
-        if 1 < self.iforce {
-            return false;
-        }
-        self.ithreshold < 256
+        self.idelivery <= 1 && self.iforce <= 1 && self.ithreshold < 256
     }
 
     // The threshold lets an interrupt of this priority through.
+    #[tactic(auto, unfolding(crate::specs::Delivery::lets))]
     pub fn lets(self, priority: u32) -> bool
         ensures { result ≡ lets self priority }
     {
@@ -74,18 +77,10 @@ impl Delivery {
     }
 
     // The signal to the hart of a domain in direct mode: `enabled` is its IE, `top` the structure's topi.
+    #[tactic(auto, unfolding(crate::specs::Delivery::structure_signals))]
     pub fn signals(self, enabled: bool, top: u32) -> bool
         ensures { result ≡ structure_signals self enabled top }
     {
-        if !enabled {
-            return false;
-        }
-        if self.idelivery != 1 {
-            return false;
-        }
-        if self.iforce != 0 {
-            return true;
-        }
-        top != 0
+        enabled && self.idelivery == 1 && (self.iforce != 0 || top != 0)
     }
 }

@@ -12,6 +12,7 @@ use sizes::{DOMAIN_SIZE, LOG_SIZE};
 use source_target::{hart_of, number_of, under_hart};
 
 // What a write keeps, and the log word of the message that it sends at once.
+#[tactic(auto, unfolding(crate::specs::Genmsi::kept_genmsi))]
 pub fn kept_genmsi(value: u32) -> u32
     ensures { result ≡ kept_genmsi value }
 {
@@ -28,6 +29,7 @@ pub fn genmsi_message(child: bool, value: u32) -> u32
 }
 
 // Ignored in direct mode. What it sends is not sent here.
+#[tactic(auto, unfolding(crate::specs::Genmsi::genmsi_written))]
 pub fn write_genmsi(part: &mut [u32; DOMAIN_SIZE], value: u32)
     ensures { domain_of part.new ≡ genmsi_written (domain_of part.old) value }
 {
@@ -37,16 +39,19 @@ pub fn write_genmsi(part: &mut [u32; DOMAIN_SIZE], value: u32)
 }
 
 // 0 in direct mode.
+#[tactic(auto, unfolding(crate::specs::Genmsi::genmsi_read))]
 pub fn read_genmsi(part: &[u32; DOMAIN_SIZE]) -> u32
     ensures { result ≡ genmsi_read (domain_of part.now) }
 {
     if domain::by_messages(part) {
-        return domain::genmsi(part);
+        domain::genmsi(part)
+    } else {
+        0
     }
-    0
 }
 
 // Sent whatever IE is, and in message mode only. It comes first in `log`; answers the number of messages.
+#[tactic(auto, unfolding(crate::specs::Genmsi::genmsi_sent))]
 pub fn send_genmsi(
     part: &[u32; DOMAIN_SIZE],
     child: bool,

@@ -1,14 +1,14 @@
 -- Laws of specs/Region.antt. No contract cites this file. Assumes nothing.
 use Prim.Native.Nat.{ℕ, zero, suc, ◌+◌, ◌-◌, ◌*◌, ◌/◌, ◌%◌, ◌≤◌, ◌<◌}
 use mathlib.Core.Path.{◌≡◌, refl, ap, subst, ◌∙◌}
-use mathlib.Core.Bool.{Bool, true, false, cond, ◌&&◌, and-true, and-false}
+use mathlib.Core.Bool.{Bool, true, false, cond, ◌&&◌}
 use mathlib.Core.List.{List, [], ◌∷◌, ◌++◌}
 use mathlib.Core.Logic.{◌↔◌}
 use native.Mathlib.Nat.{mul-div_right, add-sub_cancel_left}
 use native.Mathlib.Omega.{arith}
 use lib.Dec.{eqb, leb, lit<}
 use lib.ListN.{take, drop}
-use borrow.Author.Tests.{eqb-true, leb-true, ltb-true, le-leb, le-ltb, lt-ltb, eq-eqb}
+use borrow.Author.Tests.{eqb-true, leb-true, ltb-true, le-leb, lt-ltb, eq-eqb}
 use Rattle.words.proofs.BitsLaws.{bit-cases}
 use Rattle.words.proofs.TestsLaws.{and_first, and_second, and_both}
 use Rattle.domain_region.specs.declared.Word.{Word}
@@ -22,14 +22,6 @@ use Rattle.domain_region.specs.Region.{address_legal, Row, words_from, registers
 use Rattle.domain_region.specs.Region.{word_at, Within}
 
 -- ---- legal addresses
-
-pub legal-past : (a : ℕ) → 0x5000 ≤ a → address_legal a ≡ false
-unfolding address_legal
-legal-past a h = simp (le-ltb a 0x5000 h, and-false)
-
-pub legal-inside : (a : ℕ) → a < 0x5000 → address_legal a ≡ eqb (a % 4) 0
-unfolding address_legal
-legal-inside a h = simp (lt-ltb a 0x5000 h, and-true)
 
 pub legal-iff : (a : ℕ) → address_legal a ≡ true ↔ ((a % 4 ≡ 0) × (a < 0x5000))
 unfolding address_legal

@@ -38,13 +38,11 @@ pub enum Word {
     Unused,
 }
 
+#[tactic(auto, unfolding(crate::specs::Region::address_legal))]
 pub fn address_legal(address: u64) -> bool
     ensures { result ≡ address_legal address }
 {
-    if 0x5000 <= address {
-        return false;
-    }
-    address % 4 == 0
+    address % 4 == 0 && address < 0x5000
 }
 
 pub fn word_at(address: u64) -> Word

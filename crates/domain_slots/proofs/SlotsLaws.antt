@@ -100,14 +100,9 @@ so-far-none c d = record {
   inverted = none-gathered inverted_word d;
 }
 
--- the place of the next source, in one sum
-pub so-far-next : (c : Bool) (d : Domain) (i k : ℕ) {g : Gathered} → SoFar c d (i + k + 1) g
-    → SoFar c d (i + (k + 1)) g
-so-far-next c d i k {g} s =
-    let e : i + k + 1 ≡ i + (k + 1) = omega arith in transport (λ j. SoFar c d (e j) g) s
-
-pub so-far-end : (c : Bool) (d : Domain) (i : ℕ) {g : Gathered} → i ≡ 64 → SoFar c d i g → SoFar c d 64 g
-so-far-end c d i {g} e s = transport (λ j. SoFar c d (e j) g) s
+-- the place of the next source, counted otherwise
+pub so-far-at : (c : Bool) (d : Domain) {i k : ℕ} {g : Gathered} → i ≡ k → SoFar c d i g → SoFar c d k g
+so-far-at c d {i} {k} {g} e s = transport (λ j. SoFar c d (e j) g) s
 
 module _ (c : Bool) (d : Domain) (i : ℕ) (g r : Gathered) (h : 0 < i) where
   pub so_far_more : SoFar c d i g → Slotted c (by_messages d) (source_at d i).mode

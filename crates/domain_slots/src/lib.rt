@@ -8,7 +8,7 @@ ghost use Rattle.domain.specs.Domain.{domain_of, by_messages};
 ghost use Rattle.source_rules.specs.SourceParts.{occupied};
 ghost use Rattle.domain_slots.specs.Slots.{SoFar, Slotted};
 
-use sizes::{DOMAIN_SIZE, SLOT_COUNT};
+use sizes::{DOMAIN_SIZE, SOURCE_COUNT};
 use source_mode::{DELEGATED_WORD, LEVEL0, LEVEL1};
 use source_rules::{mode_fault, target_fault};
 use words_masks::with_bit64;
@@ -86,8 +86,8 @@ pub fn gather(part: &[u32; DOMAIN_SIZE], child: bool) -> Gathered
         straight: 0,
         inverted: 0,
     };
-    let mut i: usize = 1;
-    while i < SLOT_COUNT {
+    for seven in 0..SOURCE_COUNT / 7 {
+        let i = 7 * seven + 1;
         g = slot_at(g, part, child, messages, i);
         g = slot_at(g, part, child, messages, i + 1);
         g = slot_at(g, part, child, messages, i + 2);
@@ -95,7 +95,6 @@ pub fn gather(part: &[u32; DOMAIN_SIZE], child: bool) -> Gathered
         g = slot_at(g, part, child, messages, i + 4);
         g = slot_at(g, part, child, messages, i + 5);
         g = slot_at(g, part, child, messages, i + 6);
-        i += 7;
     }
     g
 }
