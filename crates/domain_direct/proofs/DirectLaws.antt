@@ -19,8 +19,8 @@ use Rattle.domain_direct.specs.Direct.{top_source, topi_of, unforced, released, 
 use Rattle.domain_direct.specs.Direct.{number_at, written_at, setting_of, setting_written}
 
 -- a structure that top 1 does not make signal is silent at every top
-pub signals-silent : (x : Delivery) (e : Bool) (t : ℕ) → structure_signals x e 1 ≡ false → structure_signals x e t
-    ≡ false
+pub signals-silent : (x : Delivery) (e : Bool) (t : ℕ) → structure_signals x e 1 ≡ false
+    → structure_signals x e t ≡ false
 signals-silent x e t off =
     tested (structure_signals x e t)
     (λ on. let p = (signals-iff x e t).0 on in

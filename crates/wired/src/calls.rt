@@ -1,6 +1,6 @@
 // A wire set, a register read or written, with what is then sent. Messages come first in `log`.
 ghost use Rattle.std.specs.Prelude.{◌≡◌, true, ◌≤◌, ◌<◌, length};
-ghost use Rattle.sizes.specs.Sizes.{slot_count, wired_size, log_size};
+ghost use Rattle.sizes.specs.Sizes.{slot_count};
 ghost use Rattle.domain_region.specs.Region.{Within};
 ghost use Rattle.wired_state.specs.Wires.{wired_of, domain_in};
 ghost use Rattle.wired_registers.specs.Wired.{read_in};
@@ -12,12 +12,17 @@ ghost use Rattle.wired.specs.Controller.{Leaves};
 use super::pass::flush;
 use domain_genmsi::send_genmsi;
 use domain_region::{Role, Word, role_of};
-use sizes::{CHILD_PLACE, MACHINE_PLACE, WIRED_SIZE};
+use sizes::{LOG_SIZE, WIRED_SIZE};
+use wired_state::domain_part;
 
 // Answers the number of messages.
-pub fn set_wire(w: &mut [u32], log: &mut [u32], i: usize, level: bool) -> usize
-    requires { (length w.old ≡ wired_size) × (length log.old ≡ log_size) × (1 ≤ i) × (i < slot_count)
-        × (wired_sound (wired_of w.old) ≡ true) }
+pub fn set_wire(
+    w: &mut [u32; WIRED_SIZE],
+    log: &mut [u32; LOG_SIZE],
+    i: usize,
+    level: bool,
+) -> usize
+    requires { (1 ≤ i) × (i < slot_count) × (wired_sound (wired_of w.old) ≡ true) }
     ensures { Leaves (wire_call (wired_of w.old) i level) (wired_of w.new)
         log.old log.new result }
 {
@@ -26,8 +31,8 @@ pub fn set_wire(w: &mut [u32], log: &mut [u32], i: usize, level: bool) -> usize
 }
 
 // Nothing is sent: a claim can only clear a pending bit.
-pub fn read(w: &mut [u32], child: bool, word: Word) -> u32
-    requires { (length w.old ≡ wired_size) × Within word × (wired_sound (wired_of w.old) ≡ true) }
+pub fn read(w: &mut [u32; WIRED_SIZE], child: bool, word: Word) -> u32
+    requires { Within word × (wired_sound (wired_of w.old) ≡ true) }
     ensures { (result ≡ read_in (wired_of w.old) child word)
         × (wired_of w.new ≡ (read_call (wired_of w.old) child word).wired) }
 {
@@ -35,25 +40,32 @@ pub fn read(w: &mut [u32], child: bool, word: Word) -> u32
 }
 
 // The message of a write to genmsi, which is sent at once.
-fn generate(w: &[u32], log: &mut [u32], child: bool, word: Word, value: u32) -> usize
-    requires { (length w.now ≡ wired_size) × (length log.old ≡ log_size) }
+fn generate(
+    w: &[u32; WIRED_SIZE],
+    log: &mut [u32; LOG_SIZE],
+    child: bool,
+    word: Word,
+    value: u32,
+) -> usize
     ensures { (log.new ≡ logged log.old
         (genmsi_by child (domain_in (wired_of w.now) child) word value))
         × (result ≡ length (genmsi_by child (domain_in (wired_of w.now) child) word value)) }
 {
-    let Role::Generates = role_of(word) else {
-        return 0;
-    };
-    if child {
-        return send_genmsi(&w[CHILD_PLACE..WIRED_SIZE], true, value, log);
+    match role_of(word) {
+        Role::Generates => send_genmsi(domain_part(w, child), child, value, log),
+        _ => 0,
     }
-    send_genmsi(&w[MACHINE_PLACE..CHILD_PLACE], false, value, log)
 }
 
 // Answers the number of messages. That of a genmsi is the only one of its call.
-pub fn write(w: &mut [u32], log: &mut [u32], child: bool, word: Word, value: u32) -> usize
-    requires { (length w.old ≡ wired_size) × (length log.old ≡ log_size) × Within word
-        × (wired_sound (wired_of w.old) ≡ true) }
+pub fn write(
+    w: &mut [u32; WIRED_SIZE],
+    log: &mut [u32; LOG_SIZE],
+    child: bool,
+    word: Word,
+    value: u32,
+) -> usize
+    requires { Within word × (wired_sound (wired_of w.old) ≡ true) }
     ensures { Leaves (write_call (wired_of w.old) child word value) (wired_of w.new)
         log.old log.new result }
 {

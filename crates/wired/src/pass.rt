@@ -1,20 +1,32 @@
 // The pass after a change: each domain sends what is to be sent.
 ghost use Rattle.std.specs.Prelude.{◌≡◌, length};
-ghost use Rattle.sizes.specs.Sizes.{wired_size, log_size};
-ghost use Rattle.wired_state.specs.Wires.{wired_of};
+ghost use Rattle.domain_sending.specs.Sending.{sent, logged};
+ghost use Rattle.wired_state.specs.Wires.{wired_of, domain_in, with_domain};
 ghost use Rattle.wired.specs.Controller.{flushed, OneSends, Leaves};
 
-use sizes::{CHILD_PLACE, MACHINE_PLACE, WIRED_SIZE};
+use domain_sending::send;
+use sizes::{LOG_SIZE, WIRED_SIZE};
+use wired_state::place_of;
+
+fn send_of(w: &mut [u32; WIRED_SIZE], child: bool, log: &mut [u32; LOG_SIZE]) -> usize
+    ensures { (wired_of w.new ≡ with_domain (wired_of w.old) child
+        (sent child (domain_in (wired_of w.old) child)).domain)
+        × (log.new ≡ logged log.old (sent child (domain_in (wired_of w.old) child)).messages)
+        × (result ≡ length (sent child (domain_in (wired_of w.old) child)).messages) }
+{
+    let (_, words) = w.split_at_mut(place_of(child));
+    send(words.first_chunk_mut().unwrap(), child, log)
+}
 
 // Both domains never send in one call. The messages come first in `log`; answers their number.
-pub fn flush(w: &mut [u32], log: &mut [u32]) -> usize
-    requires { (length w.old ≡ wired_size) × (length log.old ≡ log_size) × OneSends (wired_of w.old) }
+pub fn flush(w: &mut [u32; WIRED_SIZE], log: &mut [u32; LOG_SIZE]) -> usize
+    requires { OneSends (wired_of w.old) }
     ensures { Leaves (flushed (wired_of w.old)) (wired_of w.new) log.old
         log.new result }
 {
-    let n = domain_sending::send(&mut w[MACHINE_PLACE..CHILD_PLACE], false, log);
+    let n = send_of(w, false, log);
     if n != 0 {
         return n;
     }
-    domain_sending::send(&mut w[CHILD_PLACE..WIRED_SIZE], true, log)
+    send_of(w, true, log)
 }

@@ -15,7 +15,8 @@ use Rattle.words.proofs.SegmentLaws.{segment-long}
 use Rattle.words.proofs.SetsLaws.{put_word}
 use Rattle.domain.specs.Domain.{Domain, domain_of}
 use Rattle.domain.specs.Slot.{source_at}
-use Rattle.wired_state.specs.Wires.{Wired, wired_of, place_of, domain_in, with_domain, is_delegated, with_wires}
+use Rattle.wired_state.specs.Wires.{Wired, wired_of, place_of, domain_in, with_domain, is_delegated}
+use Rattle.wired_state.specs.Wires.{with_wires}
 use Rattle.sizes.specs.Sizes.{child_place, domain_size, wired_size}
 
 -- two controllers are equal if their parts are

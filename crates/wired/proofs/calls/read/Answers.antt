@@ -10,17 +10,14 @@ use Rattle.wired.proofs.calls.read.Goals as goal
 pub read-requires : goal.read-requires
 read-requires c =
     let l = c.args.w.now in
-    let steady = words-steady l c.requires.0 c.requires.2 in (
-      c.requires.0,
-      domaincfg-low (steady-domain_in (wired_of l) steady c.args.child),
-      c.requires.1,
-    )
+    let steady = words-steady l c.told-w c.requires.1 in
+    (domaincfg-low (steady-domain_in (wired_of l) steady c.args.child), c.requires.0)
 
 pub returns : goal.returns
 returns c =
     let l = c.args.w.now in
-    let long = c.requires.0 in
-    let sound = c.requires.2 in
+    let long = c.told-w in
+    let sound = c.requires.1 in
     let silent = read-silent (wired_of l) (words-steady l long sound) (words-quiet l long sound)
     c.args.child c.args.word in
     (c.read.ensures.0, c.read.ensures.1 ∙ sym (ap (λ (o : Out). o.wired) silent))

@@ -1,5 +1,5 @@
 -- `wired::calls::set_wire` meets its contract: a wire, and the pass after it. Assumes nothing.
-use mathlib.Core.Path.{sym, ap, subst, ◌∙◌}
+use mathlib.Core.Path.{sym, ap, subst}
 use Rattle.wired_state.specs.Wires.{wired_of}
 use Rattle.wired.specs.Controller.{flushed, wire_call, OneSends}
 use Rattle.wired.proofs.ControllerLaws.{leaves_of}
@@ -9,14 +9,11 @@ use Rattle.wired.proofs.calls.set_wire.Goals as goal
 pub flush-requires : goal.flush-requires
 flush-requires c =
     let l = c.args.w.now in
-    let long = c.requires.0 in
-    let sound = c.requires.4 in (
-      c.set_wire.auto.w ∙ long,
-      c.requires.1,
-      subst OneSends (sym c.set_wire.ensures)
-          (one-wire_set (wired_of l) (words-steady l long sound) (words-quiet l long sound) c.args.i
-          c.requires.2 c.requires.3 c.args.level),
-    )
+    let long = c.told-w in
+    let sound = c.requires.2 in
+    subst OneSends (sym c.set_wire.ensures)
+    (one-wire_set (wired_of l) (words-steady l long sound) (words-quiet l long sound) c.args.i
+    c.requires.0 c.requires.1 c.args.level)
 
 pub returns : goal.returns
 unfolding wire_call

@@ -1,37 +1,37 @@
 -- `wired::pass::flush` meets its contract: the machine domain sends, or else the child. Assumes nothing.
-use mathlib.Core.Path.{◌∙◌}
+use mathlib.Core.Path.{refl, ap, ◌∙◌}
 use mathlib.Core.Bool.{true, false}
-use mathlib.Core.List.{◌++◌}
-use lib.ListN.{take, drop}
-use Rattle.wired_state.specs.Wires.{wired_of}
-use Rattle.wired_state.proofs.WiresLaws.{machine-part, machine-long, child-long, put-machine, put-long}
-use Rattle.wired_state.proofs.WiresLaws.{both-put, second-part}
+use Rattle.domain_sending.specs.Sending.{sent}
+use Rattle.wired_state.specs.Wires.{Wired, wired_of, domain_in}
+use Rattle.wired_state.proofs.WiresLaws.{domain-machine, domain-child, with-machine, with-child}
 use Rattle.wired.proofs.ControllerLaws.{answers_of, answered-first, answered-second}
-use Rattle.sizes.specs.Sizes.{domain_size}
 use Rattle.wired.proofs.pass.flush.Goals as goal
 
 pub returns-then-n-ne0 : goal.returns-then-n-ne0
 returns-then-n-ne0 c =
-    let l = c.args.w.now in
-    let long = c.requires.0 in
-    let put = put-machine l c.send-n.new.part long (c.send-n.auto.part ∙ machine-long l long) in
-    let answers = answered-first (wired_of l) _ c.args.log.now _ _
-    (answers_of false c.args.log.now (machine-part l long) c.send-n.ensures)
-    c.requires.2 c.if-n-ne0.true in
-    (put ∙ answers.0, answers.1, answers.2)
+    let w = wired_of c.args.w.now in
+    let log = c.args.log.now in
+    let (put, logs, count) = c.send_of-n.ensures in
+    let answers = answered-first w _ log _ _
+    (answers_of false log (domain-machine w false refl) (refl, logs, count)) c.requires c.if-n-ne0.true in
+    (put ∙ with-machine w false _ refl ∙ answers.0, answers.1, answers.2)
 
 pub returns : goal.returns
 returns c =
-    let l = c.args.w.now in
-    let long = c.requires.0 in
-    let ys = c.send-n.new.part in
-    let whole = c.send-n.auto.part ∙ machine-long l long in
-    let first = take 2 l ++ (ys ++ drop domain_size (drop 2 l)) in
-    let put = both-put l ys long whole c.send.new.part
-    (c.send.auto.part ∙ child-long first (put-long l ys long whole)) in
-    let answers = answered-second (wired_of l) _ _ c.args.log.now _ _ _ _
-    (answers_of false c.args.log.now (machine-part l long) c.send-n.ensures)
-    c.if-n-ne0.false
-    (answers_of true c.send-n.new.log (second-part l ys long whole)
-    c.send.ensures) in
-    (put ∙ answers.0, answers.1, answers.2)
+    let w = wired_of c.args.w.now in
+    let log = c.args.log.now in
+    let (first, logs, count) = c.send_of-n.ensures in
+    let put = first ∙ with-machine w false _ refl in
+    let v = wired_of c.send_of-n.new.w in
+    let (second, logs-2, count-2) = c.send_of.ensures in
+    let e = (sent true (domain_in v true)).domain in
+    let answers = answered-second w _ _ log _ _ _ _
+    (answers_of false log (domain-machine w false refl) (refl, logs, count)) c.if-n-ne0.false
+    (answers_of true c.send_of-n.new.log (domain-child v true refl ∙ ap (λ (x : Wired). x.child) put)
+    (refl, logs-2, count-2)) in (
+      second ∙ with-child v true _ refl
+          ∙ ap (λ (x : Wired). record { wires = x.wires; machine = x.machine; child = e }) put
+          ∙ answers.0,
+      answers.1,
+      answers.2,
+    )

@@ -1,7 +1,7 @@
 -- `wired_rules::domains::sound` meets its contract: the wires, each domain, and what concerns both. Assumes
 -- nothing.
 use Prim.Native.Nat.{ℕ}
-use mathlib.Core.Path.{ap, ap₂, ◌∙◌}
+use mathlib.Core.Path.{refl, ap, ap₂, ◌∙◌}
 use mathlib.Core.Bool.{true, false}
 use mathlib.Core.List.{List}
 use Rattle.words.specs.Bits.{without}
@@ -10,7 +10,7 @@ use Rattle.words.proofs.SetsLaws.{member-word}
 use Rattle.words_masks.specs.Masks.{gathered}
 use Rattle.domain.specs.Domain.{Domain}
 use Rattle.wired_state.specs.Wires.{wired_of}
-use Rattle.wired_state.specs.Wires.{domain_in}
+use Rattle.wired_state.proofs.WiresLaws.{domain-child, domain-machine}
 use Rattle.wired_rules.specs.Rules.{domain_sound}
 use Rattle.source_rules.specs.SourceParts.{held_back, occupied}
 use Rattle.domain_slots.specs.Slots.{has}
@@ -18,12 +18,11 @@ use Rattle.wired_rules.proofs.RulesLaws.{wired-sound-read}
 use Rattle.wired_rules.proofs.domains.sound.Goals as goal
 
 pub returns : goal.returns
-unfolding domain_in
 returns c =
     let l = c.args.w.now in
     let wires = c.wires-wires.ensures in
-    let machine = c.domain_part.ensures in
-    let child = c.domain_part-2.ensures in
+    let machine = c.domain_part.ensures ∙ domain-machine (wired_of l) false refl in
+    let child = c.domain_part-2.ensures ∙ domain-child (wired_of l) true refl in
     wired-sound-read (wired_of l)
     (c.has_bit.ensures ∙ member-word _ 0 ∙ ap (λ (ws : List ℕ). member ws 0) wires)
     (c.domain_rules-machine.ensures.0
