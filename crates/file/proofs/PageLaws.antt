@@ -6,9 +6,13 @@ use borrow.Author.Tests.{le-leb, lt-leb, eq-eqb, ne_eqb}
 use native.Mathlib.Omega.{arith}
 use Rattle.words.specs.Parts.{reversed}
 use Rattle.words.specs.Sets.{insert}
+use Rattle.words.proofs.SetsLaws.{insert-word, remove-word}
 use Rattle.file.specs.declared.File.{File}
 use Rattle.file.specs.Parts.{with_pending_set}
 use Rattle.file.specs.Page.{arrived, page_written}
+
+-- a set, by the word that has the number
+pub ruleset set_words = (insert-word, remove-word)
 
 module _ (n : ℕ) (f : File) (i : ℕ) where
   pub arrived-below : i < 1 → arrived n f i ≡ f

@@ -13,7 +13,7 @@ const SETEIPNUM_BE: u64 = 4;
 
 impl File {
     // A message arrives: its identity becomes pending, whatever delivery is.
-    #[tactic(auto, unfolding(crate::specs::Page::arrived, words::specs::Sets::insert))]
+    #[tactic(auto, unfolding(crate::specs::Page::arrived), using(crate::proofs::PageLaws::set_words))]
     pub fn arrive(mut self, identity: u32) -> File
         ensures { result ≡ arrived identities self identity }
     {

@@ -1,9 +1,13 @@
--- Laws of specs/Message.antt: the parts of a log word, and how they are read back. No contract cites this file.
--- Assumes nothing.
+-- Laws of specs/Message.antt: the parts of a log word, and how they are read back. No contract cites this
+-- file. Assumes nothing.
 use Prim.Native.Nat.{ℕ, ◌<◌}
 use mathlib.Core.Path.{◌≡◌}
 use native.Mathlib.Omega.{arith}
+use Rattle.words.proofs.PartsLaws.{field_of-is, packed-is}
 use Rattle.file_message.specs.Message.{log_word, hart_in, file_in, identity_in}
+
+-- what the fields of a word are as arithmetic, for the proofs here
+pub ruleset fields = (field_of-is, packed-is)
 
 -- ---- the parts of a log word
 

@@ -10,7 +10,7 @@ const HART_AT: u32 = 11;
 
 const FILE_AT: u32 = 8;
 
-#[tactic(auto, unfolding(crate::specs::Message::log_word, words::specs::Parts::packed))]
+#[tactic(auto, using(crate::proofs::MessageLaws::fields), unfolding(crate::specs::Message::log_word))]
 pub fn log_word(hart: u32, file: u32, identity: u32) -> u32
     requires { (hart < hart_count) × (file < 8) × (identity < 256) }
     ensures { result ≡ log_word hart file identity }
@@ -19,21 +19,21 @@ pub fn log_word(hart: u32, file: u32, identity: u32) -> u32
 }
 
 // The parts of a log word.
-#[tactic(auto, unfolding(crate::specs::Message::hart_in, words::specs::Parts::field_of))]
+#[tactic(auto, using(crate::proofs::MessageLaws::fields), unfolding(crate::specs::Message::hart_in))]
 pub fn hart_in(word: u32) -> u32
     ensures { (result ≡ hart_in word) × (result < 4) }
 {
     words::field32(word, HART_AT, 2)
 }
 
-#[tactic(auto, unfolding(crate::specs::Message::file_in, words::specs::Parts::field_of))]
+#[tactic(auto, using(crate::proofs::MessageLaws::fields), unfolding(crate::specs::Message::file_in))]
 pub fn file_in(word: u32) -> u32
     ensures { (result ≡ file_in word) × (result < 8) }
 {
     words::field32(word, FILE_AT, 3)
 }
 
-#[tactic(auto, unfolding(crate::specs::Message::identity_in, words::specs::Parts::field_of))]
+#[tactic(auto, using(crate::proofs::MessageLaws::fields), unfolding(crate::specs::Message::identity_in))]
 pub fn identity_in(word: u32) -> u32
     ensures { (result ≡ identity_in word) × (result < 256) }
 {
