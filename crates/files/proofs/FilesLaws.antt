@@ -2,7 +2,7 @@
 -- contract cites this file. Assumes nothing.
 use Prim.Native.Nat.{ℕ, zero, suc, ◌+◌, ◌*◌, ◌%◌, ◌≤◌, ◌<◌}
 use mathlib.Core.Path.{◌≡◌, refl, sym, ap, ◌∙◌}
-use mathlib.Core.Bool.{Bool, true, false, ◌&&◌}
+use mathlib.Core.Bool.{Bool, ◌&&◌}
 use mathlib.Core.Logic.{◌≢◌, ◌⊎◌, inl, inr}
 use mathlib.Core.List.{List, [], ◌∷◌, ◌++◌}
 use native.Mathlib.Decide.{ℕ_discrete, dec_lt}
@@ -12,19 +12,17 @@ use lib.Dec.{leb}
 use lib.ListN.{length, get_or, set, take, length-set, length-take}
 use lib.Seq.{get_or-set_same, get_or-set_other, get_or-take, set-get_or, ext_get_or, take-suc}
 use Rattle.sizes.specs.Sizes.{identities, files_size, file_count, file_size, fields_size}
-use borrow.Author.Tests.{le-leb, lt-leb}
 use Rattle.words.specs.Every.{every}
 use Rattle.words.proofs.EveryLaws.{every_one, every_more}
 use Rattle.file_message.specs.Message.{hart_in, file_in, identity_in}
 use Rattle.file.specs.declared.File.{File}
 use Rattle.file.specs.Page.{arrived}
-use Rattle.file.specs.Rules.{file_sound}
 use Rattle.file.proofs.PageLaws.{arrived-below}
 use Rattle.file.specs.Shape.{Long}
 use Rattle.file_laws.proofs.Stored.{long-back, long_apart}
 use Rattle.file_words.specs.Stored.{file_at, put_file}
 use Rattle.files.specs.Files.{file_number, is_guest, zero_file, files_from, files_of, the_file, with_file}
-use Rattle.files.specs.Files.{named_by, reached, all_reached, Named, sound_at}
+use Rattle.files.specs.Files.{named_by, reached, all_reached, Named}
 
 -- ---- one file of the block
 
@@ -50,6 +48,8 @@ pub the_file-files_of : (l : List ℕ) (k : ℕ) → k < file_count → the_file
 unfolding files_of
 the_file-files_of l k h =
     the_file-files_from l 0 file_count k h ∙ ap (λ (j : ℕ). file_at l (file_size * j)) (omega arith)
+
+pub ruleset loaded = (the_file-files_of)
 
 -- ---- one file replaced
 
@@ -167,25 +167,6 @@ module _ (l : List ℕ) (n : ℕ) where
 pub guest-read : (k : ℕ) → leb 2 (k % 5) ≡ is_guest k
 unfolding is_guest
 guest-read k = refl
-
-pub sound-read : (fs : List File) (k : ℕ) {g : Bool} {f : File} → g ≡ is_guest k → f ≡ the_file fs k
-    → file_sound identities g f ≡ sound_at fs k
-unfolding sound_at
-sound-read fs k g f = λ j. file_sound identities (g j) (f j)
-
--- the files of a hart, of which k is the first
-module _ (k : ℕ) (h : k % 5 ≡ 0) where
-  pub machine-file : false ≡ is_guest k
-  unfolding is_guest
-  machine-file = sym (lt-leb 2 (k % 5) (omega arith))
-
-  pub supervisor-file : false ≡ is_guest (k + 1)
-  unfolding is_guest
-  supervisor-file = sym (lt-leb 2 ((k + 1) % 5) (omega arith))
-
-  pub guest-file : (f : ℕ) → 2 ≤ f → f < 5 → true ≡ is_guest (k + f)
-  unfolding is_guest
-  guest-file f l m = sym (le-leb 2 ((k + f) % 5) (omega arith))
 
 -- five tests in a row
 pub every-five : (p : ℕ → Bool) (k : ℕ) {a b c d e : Bool}

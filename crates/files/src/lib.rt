@@ -13,6 +13,7 @@ mod messages;
 
 pub use messages::deliver;
 
+#[tactic(auto, using(crate::proofs::FilesLaws::loaded))]
 pub fn load(files: &[u32; FILES_SIZE], k: usize) -> File
     requires { k < file_count }
     ensures { result ≡ the_file (files_of files.now) k }
@@ -27,15 +28,16 @@ pub fn store(files: &mut [u32; FILES_SIZE], k: usize, f: File)
     file_words::store(files, FILE_SIZE * k, f);
 }
 
+#[tactic(auto, unfolding(crate::specs::Files::sound_at))]
 fn file_sound(files: &[u32; FILES_SIZE], k: usize, guest: bool) -> bool
     requires { (k < file_count) × (guest ≡ is_guest k) }
     ensures { result ≡ sound_at (files_of files.now) k }
 {
-    let f = load(files, k);
-    f.sound(guest)
+    load(files, k).sound(guest)
 }
 
 // The files of a hart: its machine's and supervisor's, then its guests'.
+#[tactic(auto, unfolding(crate::specs::Files::is_guest))]
 fn hart_sound(files: &[u32; FILES_SIZE], hart: usize) -> bool
     requires { hart < hart_count }
     ensures { result ≡ every (sound_at (files_of files.now)) (hart_files * hart) hart_files }
