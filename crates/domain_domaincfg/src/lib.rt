@@ -14,6 +14,7 @@ use source_target::start_target;
 use source_wire::wire_at;
 
 // What of a written domaincfg is stored.
+#[tactic(auto, unfolding(crate::specs::Domaincfg::kept_domaincfg))]
 pub fn kept_domaincfg(value: u32) -> u32
     ensures { result ≡ kept_domaincfg value }
 {
@@ -55,16 +56,15 @@ fn redeliver(part: &mut [u32; DOMAIN_SIZE], wires: [u32; SOURCE_SET_SIZE])
     }
 }
 
+#[tactic(auto, unfolding(crate::specs::Domaincfg::domaincfg_written, crate::specs::Domaincfg::mode_settled))]
 pub fn write_domaincfg(part: &mut [u32; DOMAIN_SIZE], wires: [u32; SOURCE_SET_SIZE], value: u32)
     ensures { domain_of part.new
         ≡ domaincfg_written (domain_of part.old) wires value }
 {
     let before = domain::by_messages(part);
     domain::put_domaincfg(part, kept_domaincfg(value));
-    let after = domain::by_messages(part);
-    if before == after {
-        return;
+    if domain::by_messages(part) != before {
+        domain::put_genmsi(part, 0);
+        redeliver(part, wires);
     }
-    domain::put_genmsi(part, 0);
-    redeliver(part, wires);
 }

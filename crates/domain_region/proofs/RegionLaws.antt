@@ -1,6 +1,6 @@
 -- Laws of specs/Region.antt. No contract cites this file. Assumes nothing.
 use Prim.Native.Nat.{ℕ, zero, suc, ◌+◌, ◌-◌, ◌*◌, ◌/◌, ◌%◌, ◌≤◌, ◌<◌}
-use mathlib.Core.Path.{◌≡◌, refl, ap, subst, ◌∙◌}
+use mathlib.Core.Path.{◌≡◌, refl, ap, ◌∙◌}
 use mathlib.Core.Bool.{Bool, true, false, cond, ◌&&◌}
 use mathlib.Core.List.{List, [], ◌∷◌, ◌++◌}
 use mathlib.Core.Logic.{◌↔◌}
@@ -78,9 +78,6 @@ unfolding word_at registers
 word-within a = word-cases Within a registers (omega arith) tt
 
 -- the bounds of whatever number a register's name carries
-pub bounds_of : (a : ℕ) (w : Word) → word_at a ≡ w → Within w
-bounds_of a w e = subst Within e (word-within a)
-
 absurd-all : (a : ℕ) (rs : List Row) → All (λ r. At r a → ⊥) rs
     → All (λ r. (p : At r a) → r.name p.number ≡ Unused) rs
 absurd-all a [] none = tt

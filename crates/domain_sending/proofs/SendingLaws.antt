@@ -12,7 +12,7 @@ use Rattle.source_target.specs.Target.{message_of}
 use Rattle.source.specs.Pending.{with_pending}
 use Rattle.domain.specs.Domain.{Domain, sends}
 use Rattle.domain.specs.Slot.{source_at, with_source}
-use Rattle.domain_sending.specs.Sending.{Sent, candidate, sent_nothing, served_at, messages_at, sent_from}
+use Rattle.domain_sending.specs.Sending.{candidate, sent_nothing, served_at, messages_at, sent_from}
 use Rattle.domain_sending.specs.Sending.{sent}
 use Rattle.domain_sending.specs.Sending.{logged}
 
@@ -113,15 +113,3 @@ module _ (l₀ l ms : List ℕ) (n : ℕ) (h : n ≤ length l) (front : take n l
   unfolding logged
   logged-is behind =
       sym (take-append-drop n l) ∙ ap₂ ◌++◌ front (behind ∙ ap (λ (k : ℕ). drop k l₀) logged-count)
-
--- ---- what a pass answers: the domain, the log and the count, from the log before
-
-abbrev Answered : Sent → List ℕ → Domain → List ℕ → ℕ → Type 0
-Answered s l d' l' r = (d' ≡ s.domain) × (l' ≡ logged l s.messages) × (r ≡ length s.messages)
-
-pub answered-nothing : (s : Sent) (d : Domain) (l : List ℕ) → s ≡ sent_nothing d → Answered s l d l 0
-answered-nothing s d l e = rw e (refl, sym (logged_none l), refl)
-
-pub answered-same : (s t : Sent) (l : List ℕ) (d' : Domain) (l' : List ℕ) (r : ℕ) → s ≡ t
-    → Answered t l d' l' r → Answered s l d' l' r
-answered-same s t l d' l' r e a = rw e a

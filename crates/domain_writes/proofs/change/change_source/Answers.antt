@@ -1,5 +1,4 @@
--- `domain_writes::change::change_source` meets its contract: family by family. Over 110 lines, since each
--- of the four families has its own needs of a line each. Assumes nothing.
+-- `domain_writes::change::change_source` meets its contract: family by family. Assumes nothing.
 use mathlib.Core.Path.{◌∙◌}
 use Rattle.domain.specs.Domain.{domain_of}
 use Rattle.domain_writes.proofs.WritesLaws.{pend-at, clear_at, enable-at, disable-at}
