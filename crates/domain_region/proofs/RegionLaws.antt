@@ -77,7 +77,6 @@ pub word-within : (a : ℕ) → Within (word_at a)
 unfolding word_at registers
 word-within a = word-cases Within a registers (omega arith) tt
 
--- the bounds of whatever number a register's name carries
 absurd-all : (a : ℕ) (rs : List Row) → All (λ r. At r a → ⊥) rs
     → All (λ r. (p : At r a) → r.name p.number ≡ Unused) rs
 absurd-all a [] none = tt

@@ -1,8 +1,14 @@
--- Laws of specs/Role.antt. No contract cites this file. Assumes nothing.
+-- Laws of specs/Role.antt, and what the last arm of a match, `_`, says. No contract cites this file. Assumes
+-- nothing.
 --   Means r w    the register w, if r is not Plain, is the one that r names
 use Prim.Native.Nat.{ℕ, ◌≤◌, ◌<◌}
 use mathlib.Core.Path.{◌≡◌, refl, subst}
+use mathlib.Core.Bool.{not}
+use mathlib.Core.List.{List}
 use mathlib.Core.Logic.{◌≢◌}
+use lib.Dec.{T}
+use mir.Val.{has_key}
+use types.Run.{OneOf, miss}
 use Rattle.domain_region.specs.declared.Word.{Word}
 use Rattle.domain_region.specs.declared.Word.TheVariants.{Domaincfg, Sourcecfg, Setip, Setipnum}
 use Rattle.domain_region.specs.declared.Word.TheVariants.{InClrip}
@@ -14,6 +20,10 @@ use Rattle.domain_region.specs.declared.role.Role.{Role}
 use Rattle.domain_region.specs.declared.role.Role.TheVariants.{Claims, Configures, Generates, Plain}
 use Rattle.domain_region.specs.Region.{Within}
 use Rattle.domain_region.specs.Role.{role_of}
+
+-- in the arm `_` a value's tag is one of those that no arm before names
+pub arm-else : (ks : List ℕ) {x : ℕ} → OneOf ks x → (k : ℕ) → T (not (has_key ks k)) → x ≢ k
+arm-else ks one k t e = miss ks k t (subst (OneOf ks) e one)
 
 abbrev Means : Role → Word → Type 0
 Means (Claims h) w = w ≡ Claimi h

@@ -25,36 +25,45 @@ pub struct Gathered {
     pub inverted: u64,
 }
 
-fn occupy(mut g: Gathered, child: bool, messages: bool, mode: u32, target: u32, i: u32) -> Gathered
+fn occupy(g: Gathered, child: bool, messages: bool, mode: u32, target: u32, i: u32) -> Gathered
     requires { (occupied child mode ≡ true) × (i < slot_count) }
     ensures { Slotted child messages mode target i g result }
 {
-    g.faults = g.faults | target_fault(child, messages, target) | mode_fault(mode);
-    g.active = with_bit64(g.active, i);
-    if mode == LEVEL1 {
-        g.straight = with_bit64(g.straight, i);
-        return g;
+    let g = Gathered {
+        faults: g.faults | target_fault(child, messages, target) | mode_fault(mode),
+        active: with_bit64(g.active, i),
+        ..g
+    };
+    match mode {
+        LEVEL1 => Gathered {
+            straight: with_bit64(g.straight, i),
+            ..g
+        },
+        LEVEL0 => Gathered {
+            inverted: with_bit64(g.inverted, i),
+            ..g
+        },
+        _ => g,
     }
-    if mode == LEVEL0 {
-        g.inverted = with_bit64(g.inverted, i);
-        return g;
-    }
-    g
 }
 
 // One source more. Of an inactive one only the target is looked at: it has to be 0.
-fn slot(mut g: Gathered, child: bool, messages: bool, mode: u32, target: u32, i: u32) -> Gathered
+fn slot(g: Gathered, child: bool, messages: bool, mode: u32, target: u32, i: u32) -> Gathered
     requires { i < slot_count }
     ensures { Slotted child messages mode target i g result }
 {
     if mode == 0 {
-        g.faults = g.faults | target;
-        return g;
+        return Gathered {
+            faults: g.faults | target,
+            ..g
+        };
     }
     if !child & (mode == DELEGATED_WORD) {
-        g.faults = g.faults | target;
-        g.delegated = with_bit64(g.delegated, i);
-        return g;
+        return Gathered {
+            faults: g.faults | target,
+            delegated: with_bit64(g.delegated, i),
+            ..g
+        };
     }
     occupy(g, child, messages, mode, target, i)
 }
