@@ -2,13 +2,14 @@
 -- back. No contract cites this file. Assumes nothing.
 --   files_put l ys    the block l with ys in the place of the files' 360 words
 --   wired_put l zs    the block l with zs in the place of the wired controller's 290
-use Prim.Native.Nat.{ℕ}
-use mathlib.Core.Path.{◌≡◌, refl, ap, ap₂, ◌∙◌}
+use Prim.Native.Nat.{ℕ, ◌-◌}
+use mathlib.Core.Path.{◌≡◌, refl, sym, ap, ap₂, ◌∙◌}
 use mathlib.Core.Bool.{Bool, ◌&&◌}
-use mathlib.Core.List.{List, ◌++◌}
+use mathlib.Core.List.{List, ◌++◌, append-nil}
 use native.Mathlib.Omega.{arith}
 use lib.ListN.{length, take, drop, length-take, length-drop, length-append}
-use lib.Seq.{take_at, drop_at}
+use Rattle.std.proofs.lemmas.List.{drop_all}
+use lib.Seq.{take_all, take_at, drop_at}
 use Rattle.files.specs.Files.{files_of, files_sound}
 use Rattle.wired_state.specs.Wires.{wired_of}
 use Rattle.wired_rules.specs.Rules.{wired_sound}
@@ -31,6 +32,13 @@ module _ (l : List ℕ) (long : length l ≡ block_size) where
   pub files-part : files_of (take files_size l) ≡ (board_of l).files
   unfolding board_of
   files-part = refl
+
+  -- the wired controller's words are lent as the last of the block
+  pub wired-last : drop (length l - wired_size) l ≡ take wired_size (drop files_size l)
+  wired-last =
+      let at : length l - wired_size ≡ files_size = omega arith in
+      ap (λ (n : ℕ). drop n l) at
+      ∙ sym (take_all wired_size (drop files_size l) (omega (arith, length-drop files_size l)))
 
   pub wired-part : wired_of (take wired_size (drop files_size l)) ≡ (board_of l).wired
   unfolding board_of
@@ -62,6 +70,25 @@ module _ (l zs : List ℕ) (long : length l ≡ block_size) (part : length zs �
 
   pub put-wired-long : length (wired_put l zs) ≡ block_size
   put-wired-long = simp (length-append, length-take, length-drop) (omega arith)
+
+-- the block l was cut in two, front and back, and one of them came back with other words before its rest
+module _ (l front back : List ℕ) (long : length l ≡ block_size) (first : front ≡ take files_size l)
+    (last : back ≡ drop files_size l) where
+  pub files-back : (ys : List ℕ) → length (ys ++ drop files_size front) ≡ length front
+      → board_of ((ys ++ drop files_size front) ++ back) ≡ with_files (board_of l) (files_of ys)
+  files-back ys same =
+      let many : length front ≡ files_size = ap length first ∙ files-long l long in
+      let here : length ys ≡ files_size =
+      omega (arith, length-append ys (drop files_size front), length-drop files_size front) in
+      rw (drop_all files_size front (omega arith), append-nil ys, last) (put-files l ys long here)
+
+  pub wired-back : (zs : List ℕ) → length (zs ++ drop wired_size back) ≡ length back
+      → board_of (front ++ (zs ++ drop wired_size back)) ≡ with_wired (board_of l) (wired_of zs)
+  wired-back zs same =
+      let many : length back ≡ wired_size = ap length last ∙ simp length-drop (omega arith) in
+      let here : length zs ≡ wired_size =
+      omega (arith, length-append zs (drop wired_size back), length-drop wired_size back) in
+      rw (first, last) (put-wired l zs long here)
 
 -- ---- the state rules
 

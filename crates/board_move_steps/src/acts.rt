@@ -6,59 +6,42 @@ use super::Act;
 use file::Access;
 use file_select::{EIDELIVERY, EIE0, EIP0, EITHRESHOLD};
 
+// Where the saved numbers have the delivery, the threshold, the words of pending and those of enable bits.
+const DELIVERY_AT: usize = 0;
+
+const THRESHOLD_AT: usize = 1;
+
+const PENDING_AT: usize = 2;
+
+const ENABLE_AT: usize = 6;
+
 // Accesses 1 to 89, of the six steps: 3, 5, 63, 8, 8 and 2.
+#[tactic(auto, unfolding(crate::specs::Steps::act_of))]
 pub fn act_of(access: u64) -> Act
     requires { 1 ≤ access }
     ensures { result ≡ act_of access }
 {
-    if access == 1 {
-        return Act::Save(EIDELIVERY, 0);
+    match access {
+        1 => Act::Save(EIDELIVERY, DELIVERY_AT),
+        2 => Act::Save(EITHRESHOLD, THRESHOLD_AT),
+        3 => Act::Zero(false, EIDELIVERY),
+        4 => Act::Zero(true, EIDELIVERY),
+        5..=8 => Act::Zero(true, EIP0 + 2 * (access - 5)),
+        9..=71 => Act::Target(access - 8),
+        72..=75 => Act::Save(
+            EIP0 + 2 * (access - 72),
+            PENDING_AT + (access - 72) as usize,
+        ),
+        76..=79 => Act::Save(EIE0 + 2 * (access - 76), ENABLE_AT + (access - 76) as usize),
+        80..=83 => {
+            let place = PENDING_AT + (access - 80) as usize;
+            Act::Put(Access::Set, EIP0 + 2 * (access - 80), place)
+        }
+        84..=87 => {
+            let place = ENABLE_AT + (access - 84) as usize;
+            Act::Put(Access::Write, EIE0 + 2 * (access - 84), place)
+        }
+        88 => Act::Put(Access::Write, EITHRESHOLD, THRESHOLD_AT),
+        _ => Act::Put(Access::Write, EIDELIVERY, DELIVERY_AT),
     }
-    if access == 2 {
-        return Act::Save(EITHRESHOLD, 1);
-    }
-    if access == 3 {
-        return Act::Zero(false, EIDELIVERY);
-    }
-    if access == 4 {
-        return Act::Zero(true, EIDELIVERY);
-    }
-    if access <= 8 {
-        return Act::Zero(true, EIP0 + 2 * (access - 5));
-    }
-    if access <= 71 {
-        return Act::Target(access - 8);
-    }
-    later_of(access)
-}
-
-// Steps 4 to 6, from access 72 on.
-fn later_of(access: u64) -> Act
-    requires { 72 ≤ access }
-    ensures { result ≡ act_of access }
-{
-    if access <= 75 {
-        return Act::Save(EIP0 + 2 * (access - 72), 2 + (access - 72) as usize);
-    }
-    if access <= 79 {
-        return Act::Save(EIE0 + 2 * (access - 76), 6 + (access - 76) as usize);
-    }
-    if access <= 83 {
-        return Act::Put(
-            Access::Set,
-            EIP0 + 2 * (access - 80),
-            2 + (access - 80) as usize,
-        );
-    }
-    if access <= 87 {
-        return Act::Put(
-            Access::Write,
-            EIE0 + 2 * (access - 84),
-            6 + (access - 84) as usize,
-        );
-    }
-    if access == 88 {
-        return Act::Put(Access::Write, EITHRESHOLD, 1);
-    }
-    Act::Put(Access::Write, EIDELIVERY, 0)
 }

@@ -5,6 +5,7 @@ ghost use Rattle.board_move_steps.specs.Names.{names_file, renamed};
 
 use source_target::{GUEST_AT, HART_AT};
 
+#[tactic(auto, unfolding(crate::specs::Names::names_file))]
 pub fn names_file(target: u32, hart: u64, file: u64) -> bool
     ensures { result ≡ names_file target hart file }
 {

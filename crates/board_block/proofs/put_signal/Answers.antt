@@ -3,4 +3,4 @@ use Rattle.files_laws.proofs.DeliveryEffects.{delivery-set}
 use Rattle.board_block.proofs.put_signal.Goals as goal
 
 pub returns : goal.returns
-returns c = delivery-set c.args.files.now c.args.k 0x40000000 c.requires.0 c.requires.1
+returns c = delivery-set c.args.files.now c.args.k 0x40000000 c.told-files c.requires

@@ -1,15 +1,10 @@
--- What the loop of this function keeps, and its measure. Assumes nothing.
-use Prim.Native.Nat.{◌-◌, ◌%◌, ◌≤◌}
-use mathlib.Core.Path.{◌≡◌}
-use lib.ListN.{length}
+-- What the loop of this function keeps: the files of the harts so far are those of the start, and the others
+-- are 0. Assumes nothing.
+use Prim.Native.Nat.{◌*◌}
 use Rattle.files.specs.Files.{files_of}
 use Rattle.board_block.proofs.StartLaws.{Started}
-use Rattle.sizes.specs.Sizes.{files_size, file_count}
+use Rattle.sizes.specs.Sizes.{hart_files}
 use Rattle.board_block.proofs.start_files.Given as goal
 
-abbrev pub invariant-loop-k : goal.invariant-loop-k
-invariant-loop-k l =
-    (l.k ≤ file_count) × (l.k % 5 ≡ 0) × (length l.files ≡ files_size) × Started l.k (files_of l.files)
-
-abbrev pub decreases-loop-k : goal.decreases-loop-k
-decreases-loop-k l = file_count - l.k
+abbrev pub invariant-loop-hart : goal.invariant-loop-hart
+invariant-loop-hart l = Started (hart_files * l.hart) (files_of l.files)
