@@ -9,7 +9,7 @@ use mathlib.Core.List.{List, ◌++◌, append-nil}
 use native.Mathlib.Omega.{arith}
 use lib.ListN.{length, take, drop, length-take, length-drop, length-append}
 use Rattle.std.proofs.lemmas.List.{drop_all}
-use lib.Seq.{take_all, take_at, drop_at}
+use lib.Seq.{take_all, take_at, drop_at, take-take}
 use Rattle.files.specs.Files.{files_of, files_sound}
 use Rattle.wired_state.specs.Wires.{wired_of}
 use Rattle.wired_rules.specs.Rules.{wired_sound}
@@ -74,6 +74,12 @@ module _ (l zs : List ℕ) (long : length l ≡ block_size) (part : length zs �
 -- the block l was cut in two, front and back, and one of them came back with other words before its rest
 module _ (l front back : List ℕ) (long : length l ≡ block_size) (first : front ≡ take files_size l)
     (last : back ≡ drop files_size l) where
+  pub files-lent : {w : List ℕ} → w ≡ take files_size front → w ≡ take files_size l
+  files-lent e = e ∙ ap (take files_size) first ∙ take-take files_size files_size l (omega arith)
+
+  pub wired-lent : {w : List ℕ} → w ≡ take wired_size back → w ≡ take wired_size (drop files_size l)
+  wired-lent e = e ∙ ap (take wired_size) last
+
   pub files-back : (ys : List ℕ) → length (ys ++ drop files_size front) ≡ length front
       → board_of ((ys ++ drop files_size front) ++ back) ≡ with_files (board_of l) (files_of ys)
   files-back ys same =

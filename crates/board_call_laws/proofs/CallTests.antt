@@ -58,7 +58,8 @@ module _ {c : Call} {n : Board → Bool} {a s : Bool} (t : Tested c n a s) (l g 
   by-rules = ap (λ (x : Tests). block_refusal x.rules l g) t.row
 
   -- r is what the test of the blocks answered, and the call returns its refusal by `?`
-  pub tests-blocks : (r : Result Unit Refusal) → Refuses r (block_refusal true l g) → {e : Refusal} → r ≡ Err e
+  pub tests-blocks : (r : Result Unit Refusal) → Refuses r (block_refusal true l g) → {e : Refusal}
+      → r ≡ Err e
       → (q : Answer) → IsErrAnd q (λ y. y ≡ e) → Does c l g q l g
   tests-blocks r said failed q back =
       let p = err_from_is_err_and q back in
@@ -79,11 +80,11 @@ module _ {c : Call} {n : Board → Bool} {a s : Bool} (t : Tested c n a s) (l g 
       by-numbers : name_refusal_by (numbered m d k) (board_of l) ≡ name_refusal c (board_of l)
       unfolding name_refusal_by name_tests
       by-numbers = λ i. first_failed (
-        record { number = 4; passed = (x ∙ sym (named (board_of l))) i }
-        ∷ record { number = 5; passed = (y ∙ sym at_address) i }
-        ∷ record { number = 6; passed = (w ∙ sym at-select) i }
-        ∷ []
-      )
+          record { number = 4; passed = (x ∙ sym (named (board_of l))) i }
+          ∷ record { number = 5; passed = (y ∙ sym at_address) i }
+          ∷ record { number = 6; passed = (w ∙ sym at-select) i }
+          ∷ []
+          )
 
       -- the call returns its refusal by `?`
       pub tests-failed : {e : Refusal} → r ≡ Err e → (q : Answer) → IsErrAnd q (λ y. y ≡ e) → Does c l g q l g

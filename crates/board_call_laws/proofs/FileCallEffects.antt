@@ -4,11 +4,11 @@
 use Prim.Native.Nat.{ℕ, ◌+◌, ◌*◌, ◌<◌}
 use mathlib.Core.Path.{◌≡◌, refl, sym, ap, ap₂, ◌∙◌}
 use mathlib.Core.Bool.{Bool, true, false, cond, ◌&&◌}
-use mathlib.Core.List.{List}
+use mathlib.Core.List.{List, ◌++◌}
 use native.Mathlib.Nat.{mod-eq_of_lt, mul-add-mod_self_left}
 use native.Mathlib.Omega.{arith}
 use lib.Dec.{ltb, leb}
-use lib.ListN.{length, take}
+use lib.ListN.{length, take, drop}
 use borrow.Author.Tests.{ltb-true}
 use Rattle.words.proofs.TestsLaws.{tested, and_first, and_second}
 use Rattle.sizes.specs.Sizes.{identities, block_size, files_size, file_count}
@@ -22,7 +22,7 @@ use Rattle.file.specs.Register.{accessed}
 use Rattle.file.specs.Top.{top_of, claimed}
 use Rattle.files.specs.Files.{file_number, is_guest, files_of, the_file, with_file}
 use Rattle.board_block.specs.Block.{Board, with_files, board_of, board_sound}
-use Rattle.board_block.proofs.BlockLaws.{files-long, files-part, files_put, put-files}
+use Rattle.board_block.proofs.BlockLaws.{files-part, files-back}
 use Rattle.board_call.specs.Answer.{Answer, done_with, refusal_number}
 use Rattle.board_call.specs.declared.Refusal.{Refusal}
 use Rattle.board_call.specs.declared.Refusal.TheVariants.{NoSuch}
@@ -78,7 +78,8 @@ abbrev refusal_or : Result Access Refusal → Refusal
 refusal_or (Ok a) = NoSuch
 refusal_or (Err e) = e
 
-module _ (kind : ℕ) (r : Result Access Refusal) (said : r ≡ cond (ltb kind 4) (Ok (kind_of kind)) (Err NoSuch)) where
+module _ (kind : ℕ) (r : Result Access Refusal)
+    (said : r ≡ cond (ltb kind 4) (Ok (kind_of kind)) (Err NoSuch)) where
   there : ltb kind 4 ≡ true → r ≡ Ok (kind_of kind)
   there t = said ∙ simp t
 
@@ -112,12 +113,13 @@ module _ (l : List ℕ) (long : length l ≡ block_size) (h f : ℕ) (x : File) 
       → x ≡ the_file (board_of l).files (file_number h f)
   file-loaded e = e ∙ ap₂ the_file (files-part l long) (number_read h f)
 
-  -- ys are the words of the files after it was stored
-  pub file-stored : (ys : List ℕ) → length ys ≡ length (take files_size l)
+  -- it was stored in the words of the files, ys after it, which were lent as the first of the block
+  pub file-stored : (front back ys : List ℕ) → front ≡ take files_size l → back ≡ drop files_size l
+      → length (ys ++ drop files_size front) ≡ length front
       → files_of ys ≡ with_file (files_of (take files_size l)) (5 * h + f) x
-      → board_of (files_put l ys) ≡ only_file (board_of l) (file_number h f) x
-  file-stored ys kept e =
-      put-files l ys long (kept ∙ files-long l long)
+      → board_of ((ys ++ drop files_size front) ++ back) ≡ only_file (board_of l) (file_number h f) x
+  file-stored front back ys first last kept e =
+      files-back l front back long first last ys kept
       ∙ ap (with_files (board_of l))
       (e ∙ ap₂ (λ (fs : List File) (k : ℕ). with_file fs k x) (files-part l long)
       (number_read h f))
@@ -147,7 +149,8 @@ module _ (h f : ℕ) where
   tests-claim = record { row = refl }
 
 -- the kind is none, and the call returns the refusal by `?`
-pub register-no_kind : (l g : List ℕ) → block_refusal true l g ≡ 0 → (h f k s v : ℕ) (r : Result Access Refusal)
+pub register-no_kind : (l g : List ℕ) → block_refusal true l g ≡ 0 → (h f k s v : ℕ)
+    → (r : Result Access Refusal)
     → r ≡ cond (ltb k 4) (Ok (kind_of k)) (Err NoSuch) → {e : Refusal} → r ≡ Err e → (q : Answer)
     → IsErrAnd q (λ y. y ≡ e) → Does (Register h f k s v) l g q l g
 register-no_kind l g z h f k s v r said failed q back =
@@ -193,8 +196,12 @@ module _ (b : Board) (sound : board_sound b ≡ true) (h f : ℕ) (x : File)
 
 -- ---- what each call gives once it is accepted
 
-module _ (l g : List ℕ) (z : block_refusal true l g ≡ 0) (h f : ℕ) (x : File)
-    (here : x ≡ the_file (board_of l).files (file_number h f)) where
+-- where the block is lent as m, and x was loaded from it
+module _ (l g : List ℕ) (z : block_refusal true l g ≡ 0) (m : List ℕ) (lent : m ≡ l) (h f : ℕ) (x : File)
+    (loaded : x ≡ the_file (board_of m).files (file_number h f)) where
+  here : x ≡ the_file (board_of l).files (file_number h f)
+  here = loaded ∙ ap (λ (k : List ℕ). the_file (board_of k).files (file_number h f)) lent
+
   pub page_read-done : (a : ℕ) → is_file h f ≡ true → is_page_address a ≡ true → (v : ℕ) → v ≡ page_read x a
       → Does (PageRead h f a) l g (done_with v 0) l g
   page_read-done a there at v p =
@@ -209,12 +216,14 @@ module _ (l g : List ℕ) (z : block_refusal true l g ≡ 0) (h f : ℕ) (x : Fi
 
   -- the code stored y as that file, in a block of the same length
   module _ (y : File) (l' : List ℕ) (kept : length l' ≡ length l)
-      (stored : board_of l' ≡ only_file (board_of l) (file_number h f) y) where
+      (stored : board_of l' ≡ only_file (board_of m) (file_number h f) y) where
     long : length l' ≡ block_size
     long = kept ∙ checked-long l g z
 
     only : {y' : File} → y ≡ y' → board_of l' ≡ only_file (board_of l) (file_number h f) y'
-    only q = stored ∙ ap (only_file (board_of l) (file_number h f)) q
+    only q =
+        stored ∙ ap (λ (k : List ℕ). only_file (board_of k) (file_number h f) y) lent
+        ∙ ap (only_file (board_of l) (file_number h f)) q
 
     pub page_write-done : (a v : ℕ) → is_file h f ≡ true → is_page_address a ≡ true
         → y ≡ page_written identities x a v → Does (PageWrite h f a v) l g (done_with 0 0) l' g

@@ -5,7 +5,7 @@ ghost use Rattle.board_call.specs.Outcome.{Does};
 use super::block_file::{load_file, store_file};
 use board_call::{Answer, Done, check, check_numbers, is_file, kind_of};
 use file_select::select_legal;
-use sizes::FIRST_GUEST;
+use sizes::{BLOCK_SIZE, FIRST_GUEST};
 
 // The kind is 0 for read, 1 for write, 2 for set bits, 3 for clear bits.
 pub fn register(
@@ -23,6 +23,7 @@ pub fn register(
     check(state, log)?;
     let access = kind_of(kind)?;
     check_numbers(is_file(hart, file), true, select_legal(select))?;
+    let state = state.as_mut_array::<BLOCK_SIZE>().unwrap();
     let f = load_file(state, hart, file);
     let done = f.access(FIRST_GUEST as u64 <= file, access, select, value);
     store_file(state, hart, file, done.file);

@@ -10,6 +10,7 @@ ghost use Rattle.board_call.specs.Refusal.{name_refusal_by};
 
 use super::block_file::{load_file, store_file};
 use board_call::{Answer, Done, Refusal, check, check_numbers, is_file, is_page_address};
+use sizes::BLOCK_SIZE;
 
 // There is such a file, and such an address of its page.
 fn check_page(hart: u64, file: u64, address: u64) -> Result<(), Refusal>
@@ -25,6 +26,7 @@ pub fn page_read(state: &mut [u32], log: &mut [u32], hart: u64, file: u64, addre
 {
     check(state, log)?;
     check_page(hart, file, address)?;
+    let state = state.as_array::<BLOCK_SIZE>().unwrap();
     let f = load_file(state, hart, file);
     Ok(Done {
         value: f.page_read(address) as u64,
@@ -45,6 +47,7 @@ pub fn page_write(
 {
     check(state, log)?;
     check_page(hart, file, address)?;
+    let state = state.as_mut_array::<BLOCK_SIZE>().unwrap();
     let f = load_file(state, hart, file);
     store_file(state, hart, file, f.page_write(address, value));
     Ok(Done { value: 0, count: 0 })

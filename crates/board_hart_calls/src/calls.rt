@@ -11,7 +11,7 @@ pub fn reset(state: &mut [u32], log: &mut [u32]) -> Answer
         state.new log.new }
 {
     lengths(state, log)?;
-    board_block::start(state);
+    board_block::start(state.as_mut_array().unwrap());
     Ok(Done { value: 0, count: 0 })
 }
 
@@ -23,8 +23,9 @@ pub fn signals(state: &mut [u32], log: &mut [u32], hart: u64) -> Answer
 {
     check(state, log)?;
     check_numbers(hart < HARTS, true, true)?;
+    let signals = all_signals(state.as_array().unwrap(), hart as usize);
     Ok(Done {
-        value: all_signals(state, hart as usize) as u64,
+        value: signals as u64,
         count: 0,
     })
 }

@@ -1,6 +1,5 @@
 // What one access does, case by case.
-ghost use Rattle.std.specs.Prelude.{◌≡◌, true, length};
-ghost use Rattle.sizes.specs.Sizes.{block_size};
+ghost use Rattle.std.specs.Prelude.{◌≡◌, true};
 ghost use Rattle.board_move_steps.specs.Steps.{act_within};
 ghost use Rattle.board_block.specs.Block.{board_of, board_sound};
 ghost use Rattle.board_call.specs.Numbers.{is_guest_file};
@@ -10,10 +9,10 @@ use super::registers::{put, save};
 use super::targets::retarget;
 use board_move_steps::Act;
 use file::Access;
-use sizes::SAVED_SIZE;
+use sizes::{BLOCK_SIZE, SAVED_SIZE};
 
 pub fn perform(
-    state: &mut [u32],
+    state: &mut [u32; BLOCK_SIZE],
     saved: &mut [u64; SAVED_SIZE],
     oldhart: u64,
     oldfile: u64,
@@ -21,7 +20,7 @@ pub fn perform(
     newfile: u64,
     act: Act,
 )
-    requires { (length state.old ≡ block_size) × (board_sound (board_of state.old) ≡ true)
+    requires { (board_sound (board_of state.old) ≡ true)
         × (is_guest_file oldhart oldfile ≡ true) × (is_guest_file newhart newfile ≡ true)
         × (act_within act ≡ true) }
     ensures { (board_of state.new ≡ (acted act oldhart oldfile newhart newfile

@@ -6,7 +6,7 @@ use super::acts::perform;
 use super::targets::by_messages;
 use board_call::{Answer, Done, check, check_numbers, is_move};
 use board_move_steps::act_of;
-use sizes::SAVED_SIZE;
+use sizes::{BLOCK_SIZE, SAVED_SIZE};
 
 // The caller lends the same saved numbers to each of the 89 accesses of a move.
 pub fn make_access(
@@ -24,6 +24,7 @@ pub fn make_access(
         state.new log.new saved.new }
 {
     check(state, log)?;
+    let state = state.as_mut_array::<BLOCK_SIZE>().unwrap();
     check_numbers(
         is_move(oldhart, oldfile, newhart, newfile, access) & by_messages(state),
         true,

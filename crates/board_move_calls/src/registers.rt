@@ -1,6 +1,6 @@
 // The registers of a guest's file in the block, and the saved numbers that a move keeps of them.
-ghost use Rattle.std.specs.Prelude.{◌≡◌, true, ◌<◌, length, set};
-ghost use Rattle.sizes.specs.Sizes.{block_size, saved_size};
+ghost use Rattle.std.specs.Prelude.{◌≡◌, true, ◌<◌, set};
+ghost use Rattle.sizes.specs.Sizes.{saved_size};
 ghost use Rattle.file.specs.declared.register.Access.TheVariants as access;
 ghost use Rattle.file.specs.Reply.{reply_value};
 ghost use Rattle.board_block.specs.Block.{board_of};
@@ -9,11 +9,18 @@ ghost use Rattle.board_call.specs.Move.{register_on, with_one};
 
 use board_file_calls::{load_file, store_file};
 use file::{Access, Accessed};
-use sizes::SAVED_SIZE;
+use sizes::{BLOCK_SIZE, SAVED_SIZE};
 
 // Not yet stored.
-fn accessed(state: &[u32], hart: u64, file: u64, kind: Access, select: u64, value: u64) -> Accessed
-    requires { (length state.now ≡ block_size) × (is_guest_file hart file ≡ true) }
+fn accessed(
+    state: &[u32; BLOCK_SIZE],
+    hart: u64,
+    file: u64,
+    kind: Access,
+    select: u64,
+    value: u64,
+) -> Accessed
+    requires { is_guest_file hart file ≡ true }
     ensures { result ≡ register_on (board_of state.now) hart file kind select value }
 {
     let f = load_file(state, hart, file);
@@ -22,14 +29,14 @@ fn accessed(state: &[u32], hart: u64, file: u64, kind: Access, select: u64, valu
 
 // A register is read into the saved numbers.
 pub fn save(
-    state: &[u32],
+    state: &[u32; BLOCK_SIZE],
     saved: &mut [u64; SAVED_SIZE],
     hart: u64,
     file: u64,
     select: u64,
     place: usize,
 )
-    requires { (length state.now ≡ block_size) × (is_guest_file hart file ≡ true) × (place < saved_size) }
+    requires { (is_guest_file hart file ≡ true) × (place < saved_size) }
     ensures { saved.new ≡ set saved.old place
         (reply_value (register_on (board_of state.now) hart file access.Read select 0).answer) }
 {
@@ -38,8 +45,15 @@ pub fn save(
 }
 
 // A register is written, or bits of it are set or cleared.
-pub fn put(state: &mut [u32], hart: u64, file: u64, kind: Access, select: u64, value: u64)
-    requires { (length state.old ≡ block_size) × (is_guest_file hart file ≡ true) }
+pub fn put(
+    state: &mut [u32; BLOCK_SIZE],
+    hart: u64,
+    file: u64,
+    kind: Access,
+    select: u64,
+    value: u64,
+)
+    requires { is_guest_file hart file ≡ true }
     ensures { board_of state.new ≡ with_one (board_of state.old) hart file
         (register_on (board_of state.old) hart file kind select value).file }
 {

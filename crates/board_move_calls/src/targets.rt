@@ -1,6 +1,6 @@
 // The child domain of the block: its delivery mode, and a target that names the old file.
-ghost use Rattle.std.specs.Prelude.{◌≡◌, true, ◌≤◌, ◌<◌, length};
-ghost use Rattle.sizes.specs.Sizes.{source_count, wired_size, block_size};
+ghost use Rattle.std.specs.Prelude.{◌≡◌, true, ◌≤◌, ◌<◌};
+ghost use Rattle.sizes.specs.Sizes.{source_count};
 ghost use Rattle.domain_values.specs.Values.{domaincfg_mark};
 ghost use Rattle.domain.specs.Domain.{domaincfg_of, by_messages};
 ghost use Rattle.wired_state.specs.Wires.{wired_of, domain_in};
@@ -10,20 +10,25 @@ ghost use Rattle.board_call.specs.Move.{retargeted_in};
 
 use board_move_steps::{names_file, renamed};
 use domain_region::Word;
-use sizes::{CHILD_PLACE, WIRED_END, WIRED_PLACE, WIRED_SIZE};
+use sizes::{BLOCK_SIZE, FILES_SIZE, WIRED_SIZE};
+use wired_state::domain_part;
 
-pub fn by_messages(state: &[u32]) -> bool
-    requires { length state.now ≡ block_size }
+pub fn by_messages(state: &[u32; BLOCK_SIZE]) -> bool
     ensures { result ≡ by_messages (board_of state.now).wired.child }
 {
-    let w = &state[WIRED_PLACE..WIRED_END];
-    domain::by_messages(&w[CHILD_PLACE..WIRED_SIZE])
+    domain::by_messages(domain_part(state.last_chunk().unwrap(), true))
 }
 
 // In the words of the wired controller. The target is read, and written anew if it names the old file.
-fn rewrite(w: &mut [u32], oldhart: u64, oldfile: u64, newhart: u64, newfile: u64, source: u64)
-    requires { (length w.old ≡ wired_size)
-        × (domaincfg_of (domain_in (wired_of w.old) true) < domaincfg_mark)
+fn rewrite(
+    w: &mut [u32; WIRED_SIZE],
+    oldhart: u64,
+    oldfile: u64,
+    newhart: u64,
+    newfile: u64,
+    source: u64,
+)
+    requires { (domaincfg_of (domain_in (wired_of w.old) true) < domaincfg_mark)
         × (is_guest_file newhart newfile ≡ true) × (1 ≤ source) × (source ≤ source_count) }
     ensures { wired_of w.new
         ≡ retargeted_in oldhart oldfile newhart newfile (wired_of w.old) source }
@@ -40,21 +45,22 @@ fn rewrite(w: &mut [u32], oldhart: u64, oldfile: u64, newhart: u64, newfile: u64
 }
 
 pub fn retarget(
-    state: &mut [u32],
+    state: &mut [u32; BLOCK_SIZE],
     oldhart: u64,
     oldfile: u64,
     newhart: u64,
     newfile: u64,
     source: u64,
 )
-    requires { (length state.old ≡ block_size) × (board_sound (board_of state.old) ≡ true)
+    requires { (board_sound (board_of state.old) ≡ true)
         × (is_guest_file newhart newfile ≡ true) × (1 ≤ source) × (source ≤ source_count) }
     ensures { board_of state.new
         ≡ with_wired (board_of state.old)
         (retargeted_in oldhart oldfile newhart newfile (board_of state.old).wired source) }
 {
+    let (_, wired) = state.split_at_mut(FILES_SIZE);
     rewrite(
-        &mut state[WIRED_PLACE..WIRED_END],
+        wired.first_chunk_mut().unwrap(),
         oldhart,
         oldfile,
         newhart,

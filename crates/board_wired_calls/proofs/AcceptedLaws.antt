@@ -18,7 +18,7 @@ use Rattle.wired.specs.Controller.{Out, Leaves, wire_call, read_call, write_call
 use Rattle.wired.proofs.CallLaws.{words-steady, words-quiet, read-silent}
 use Rattle.wired_laws.proofs.OutEffects.{Exists, wire-count, write-count}
 use Rattle.board_block.specs.Block.{with_wired, board_of, board_sound}
-use Rattle.board_block.proofs.BlockLaws.{wired-part, wired-long, wired_put, put-wired}
+use Rattle.board_block.proofs.BlockLaws.{wired-part, wired-long}
 use Rattle.board_call.specs.Outcome.{delivered}
 use Rattle.board_call_laws.proofs.StepEffects.{sound-wired}
 use Rattle.board_call_laws.specs.Left.{Left}
@@ -75,12 +75,12 @@ left-named o w g g' n (a, b, k) exist =
     (named-of (logged g o.messages) n
     (λ j h. logged-every Exists o.messages g exist j (omega arith)))
 
--- the wired part zs came back, and then the messages were delivered, which left the log
-module _ (l zs g g' : List ℕ) (n : ℕ) (long : length l ≡ block_size) (part : length zs ≡ wired_size) where
+-- the wired part zs came back, in the block m, and then the messages were delivered, which left the log
+module _ (l m zs g g' : List ℕ) (n : ℕ) (back : board_of m ≡ with_wired (board_of l) (wired_of zs)) where
   pub done-left : (o : Out) → Leaves o (wired_of zs) g g' n → (l' g'' : List ℕ)
-      → board_of l' ≡ delivered (board_of (wired_put l zs)) (take n g') → g'' ≡ g' → Left o l l' g g'' n
+      → board_of l' ≡ delivered (board_of m) (take n g') → g'' ≡ g' → Left o l l' g g'' n
   done-left o (a, b, k) l' g'' e same =
-      let put = put-wired l zs long part ∙ ap (with_wired (board_of l)) a in
+      let put = back ∙ ap (with_wired (board_of l)) a in
       let sent : take n g' ≡ o.messages = ap (take n) b ∙ logged-back o.messages g n k in
       (e ∙ (λ j. delivered (put j) (sent j)), same ∙ b, k)
 

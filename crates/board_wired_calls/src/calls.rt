@@ -14,7 +14,7 @@ use super::accepted_wire::wire_done;
 use super::accepted_write::write_done;
 use board_call::{Answer, Done, Refusal, check, check_numbers};
 use domain_region::{address_legal, word_at};
-use sizes::DOMAIN_COUNT;
+use sizes::{BLOCK_SIZE, DOMAIN_COUNT, LOG_SIZE};
 
 const DOMAINS: u64 = DOMAIN_COUNT as u64;
 
@@ -24,6 +24,8 @@ pub fn wire(state: &mut [u32], log: &mut [u32], wire: u64, level: u64) -> Answer
 {
     check(state, log)?;
     check_numbers(board_call::is_wire(wire, level), true, true)?;
+    let state = state.as_mut_array::<BLOCK_SIZE>().unwrap();
+    let log = log.as_mut_array::<LOG_SIZE>().unwrap();
     let n = wire_done(state, log, wire as usize, level == 1);
     Ok(Done {
         value: 0,
@@ -46,6 +48,7 @@ pub fn domain_read(state: &mut [u32], log: &mut [u32], domain: u64, address: u64
 {
     check(state, log)?;
     check_domain(domain, address)?;
+    let state = state.as_mut_array::<BLOCK_SIZE>().unwrap();
     let value = read_done(state, domain == 1, word_at(address));
     Ok(Done {
         value: value as u64,
@@ -65,6 +68,8 @@ pub fn domain_write(
 {
     check(state, log)?;
     check_domain(domain, address)?;
+    let state = state.as_mut_array::<BLOCK_SIZE>().unwrap();
+    let log = log.as_mut_array::<LOG_SIZE>().unwrap();
     let n = write_done(state, log, domain == 1, word_at(address), value);
     Ok(Done {
         value: 0,

@@ -8,7 +8,7 @@ use Rattle.board_move_calls.proofs.registers.put.Goals as goal
 
 pub store_file-requires : goal.store_file-requires
 store_file-requires c =
-    (c.requires.0, guest-there _ _ c.requires.1)
+    guest-there _ _ c.requires
 
 pub returns : goal.returns
 returns c =

@@ -10,4 +10,5 @@ pub returns : goal.returns
 returns c =
     let args = c.args in
     ap (set args.saved.now args.place)
-    (c.unwrap_or.ensures ∙ value-or c.accessed-done.result.answer ∙ ap (λ (x : Accessed). reply_value x.answer) c.accessed-done.ensures)
+    (c.unwrap_or.ensures ∙ value-or c.accessed-done.result.answer
+    ∙ ap (λ (x : Accessed). reply_value x.answer) c.accessed-done.ensures)

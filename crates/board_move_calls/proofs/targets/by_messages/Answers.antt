@@ -1,18 +1,23 @@
 -- `board_move_calls::targets::by_messages` meets its contract: the child stands last in the block. Assumes
 -- nothing.
-use mathlib.Core.Path.{ap, ◌∙◌}
-use lib.ListN.{take, drop}
+use Prim.Native.Nat.{ℕ, ◌-◌}
+use mathlib.Core.Path.{◌≡◌, ap, ◌∙◌}
+use mathlib.Core.Bool.{true}
+use mathlib.Core.List.{List}
+use lib.ListN.{length, drop}
+use borrow.Author.Rules.{rules}
+use Rattle.sizes.specs.Sizes.{wired_size}
 use Rattle.domain.specs.Domain.{by_messages}
-use Rattle.wired_state.specs.Wires.{Wired}
-use Rattle.wired_state.proofs.WiresLaws.{child-part}
-use Rattle.board_block.proofs.BlockLaws.{wired-long, wired-part}
-use Rattle.sizes.specs.Sizes.{files_size, wired_size}
+use Rattle.wired_state.specs.Wires.{Wired, wired_of, domain_in}
+use Rattle.board_block.proofs.BlockLaws.{wired-last, wired-part}
 use Rattle.board_move_calls.proofs.targets.by_messages.Goals as goal
 
 pub returns : goal.returns
+unfolding domain_in
 returns c =
     let l = c.args.state.now in
-    let long = c.requires in
+    let long = c.told-state in
+    let lent : c.unwrap.result.now ≡ drop (length l - wired_size) l = search rules in
     c.by_messages.ensures
-    ∙ ap by_messages (child-part (take wired_size (drop files_size l)) (wired-long l long)
-    ∙ ap (λ (w : Wired). w.child) (wired-part l long))
+    ∙ ap by_messages (c.domain_part.ensures
+    ∙ ap (λ (w : Wired). domain_in w true) (ap wired_of (lent ∙ wired-last l long) ∙ wired-part l long))

@@ -9,7 +9,7 @@ use Rattle.board_move_calls.proofs.targets.rewrite.Goals as goal
 
 pub renamed-requires : goal.renamed-requires
 renamed-requires c =
-    let there = c.requires.2 in (
+    let there = c.requires.1 in (
       guest-hart _ _ there,
       omega (arith, guest-low _ _ there),
       guest-high _ _ there,
