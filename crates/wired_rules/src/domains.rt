@@ -1,17 +1,14 @@
 // The rules of a domain, those that concern both, and all of them.
 ghost use Rattle.std.specs.Prelude.{◌≡◌, ◌&&◌};
 ghost use Rattle.sizes.specs.Sizes.{source_count, slot_count};
-ghost use Rattle.words_masks.specs.Masks.{gathered};
 ghost use Rattle.domain.specs.Domain.{domain_of};
 ghost use Rattle.wired_state.specs.Wires.{wired_of};
 ghost use Rattle.words.specs.Every.{every};
 ghost use Rattle.wired_rules.specs.Rules.{domaincfg_range, genmsi_range, genmsi_rule, source_zero_rule};
 ghost use Rattle.wired_rules.specs.Rules.{domain_sound, wired_sound};
-ghost use Rattle.source_rules.specs.SourceParts.{held_back, occupied};
-ghost use Rattle.domain_slots.specs.Slots.{has, SoFar};
+ghost use Rattle.domain_slots.specs.Slots.{SoFar};
 ghost use Rattle.wired_rules.specs.Bits.{bits_at};
 
-use super::Tested;
 use super::structures::structure_pass;
 use domain_slots::{Gathered, gather};
 use sizes::{DOMAIN_SIZE, SOURCE_SET_SIZE, WIRED_SIZE};
@@ -59,22 +56,20 @@ fn bits_rules(
 }
 
 #[tactic(auto, using(crate::proofs::RulesLaws::read))]
-fn domain_rules(part: &[u32; DOMAIN_SIZE], child: bool, wires: [u32; SOURCE_SET_SIZE]) -> Tested
-    ensures { (result.sound ≡ domain_sound child wires (domain_of part.now))
-        × (result.active ≡ gathered (has (occupied child) (domain_of part.now)) slot_count)
-        × (result.delegated ≡ gathered (has (held_back child) (domain_of part.now)) slot_count) }
+fn domain_rules(
+    part: &[u32; DOMAIN_SIZE],
+    child: bool,
+    wires: [u32; SOURCE_SET_SIZE],
+    g: Gathered,
+) -> bool
+    requires { SoFar child (domain_of part.now) slot_count g }
+    ensures { result ≡ domain_sound child wires (domain_of part.now) }
 {
-    let g = gather(part, child);
-    let sound = domaincfg_rule(part)
+    domaincfg_rule(part)
         & genmsi_rules(part)
         & structure_pass(part)
         & (g.faults == 0)
-        & bits_rules(part, child, wires, g);
-    Tested {
-        sound,
-        active: g.active,
-        delegated: g.delegated,
-    }
+        & bits_rules(part, child, wires, g)
 }
 
 // Whether the 290 words of the wired controller keep every rule. The child has a source only where it is
@@ -83,10 +78,10 @@ pub fn sound(w: &[u32; WIRED_SIZE]) -> bool
     ensures { result ≡ wired_sound (wired_of w.now) }
 {
     let wires = wired_state::wires(w);
-    let machine = domain_rules(domain_part(w, false), false, wires);
-    let child = domain_rules(domain_part(w, true), true, wires);
+    let (machine, child) = (domain_part(w, false), domain_part(w, true));
+    let (given, taken) = (gather(machine, false), gather(child, true));
     !words::has_bit(wires[0], 0)
-        & machine.sound
-        & child.sound
-        & (words::without64(child.active, machine.delegated) == 0)
+        & domain_rules(machine, false, wires, given)
+        & domain_rules(child, true, wires, taken)
+        & (words::without64(taken.active, given.delegated) == 0)
 }

@@ -7,11 +7,3 @@ mod domains;
 mod structures;
 
 pub use domains::sound;
-
-// Whether a domain keeps its own rules, and what the rules on both domains ask of it.
-#[derive(Clone, Copy)]
-pub struct Tested {
-    pub sound: bool,
-    pub active: u64,
-    pub delegated: u64,
-}

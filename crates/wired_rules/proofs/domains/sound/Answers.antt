@@ -19,18 +19,18 @@ use Rattle.wired_rules.proofs.domains.sound.Goals as goal
 
 pub returns : goal.returns
 returns c =
-    let l = c.args.w.now in
+    let w = wired_of c.args.w.now in
     let wires = c.wires-wires.ensures in
-    let machine = c.domain_part.ensures ∙ domain-machine (wired_of l) false refl in
-    let child = c.domain_part-2.ensures ∙ domain-child (wired_of l) true refl in
-    wired-sound-read (wired_of l)
+    let machine = c.domain_part-machine.ensures ∙ domain-machine w false refl in
+    let child = c.domain_part-child.ensures ∙ domain-child w true refl in
+    wired-sound-read w
     (c.has_bit.ensures ∙ member-word _ 0 ∙ ap (λ (ws : List ℕ). member ws 0) wires)
-    (c.domain_rules-machine.ensures.0
+    (c.domain_rules.ensures
     ∙ ap₂ (λ (ws : List ℕ) (d : Domain). domain_sound false ws d) wires machine)
-    (c.domain_rules-child.ensures.0
+    (c.domain_rules-2.ensures
     ∙ ap₂ (λ (ws : List ℕ) (d : Domain). domain_sound true ws d) wires child)
     (c.without64.ensures
     ∙ ap₂ without
-    (c.domain_rules-child.ensures.1 ∙ ap (λ (d : Domain). gathered (has (occupied true) d) 64) child)
-    (c.domain_rules-machine.ensures.2
+    (c.gather-taken.ensures.active ∙ ap (λ (d : Domain). gathered (has (occupied true) d) 64) child)
+    (c.gather-given.ensures.delegated
     ∙ ap (λ (d : Domain). gathered (has (held_back false) d) 64) machine))
