@@ -10,8 +10,9 @@ pub fn select_legal(select: u64) -> bool
     ensures { result ≡ select_legal select }
 {
     match select {
-        EIDELIVERY..=0xFF => select < EIP0 || select % 2 != 1,
-        _ => false,
+        ..EIDELIVERY | 0x100.. => false,
+        ..EIP0 => true,
+        _ => select % 2 != 1,
     }
 }
 
