@@ -51,7 +51,6 @@ pub fn read_genmsi(part: &[u32; DOMAIN_SIZE]) -> u32
 }
 
 // Sent whatever IE is, and in message mode only. It comes first in `log`; answers the number of messages.
-#[tactic(auto, unfolding(crate::specs::Genmsi::genmsi_sent))]
 pub fn send_genmsi(
     part: &[u32; DOMAIN_SIZE],
     child: bool,

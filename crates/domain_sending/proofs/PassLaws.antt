@@ -1,6 +1,6 @@
 -- The pass as the code makes it: what holds before each source's turn. No contract cites this file. Assumes
 -- nothing.
---   turn-miss, turn-hit                  one turn, of a source that is not to be sent and of one that is
+--   turn-hit                             the turn of a source that is to be sent
 --   SoFar c d₀ l₀ d l i n                the pass over d₀, with the log l₀, has come to source i: the domain
 --                                        is d, and the n messages sent stand first in the log l
 --   Going c d₀ l₀ d l is n               the same, and is are the sources still to come that stand
@@ -28,7 +28,7 @@ use Rattle.domain.specs.Slot.{source_at, standing}
 use Rattle.domain_laws.proofs.SlotEffects.{standing-with_source-other, candidate-unstanding}
 use Rattle.domain_laws.proofs.SlotEffects.{with_source-pending}
 use Rattle.domain_sending.specs.Sending.{candidate, served_at, messages_at, sent_from, logged}
-use Rattle.domain_sending.proofs.SendingLaws.{served-hit, served-miss, messages-hit, messages-miss}
+use Rattle.domain_sending.proofs.SendingLaws.{served-hit, served-miss, messages-hit}
 use Rattle.domain_sending.proofs.SendingLaws.{messages-le, from_zero, from-domain, from-messages}
 use Rattle.domain_sending.proofs.SendingLaws.{from-skip}
 use Rattle.domain_sending.proofs.SendingLaws.{logged-count, logged-is}
@@ -53,14 +53,6 @@ module _ (c : Bool) (d : Domain) (l : List ℕ) (i n : ℕ) (s : Source) (e : s 
   abbrev Turned : Domain → List ℕ → ℕ → Type 0
   Turned d' l' n' =
       (d' ≡ served_at d i) × (l' ≡ sets l n (messages_at c d i)) × (n' ≡ n + length (messages_at c d i))
-
-  pub turn-miss : candidate s ≡ false → Turned d l n
-  turn-miss f =
-      let miss = ap candidate (sym e) ∙ f in (
-        sym (served-miss d i miss),
-        rw (messages-miss c d i miss) refl,
-        omega (arith, ap length (messages-miss c d i miss)),
-      )
 
   pub turn-hit : candidate s ≡ true → (d' : Domain) (m : ℕ)
       → d' ≡ with_pendings d (put d.pending i false)

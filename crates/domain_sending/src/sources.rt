@@ -17,6 +17,7 @@ fn sends(part: &[u32; DOMAIN_SIZE]) -> bool
 }
 
 // The turn of source `i`, with `n` messages in the log. Answers how many there are then.
+#[tactic(auto, unfolding(crate::specs::Sending::served_at, crate::specs::Sending::messages_at))]
 fn serve(
     part: &mut [u32; DOMAIN_SIZE],
     child: bool,

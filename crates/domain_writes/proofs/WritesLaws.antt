@@ -8,7 +8,7 @@ use native.Mathlib.Nat.{zero-add, add-zero}
 use native.Mathlib.Decide.{ℕ_discrete}
 use native.Mathlib.Omega.{arith}
 use lib.Dec.{eqb}
-use borrow.Author.Tests.{eq-eqb, ne_eqb}
+use borrow.Author.Tests.{eq-eqb, ne_eqb, le-leb, lt-leb}
 use Rattle.words.specs.Bits.{has_bit}
 use Rattle.words.specs.Sets.{member, put}
 use Rattle.words.specs.Parts.{joined}
@@ -26,7 +26,7 @@ use Rattle.domain.specs.Slot.{source_at, with_source}
 use Rattle.domain_laws.proofs.SlotEffects.{with_source-pending}
 use Rattle.domain_laws.proofs.PartEffects.{changed-pend, changed-clear, changed-enable, changed-disable}
 use Rattle.domain_laws.proofs.PartEffects.{pended-part, cleared-part}
-use Rattle.domain_writes.specs.Writes.{changed_at, changed_bit, changed_from, word_changed}
+use Rattle.domain_writes.specs.Writes.{changed_at, changed_bit, changed_from, word_changed, number_changed}
 
 -- ---- one source, family by family
 
@@ -116,6 +116,18 @@ module _ (d : Domain) (ws : List ℕ) (c : Change) (v : ℕ) where
   pub word-second : (k : ℕ) → k ≢ 0 → word_changed d ws c k v ≡ changed_from d ws c v 32 32
   unfolding word_changed
   word-second k e = simp (ne_eqb k 0 e)
+
+  pub number-below : v < 1 → number_changed d ws c v ≡ d
+  unfolding number_changed
+  number-below h = simp (lt-leb 1 v h)
+
+  pub number-above : 63 < v → number_changed d ws c v ≡ d
+  unfolding number_changed
+  number-above h = simp (le-leb 1 v (omega arith), lt-leb v 63 h)
+
+  pub number-within : 1 ≤ v → v ≤ 63 → number_changed d ws c v ≡ changed_at d ws c v
+  unfolding number_changed
+  number-within l h = simp (le-leb 1 v l, le-leb v 63 h)
 
 -- ---- the sources that a word names, one after the other
 

@@ -3,14 +3,8 @@
 -- Assumes nothing.
 use mathlib.Core.Path.{sym, ◌∙◌}
 use Rattle.domain.specs.Domain.{domain_of}
-use Rattle.domain_sending.proofs.PassLaws.{turn-miss, turn-hit}
+use Rattle.domain_sending.proofs.PassLaws.{turn-hit}
 use Rattle.domain_sending.proofs.sources.serve.Goals as goal
-
-pub returns-then-not-candidate : goal.returns-then-not-candidate
-returns-then-not-candidate c =
-    let args = c.args in
-    turn-miss args.child (domain_of args.part.now) args.log.now args.i args.n _
-    c.load-s.ensures (sym c.candidate.ensures ∙ c.if-not-candidate.true)
 
 pub returns : goal.returns
 returns c =
