@@ -21,8 +21,7 @@ use Rattle.source_rules.specs.SourceRules.{source_sound}
 use Rattle.source_rules.specs.SourceParts.{held_back, occupied}
 use Rattle.source_laws.proofs.PartsEffects.{occupied-child, held-machine, source-parts}
 use Rattle.source_laws.proofs.PartsEffects.{word-machine-delegates, sound-word}
-use Rattle.domain_genmsi.specs.Genmsi.{kept_genmsi}
-use Rattle.domain.specs.Domain.{Domain, by_messages, sends, genmsi_of}
+use Rattle.domain.specs.Domain.{Domain, by_messages, sends}
 use Rattle.domain.specs.Slot.{source_at}
 use Rattle.wired_state.specs.Wires.{Wired}
 use Rattle.wired_state.proofs.WiresLaws.{delegated-mode}
@@ -32,14 +31,6 @@ use Rattle.wired_rules.specs.Rules.{source_rule, domain_sound, delegated_rule, w
 use Rattle.domain_slots.specs.Slots.{slot_at, has}
 use Rattle.domain_slots.proofs.SlotsLaws.{bit-of, bit-zero, slot-at}
 use Rattle.wired_rules.specs.Bits.{bits_at}
-
-pub genmsi-rules-read : (d : Domain) {g h : ℕ} {m : Bool}
-    → g ≡ genmsi_of d → h ≡ kept_genmsi g → m ≡ by_messages d
-    → (eqb g h && (m || eqb g 0)) ≡ (genmsi_range d && genmsi_rule d)
-unfolding genmsi_range genmsi_rule
-genmsi-rules-read d {g = g} {m = t} a b m =
-    ap (λ (x : ℕ). eqb g x && (t || eqb g 0)) b
-    ∙ (λ k. eqb (a k) (kept_genmsi (a k)) && (m k || eqb (a k) 0))
 
 -- ---- the rules of a domain, and of both
 
