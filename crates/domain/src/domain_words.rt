@@ -10,6 +10,7 @@ use super::{DM_BIT, IE_BIT};
 use sizes::{DOMAIN_SIZE, ENABLES_PLACE, PENDINGS_PLACE, TARGETS_PLACE};
 use words::joined64;
 
+#[tactic(auto, unfolding(crate::specs::Domain::domain_of, crate::specs::Domain::domaincfg_of))]
 pub fn domaincfg(part: &[u32; DOMAIN_SIZE]) -> u32
     ensures { result ≡ domaincfg_of (domain_of part.now) }
 {
@@ -32,12 +33,14 @@ pub fn by_messages(part: &[u32; DOMAIN_SIZE]) -> bool
     words::has_bit(domaincfg(part), DM_BIT)
 }
 
+#[tactic(auto, unfolding(crate::specs::Domain::domain_of, crate::specs::Domain::genmsi_of))]
 pub fn genmsi(part: &[u32; DOMAIN_SIZE]) -> u32
     ensures { result ≡ genmsi_of (domain_of part.now) }
 {
     part[TARGETS_PLACE]
 }
 
+#[tactic(auto, unfolding(crate::specs::Domain::domain_of, crate::specs::Domain::with_domaincfg))]
 pub fn put_domaincfg(part: &mut [u32; DOMAIN_SIZE], value: u32)
     ensures { domain_of part.new ≡ with_domaincfg (domain_of part.old) value }
 {
