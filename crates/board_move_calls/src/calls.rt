@@ -3,6 +3,7 @@ ghost use Rattle.board_call.specs.declared.Call.TheVariants as the;
 ghost use Rattle.board_call.specs.Outcome.{outcome, Gives};
 
 use super::acts::perform;
+use super::guest::Guest;
 use super::targets::by_messages;
 use board_call::{Answer, Done, check, check_numbers, is_move};
 use board_move_steps::act_of;
@@ -30,7 +31,14 @@ pub fn make_access(
         true,
         true,
     )?;
-    let act = act_of(access);
-    perform(state, saved, oldhart, oldfile, newhart, newfile, act);
+    let old_file = Guest {
+        hart: oldhart,
+        file: oldfile,
+    };
+    let new_file = Guest {
+        hart: newhart,
+        file: newfile,
+    };
+    perform(state, saved, old_file, new_file, act_of(access));
     Ok(Done { value: 0, count: 0 })
 }

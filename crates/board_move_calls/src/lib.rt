@@ -4,6 +4,7 @@
 
 mod acts;
 mod calls;
+mod guest;
 mod registers;
 mod targets;
 

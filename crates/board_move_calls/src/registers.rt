@@ -1,12 +1,12 @@
 // The registers of a guest's file in the block, and the saved numbers that a move keeps of them.
-ghost use Rattle.std.specs.Prelude.{◌≡◌, true, ◌<◌, set};
+ghost use Rattle.std.specs.Prelude.{◌≡◌, ◌<◌, set};
 ghost use Rattle.sizes.specs.Sizes.{saved_size};
 ghost use Rattle.file.specs.declared.register.Access.TheVariants as access;
 ghost use Rattle.file.specs.Reply.{reply_value};
 ghost use Rattle.board_block.specs.Block.{board_of};
-ghost use Rattle.board_call.specs.Numbers.{is_guest_file};
 ghost use Rattle.board_call.specs.Move.{register_on, with_one};
 
+use super::guest::Guest;
 use board_file_calls::{load_file, store_file};
 use file::{Access, Accessed};
 use sizes::{BLOCK_SIZE, SAVED_SIZE};
@@ -14,16 +14,14 @@ use sizes::{BLOCK_SIZE, SAVED_SIZE};
 // Not yet stored.
 fn accessed(
     state: &[u32; BLOCK_SIZE],
-    hart: u64,
-    file: u64,
+    guest: Guest,
     kind: Access,
     select: u64,
     value: u64,
 ) -> Accessed
-    requires { is_guest_file hart file ≡ true }
-    ensures { result ≡ register_on (board_of state.now) hart file kind select value }
+    ensures { result ≡ register_on (board_of state.now) guest.hart guest.file kind select value }
 {
-    let f = load_file(state, hart, file);
+    let f = load_file(state, guest.hart, guest.file);
     f.access(true, kind, select, value)
 }
 
@@ -31,32 +29,23 @@ fn accessed(
 pub fn save(
     state: &[u32; BLOCK_SIZE],
     saved: &mut [u64; SAVED_SIZE],
-    hart: u64,
-    file: u64,
+    guest: Guest,
     select: u64,
     place: usize,
 )
-    requires { (is_guest_file hart file ≡ true) × (place < saved_size) }
+    requires { place < saved_size }
     ensures { saved.new ≡ set saved.old place
-        (reply_value (register_on (board_of state.now) hart file access.Read select 0).answer) }
+        (reply_value (register_on (board_of state.now) guest.hart guest.file access.Read select 0).answer) }
 {
-    let done = accessed(state, hart, file, Access::Read, select, 0);
+    let done = accessed(state, guest, Access::Read, select, 0);
     saved[place] = done.answer.unwrap_or(0);
 }
 
 // A register is written, or bits of it are set or cleared.
-pub fn put(
-    state: &mut [u32; BLOCK_SIZE],
-    hart: u64,
-    file: u64,
-    kind: Access,
-    select: u64,
-    value: u64,
-)
-    requires { is_guest_file hart file ≡ true }
-    ensures { board_of state.new ≡ with_one (board_of state.old) hart file
-        (register_on (board_of state.old) hart file kind select value).file }
+pub fn put(state: &mut [u32; BLOCK_SIZE], guest: Guest, kind: Access, select: u64, value: u64)
+    ensures { board_of state.new ≡ with_one (board_of state.old) guest.hart guest.file
+        (register_on (board_of state.old) guest.hart guest.file kind select value).file }
 {
-    let done = accessed(state, hart, file, kind, select, value);
-    store_file(state, hart, file, done.file);
+    let done = accessed(state, guest, kind, select, value);
+    store_file(state, guest.hart, guest.file, done.file);
 }

@@ -5,9 +5,9 @@ ghost use Rattle.domain_values.specs.Values.{domaincfg_mark};
 ghost use Rattle.domain.specs.Domain.{domaincfg_of, by_messages};
 ghost use Rattle.wired_state.specs.Wires.{wired_of, domain_in};
 ghost use Rattle.board_block.specs.Block.{with_wired, board_of, board_sound};
-ghost use Rattle.board_call.specs.Numbers.{is_guest_file};
 ghost use Rattle.board_call.specs.Move.{retargeted_in};
 
+use super::guest::Guest;
 use board_move_steps::{names_file, renamed};
 use domain_region::Word;
 use sizes::{BLOCK_SIZE, FILES_SIZE, WIRED_SIZE};
@@ -20,51 +20,31 @@ pub fn by_messages(state: &[u32; BLOCK_SIZE]) -> bool
 }
 
 // In the words of the wired controller. The target is read, and written anew if it names the old file.
-fn rewrite(
-    w: &mut [u32; WIRED_SIZE],
-    oldhart: u64,
-    oldfile: u64,
-    newhart: u64,
-    newfile: u64,
-    source: u64,
-)
+fn rewrite(w: &mut [u32; WIRED_SIZE], old_file: Guest, new_file: Guest, source: u64)
     requires { (domaincfg_of (domain_in (wired_of w.old) true) < domaincfg_mark)
-        × (is_guest_file newhart newfile ≡ true) × (1 ≤ source) × (source ≤ source_count) }
+        × (1 ≤ source) × (source ≤ source_count) }
     ensures { wired_of w.new
-        ≡ retargeted_in oldhart oldfile newhart newfile (wired_of w.old) source }
+        ≡ retargeted_in old_file.hart old_file.file new_file.hart new_file.file (wired_of w.old) source }
 {
     let target = wired_registers::read(w, true, Word::Target(source));
-    if names_file(target, oldhart, oldfile) {
+    if names_file(target, old_file.hart, old_file.file) {
         wired_registers::write(
             w,
             true,
             Word::Target(source),
-            renamed(target, newhart, newfile),
+            renamed(target, new_file.hart, new_file.file),
         );
     }
 }
 
-pub fn retarget(
-    state: &mut [u32; BLOCK_SIZE],
-    oldhart: u64,
-    oldfile: u64,
-    newhart: u64,
-    newfile: u64,
-    source: u64,
-)
+pub fn retarget(state: &mut [u32; BLOCK_SIZE], old_file: Guest, new_file: Guest, source: u64)
     requires { (board_sound (board_of state.old) ≡ true)
-        × (is_guest_file newhart newfile ≡ true) × (1 ≤ source) × (source ≤ source_count) }
+        × (1 ≤ source) × (source ≤ source_count) }
     ensures { board_of state.new
         ≡ with_wired (board_of state.old)
-        (retargeted_in oldhart oldfile newhart newfile (board_of state.old).wired source) }
+        (retargeted_in old_file.hart old_file.file new_file.hart new_file.file
+        (board_of state.old).wired source) }
 {
     let (_, wired) = state.split_at_mut(FILES_SIZE);
-    rewrite(
-        wired.first_chunk_mut().unwrap(),
-        oldhart,
-        oldfile,
-        newhart,
-        newfile,
-        source,
-    );
+    rewrite(wired.first_chunk_mut().unwrap(), old_file, new_file, source);
 }

@@ -15,14 +15,14 @@ pub returns-in_err-check_page : goal.returns-in_err-check_page
 returns-in_err-check_page c =
     let none = passed-case _ _ c.check.ensures.told c.in_ok-check.was in
     tests-failed (tests-page_write _ _ _ _) _ _ none refl refl refl _
-        c.check_page.ensures
+    c.check_page.ensures
     c.in_err-check_page.was _ c.from_residual-in_err-check_page.ensures.1
 
 pub load_file-f-requires : goal.load_file-f-requires
 load_file-f-requires c =
     let none = passed-case _ _ c.check.ensures.told c.in_ok-check.was in
     let passed = tests-passed (tests-page_write _ _ _ c.args.value) _ _ none refl refl refl _
-        c.check_page.ensures
+    c.check_page.ensures
     c.in_ok-check_page.was in
     passed.0
 
@@ -30,7 +30,7 @@ pub store_file-requires : goal.store_file-requires
 store_file-requires c =
     let none = passed-case _ _ c.check.ensures.told c.in_ok-check.was in
     let passed = tests-passed (tests-page_write _ _ _ c.args.value) _ _ none refl refl refl _
-        c.check_page.ensures
+    c.check_page.ensures
     c.in_ok-check_page.was in
     passed.0
 
@@ -39,7 +39,7 @@ returns c =
     let lent : c.unwrap-state.result.now ≡ c.args.state.now = search rules in
     let none = passed-case _ _ c.check.ensures.told c.in_ok-check.was in
     let passed = tests-passed (tests-page_write _ _ _ c.args.value) _ _ none refl refl refl _
-        c.check_page.ensures
+    c.check_page.ensures
     c.in_ok-check_page.was in
     page_write-done _ _ none _ lent _ _ _ c.load_file-f.ensures _ c.store_file.new.state (search rules)
     c.store_file.ensures _ _ passed.0 passed.1 c.page_write.ensures

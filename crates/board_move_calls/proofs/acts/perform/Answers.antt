@@ -8,7 +8,7 @@ use Rattle.board_move_calls.proofs.acts.perform.Goals as goal
 
 pub save-requires : goal.save-requires
 save-requires c =
-    (c.requires.1, save-within _ c.requires.3 _ _ c.in-Save.is)
+    save-within _ c.requires.1 _ _ c.in-Save.is
 
 pub returns-then-new : goal.returns-then-new
 returns-then-new c =
@@ -17,21 +17,20 @@ returns-then-new c =
 
 pub retarget-requires : goal.retarget-requires
 retarget-requires c =
-    let within = c.requires.3 in
+    let within = c.requires.1 in
     let told = c.in-Target.is in (
       c.requires.0,
-      c.requires.2,
       target-low _ within _ told,
       target-high _ within _ told,
     )
 
 pub offset_bounds-saved-place : goal.offset_bounds-saved-place
 offset_bounds-saved-place c =
-    omega (arith, put-within _ c.requires.3 _ _ _ c.in-Put.is)
+    omega (arith, put-within _ c.requires.1 _ _ _ c.in-Put.is)
 
 pub bounds-saved-place : goal.bounds-saved-place
 bounds-saved-place c =
-    put-within _ c.requires.3 _ _ _ c.in-Put.is
+    put-within _ c.requires.1 _ _ _ c.in-Put.is
 
 pub returns-in-Save : goal.returns-in-Save
 returns-in-Save c =

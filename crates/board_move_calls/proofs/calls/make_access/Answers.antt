@@ -33,8 +33,26 @@ returns-in_err-check_numbers c =
     _ c.check_numbers.ensures c.in_err-check_numbers.was _
     c.from_residual-in_err-check_numbers.ensures.1 _)
 
-pub act_of-act-requires : goal.act_of-act-requires
-act_of-act-requires c =
+pub invariant_of-old_file : goal.invariant_of-old_file
+invariant_of-old_file c =
+    let lent : c.unwrap-state.result.now ≡ c.args.state.now = search rules in
+    let none = passed-case _ _ c.check.ensures.told c.in_ok-check.was in
+    let passed = tests-passed (tests-move _ _ _ _ _) _ _ none
+    (ap₂ ◌&&◌ c.is_move.ensures (c.by_messages.ensures ∙ ap child lent)) refl refl _ c.check_numbers.ensures
+    c.in_ok-check_numbers.was in
+    record { is_there = move-old _ _ _ _ _ (and_first _ _ passed.0) }
+
+pub invariant_of-new_file : goal.invariant_of-new_file
+invariant_of-new_file c =
+    let lent : c.unwrap-state.result.now ≡ c.args.state.now = search rules in
+    let none = passed-case _ _ c.check.ensures.told c.in_ok-check.was in
+    let passed = tests-passed (tests-move _ _ _ _ _) _ _ none
+    (ap₂ ◌&&◌ c.is_move.ensures (c.by_messages.ensures ∙ ap child lent)) refl refl _ c.check_numbers.ensures
+    c.in_ok-check_numbers.was in
+    record { is_there = move_new _ _ _ _ _ (and_first _ _ passed.0) }
+
+pub act_of-requires : goal.act_of-requires
+act_of-requires c =
     let lent : c.unwrap-state.result.now ≡ c.args.state.now = search rules in
     let none = passed-case _ _ c.check.ensures.told c.in_ok-check.was in
     let passed = tests-passed (tests-move _ _ _ _ _) _ _ none
@@ -51,9 +69,7 @@ perform-requires c =
     c.in_ok-check_numbers.was in
     let there = and_first _ _ passed.0 in (
       ap (λ (l : List ℕ). board_sound (board_of l)) lent ∙ checked-sound _ _ none,
-      move-old _ _ _ _ _ there,
-      move_new _ _ _ _ _ there,
-      ap act_within c.act_of-act.ensures
+      ap act_within c.act_of.ensures
           ∙ act-within _ (move-low _ _ _ _ _ there) (move-high _ _ _ _ _ there),
     )
 
@@ -65,5 +81,5 @@ returns c =
     (ap₂ ◌&&◌ c.is_move.ensures (c.by_messages.ensures ∙ ap child lent)) refl refl _ c.check_numbers.ensures
     c.in_ok-check_numbers.was in
     move-done _ _ none _ _ _ _ _ (and_first _ _ passed.0) (and_second _ _ passed.0) _
-    c.act_of-act.ensures
+    c.act_of.ensures
     c.perform.new.state _ _ (search rules) (rw lent at c.perform.ensures)

@@ -8,11 +8,11 @@ use Rattle.board_move_calls.proofs.registers.put.Goals as goal
 
 pub store_file-requires : goal.store_file-requires
 store_file-requires c =
-    guest-there _ _ c.requires
+    guest-there _ _ c.args.guest.is_there
 
 pub returns : goal.returns
 returns c =
     let args = c.args in
     c.store_file.ensures
-    ∙ ap (λ (x : Accessed). with_one (board_of args.state.now) args.hart args.file x.file)
+    ∙ ap (λ (x : Accessed). with_one (board_of args.state.now) args.guest.hart args.guest.file x.file)
     c.accessed-done.ensures

@@ -25,7 +25,6 @@ rewrite-requires c =
           (child-domaincfg l long c.requires.0),
       c.requires.1,
       c.requires.2,
-      c.requires.3,
     )
 
 pub returns : goal.returns
@@ -39,5 +38,5 @@ returns c =
     wired-back l _ _ long cut.front cut.back c.rewrite.new.w (search rules)
     ∙ ap (with_wired (board_of l))
     (c.rewrite.ensures
-    ∙ ap (λ (w : Wired). retargeted_in args.oldhart args.oldfile args.newhart args.newfile w
-    args.source) part)
+    ∙ ap (λ (w : Wired). retargeted_in args.old_file.hart args.old_file.file
+    args.new_file.hart args.new_file.file w args.source) part)

@@ -9,7 +9,7 @@ use Rattle.board_move_calls.proofs.targets.rewrite.Goals as goal
 
 pub renamed-requires : goal.renamed-requires
 renamed-requires c =
-    let there = c.requires.1 in (
+    let there = c.args.new_file.is_there in (
       guest-hart _ _ there,
       omega (arith, guest-low _ _ there),
       guest-high _ _ there,
@@ -18,7 +18,8 @@ renamed-requires c =
 pub returns-then-names_file : goal.returns-then-names_file
 returns-then-names_file c =
     let args = c.args in
-    retarget-made args.oldhart args.oldfile args.newhart args.newfile (wired_of args.w.now)
+    retarget-made args.old_file.hart args.old_file.file args.new_file.hart args.new_file.file
+    (wired_of args.w.now)
     args.source _ _ c.read-target.ensures.0 c.read-target.ensures.1
     (sym c.names_file.ensures ∙ c.if-names_file.true) _
     c.renamed.ensures _ c.write.ensures
@@ -26,6 +27,7 @@ returns-then-names_file c =
 pub returns-else-names_file : goal.returns-else-names_file
 returns-else-names_file c =
     let args = c.args in
-    retarget-none args.oldhart args.oldfile args.newhart args.newfile (wired_of args.w.now)
+    retarget-none args.old_file.hart args.old_file.file args.new_file.hart args.new_file.file
+    (wired_of args.w.now)
     args.source _ _ c.read-target.ensures.0 c.read-target.ensures.1
     (sym c.names_file.ensures ∙ c.if-names_file.false)
