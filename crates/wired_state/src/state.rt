@@ -1,4 +1,4 @@
-// What is read of the controller's words: the wires, and who has a source.
+// The controller's words: the wires, where a domain's words stand, and who has a source.
 ghost use Rattle.std.specs.Prelude.{◌≡◌, ◌<◌};
 ghost use Rattle.sizes.specs.Sizes.{slot_count};
 ghost use Rattle.domain.specs.Domain.{domain_of};
