@@ -8,9 +8,13 @@ use Rattle.std.proofs.Common.{Result, Ok, Err}
 use Rattle.board_call.specs.declared.Refusal.{Refusal}
 use Rattle.board_call.specs.declared.Refusal.TheVariants.{StateLength, LogLength, BrokenRule}
 use Rattle.board_call.specs.declared.Refusal.TheVariants.{NoSuch, BadAddress, IllegalSelect}
-use Rattle.board_call.specs.Answer.{number_of, refusal_number, Refuses}
+use Rattle.board_call.specs.Answer.{refusal_number, Refuses}
 
-pub refused-case : (e : Refusal) → number_of e ≢ 0
+-- the number of the refusal e
+abbrev pub told_number : Refusal → ℕ
+told_number e = refusal_number {A = Unit} (Err e)
+
+pub refused-case : (e : Refusal) → told_number e ≢ 0
 refused-case StateLength z = omega arith
 refused-case LogLength z = omega arith
 refused-case BrokenRule z = omega arith
@@ -24,5 +28,5 @@ module _ (r : Result Unit Refusal) (n : ℕ) (said : Refuses r n) where
   passed-case e = sym said ∙ ap refusal_number e
 
   -- the first that failed
-  pub failed-case : {e : Refusal} → r ≡ Err e → number_of e ≡ n
+  pub failed-case : {e : Refusal} → r ≡ Err e → told_number e ≡ n
   failed-case q = sym (ap refusal_number q) ∙ said

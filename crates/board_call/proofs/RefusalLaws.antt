@@ -13,11 +13,10 @@ use borrow.Author.Tests.{eq-eqb, ne_eqb, not-true}
 use Rattle.words.proofs.TestsLaws.{tested, and_first, and_second, or_right}
 use Rattle.board_block.specs.Block.{Board, board_of, board_sound}
 use Rattle.board_call.specs.declared.Refusal.{Refusal}
-use Rattle.board_call.specs.Answer.{number_of}
 use Rattle.board_call.specs.Calls.{Tests}
 use Rattle.board_call.specs.Refusal.{Test, first_failed, block_tests, name_tests, block_refusal}
 use Rattle.board_call.specs.Refusal.{name_refusal_by, refusal_by}
-use Rattle.board_call.proofs.AnswerLaws.{refused-case}
+use Rattle.board_call.proofs.AnswerLaws.{told_number, refused-case}
 use Rattle.sizes.specs.Sizes.{block_size}
 
 -- ---- of lists of tests
@@ -65,8 +64,8 @@ module _ (t : Bool) (l g : List ℕ) where
       blocks-untested e = simp (eq-eqb (length l) block_size long, eq-eqb (length g) 63 full, e)
 
 -- a refusal by the lengths is one where the rules are tested too
-pub refused-lengths : (t : Bool) (l g : List ℕ) (e : Refusal) → number_of e ≡ block_refusal false l g
-    → number_of e ≡ block_refusal t l g
+pub refused-lengths : (t : Bool) (l g : List ℕ) (e : Refusal) → told_number e ≡ block_refusal false l g
+    → told_number e ≡ block_refusal t l g
 unfolding block_refusal block_tests first_failed
 refused-lengths t l g e said = said ∙ same
   where

@@ -1,7 +1,6 @@
 -- The paper's numbers for what a call answers. 01, "Calls and their refusals". Assumes nothing.
 --   Answer             what a call answers: done, with its value and count, or the refusal
 --   done_with v n      done, with the value v and n messages
---   number_of e        the refusal e
 --   refusal_number r   the refusal, 0 if it is done
 --   answer_value r     the value, 0 if it is refused
 --   answer_count r     the number of messages, 0 if it is refused
@@ -19,17 +18,14 @@ abbrev pub done_with : ℕ → ℕ → Answer
 done_with v n = Ok (record { value = v; count = n })
 
 -- [01 C8 P16]
-abbrev pub number_of : Refusal → ℕ
-number_of StateLength = 1
-number_of LogLength = 2
-number_of BrokenRule = 3
-number_of NoSuch = 4
-number_of BadAddress = 5
-number_of IllegalSelect = 6
-
 abbrev pub refusal_number : {A : Type 0} → Result A Refusal → ℕ
 refusal_number (Ok d) = 0
-refusal_number (Err e) = number_of e
+refusal_number (Err StateLength) = 1
+refusal_number (Err LogLength) = 2
+refusal_number (Err BrokenRule) = 3
+refusal_number (Err NoSuch) = 4
+refusal_number (Err BadAddress) = 5
+refusal_number (Err IllegalSelect) = 6
 
 abbrev pub answer_value : Answer → ℕ
 answer_value (Ok d) = d.value

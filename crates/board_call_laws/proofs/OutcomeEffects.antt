@@ -14,11 +14,11 @@ use Rattle.board_block_laws.proofs.BlockBack.{block_back}
 use Rattle.std.proofs.Common.{Err}
 use Rattle.board_call.specs.declared.Refusal.{Refusal}
 use Rattle.board_call.specs.declared.Call.{Call}
-use Rattle.board_call.specs.Answer.{done_with, number_of}
+use Rattle.board_call.specs.Answer.{done_with}
 use Rattle.board_call.specs.Calls.{Tests, tests_rules, row_of}
 use Rattle.board_call.specs.Refusal.{block_refusal, name_refusal, refusal_of}
 use Rattle.board_call.specs.Outcome.{Stepped, step, Outcome, refused_as, done_as, outcome, Gives, Does}
-use Rattle.board_call.proofs.AnswerLaws.{refused-case}
+use Rattle.board_call.proofs.AnswerLaws.{told_number, refused-case}
 use Rattle.board_call.proofs.RefusalLaws.{refused-blocks, refused-numbers}
 use Rattle.sizes.specs.Sizes.{block_size}
 
@@ -41,19 +41,19 @@ module _ (c : Call) (l g : List ℕ) where
       let n = refusal_of c l g in tested (eqb n 0) (λ t. rw t (sym (eqb-true n 0 t))) (λ f. rw f)
 
   -- the refusal with its number
-  gives-number : (e : Refusal) → refusal_of c l g ≡ number_of e → Does c l g (Err e) l g
+  gives-number : (e : Refusal) → refusal_of c l g ≡ told_number e → Does c l g (Err e) l g
   gives-number e said s =
       subst (λ (o : Outcome). Gives o (Err e) l g s)
-      (sym (outcome-refused s (number_of e) said (refused-case e)))
+      (sym (outcome-refused s (told_number e) said (refused-case e)))
       record { number = refl; value = refl; count = refl; block = refl; log = refl; saved = refl }
 
 -- ---- what each test gives
 
 module _ (c : Call) (l g : List ℕ) where
   -- e is what the test of the blocks refused with
-  pub gives-blocks : (e : Refusal) → number_of e ≡ block_refusal (tests_rules c) l g → Does c l g (Err e) l g
+  pub gives-blocks : (e : Refusal) → told_number e ≡ block_refusal (tests_rules c) l g → Does c l g (Err e) l g
   gives-blocks e said =
-      gives-number c l g e (refused-blocks (row_of c).tests l g (number_of e) said (refused-case e))
+      gives-number c l g e (refused-blocks (row_of c).tests l g (told_number e) said (refused-case e))
 
   module _ (z : block_refusal (tests_rules c) l g ≡ 0) where
     abbrev b : Board
@@ -63,7 +63,7 @@ module _ (c : Call) (l g : List ℕ) where
     t = (row_of c).tests
 
     -- e is what the test of the numbers refused with
-    pub gives-numbers : (e : Refusal) → number_of e ≡ name_refusal c b → Does c l g (Err e) l g
+    pub gives-numbers : (e : Refusal) → told_number e ≡ name_refusal c b → Does c l g (Err e) l g
     gives-numbers e said = gives-number c l g e (refused-numbers t l g z ∙ sym said)
 
     -- an accepted call, from what its code left

@@ -2,7 +2,6 @@
 #![tactic(auto)]
 
 ghost use Rattle.std.specs.Prelude.{◌≡◌};
-ghost use Rattle.board_call.specs.Answer.{number_of};
 ghost use Rattle.monitor_answer.specs.Told.{Numbers};
 
 use board_call::{Answer, Refusal};
@@ -18,17 +17,13 @@ pub struct VskAnswer {
     pub refusal: u32,
 }
 
-// The paper's number of a refusal.
-fn number_of(refusal: Refusal) -> u32
-    ensures { result ≡ number_of refusal }
+fn refused(number: u32) -> VskAnswer
+    ensures { result ≡ record { value = 0; count = 0; refusal = number } }
 {
-    match refusal {
-        Refusal::StateLength => 1,
-        Refusal::LogLength => 2,
-        Refusal::BrokenRule => 3,
-        Refusal::NoSuch => 4,
-        Refusal::BadAddress => 5,
-        Refusal::IllegalSelect => 6,
+    VskAnswer {
+        value: 0,
+        count: 0,
+        refusal: number,
     }
 }
 
@@ -41,10 +36,11 @@ pub fn numbers(answer: Answer) -> VskAnswer
             count: done.count,
             refusal: 0,
         },
-        Err(refusal) => VskAnswer {
-            value: 0,
-            count: 0,
-            refusal: number_of(refusal),
-        },
+        Err(Refusal::StateLength) => refused(1),
+        Err(Refusal::LogLength) => refused(2),
+        Err(Refusal::BrokenRule) => refused(3),
+        Err(Refusal::NoSuch) => refused(4),
+        Err(Refusal::BadAddress) => refused(5),
+        Err(Refusal::IllegalSelect) => refused(6),
     }
 }

@@ -18,9 +18,11 @@ pub write-n-requires : goal.write-n-requires
 write-n-requires c =
     let l = c.args.state.now in
     let cut = c.split_at_mut-wired.ensures in
-    let lent : c.unwrap.result.now ≡ take wired_size c.split_at_mut-wired.result.1.now = search rules in
-    (c.requires.0, rw (wired-lent l _ _ c.told-state cut.front cut.back lent)
-    (part_sound l c.told-state c.requires.1))
+    let lent : c.unwrap.result.now ≡ take wired_size c.split_at_mut-wired.result.1.now = search rules in (
+      c.requires.0,
+      rw (wired-lent l _ _ c.told-state cut.front cut.back lent)
+          (part_sound l c.told-state c.requires.1),
+    )
 
 pub delivered-requires : goal.delivered-requires
 delivered-requires c =
