@@ -16,7 +16,7 @@ use borrow.Author.Tests.{ltb-true, ltb-false, leb-true, lt-ltb, le-ltb, le-leb}
 use lib.Dec.{leb, ltb}
 use lib.ListN.{length, get_or, length-append, get_or-append}
 use Rattle.words.proofs.TestsLaws.{tested, and_first, and_second, and_both}
-use Rattle.record_numbers.specs.declared.reading.Number.TheVariants.{Value}
+use Rattle.std.specs.declared.option.Option.TheVariants.{Some}
 use Rattle.record_numbers.specs.Decimal.{is_digit, all_digits, value_onto, value_of, is_number, number_in}
 use Rattle.record_numbers.specs.Decimal.{digits_of, places_in, places_of, text_of, number_room}
 
@@ -153,7 +153,7 @@ module _ (n : ℕ) where
     pub text-number : is_number (text_of n) ≡ true
     text-number = is-number (text_of n) text-some text-digits (omega (arith, text-value))
 
-    pub text-back : number_in (text_of n) ≡ Value n
+    pub text-back : number_in (text_of n) ≡ Some n
     unfolding number_in
     text-back = simp (text-number, text-value)
 

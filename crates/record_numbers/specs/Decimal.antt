@@ -8,9 +8,7 @@
 --   text_of n                   n in decimal, with no zero in front
 --   number_room                 how many digits a number of 64 bits takes at most
 use Rattle.std.specs.Prelude.{ℕ, zero, suc, ◌+◌, ◌-◌, ◌*◌, ◌/◌, ◌%◌, ◌^◌, Bool, true, cond, ◌&&◌, List, []}
-use Rattle.std.specs.Prelude.{◌∷◌, ◌++◌, leb, ltb, length}
-use Rattle.record_numbers.specs.declared.reading.Number.{Number}
-use Rattle.record_numbers.specs.declared.reading.Number.TheVariants.{Value, Unreadable}
+use Rattle.std.specs.Prelude.{◌∷◌, ◌++◌, leb, ltb, length, Option, Some, None}
 
 -- ---- read
 
@@ -31,8 +29,8 @@ value_of bs = value_onto 0 bs
 unfoldable pub is_number : List ℕ → Bool
 is_number bs = ltb 0 (length bs) && (all_digits bs && ltb (value_of bs) (2 ^ 64))
 
-unfoldable pub number_in : List ℕ → Number
-number_in bs = cond (is_number bs) (Value (value_of bs)) Unreadable
+unfoldable pub number_in : List ℕ → Option ℕ
+number_in bs = cond (is_number bs) (Some (value_of bs)) None
 
 -- ---- written
 

@@ -4,7 +4,7 @@
 mod reading;
 mod text;
 
-pub use reading::{Number, decimal};
+pub use reading::decimal;
 pub use text::put_decimal;
 
 // How many digits a number takes at most.

@@ -23,15 +23,13 @@ pub fn put_decimal(out: &mut [u8], at: usize, n: u64) -> usize
     ensures lower_bound { at ≤ result }
 {
     if n < 10 {
-        out[at] = 48 + n as u8;
+        out[at] = b'0' + n as u8;
         return at + 1;
     }
     let end = at + places(n);
-    let mut i = end;
     let mut rest = n;
-    while i > at {
-        i -= 1;
-        out[i] = 48 + (rest % 10) as u8;
+    for i in (at..end).rev() {
+        out[i] = b'0' + (rest % 10) as u8;
         rest /= 10;
     }
     end

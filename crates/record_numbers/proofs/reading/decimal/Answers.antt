@@ -2,38 +2,32 @@
 -- bytes that are left. Assumes nothing.
 use mathlib.Core.Path.{sym, ◌∙◌}
 use native.Mathlib.Omega.{arith}
-use Rattle.record_numbers.proofs.ReadingLaws.{from-none, from_start, from-below}
-use Rattle.record_numbers.proofs.ReadingLaws.{from-above, from-beyond, from-digit, from_end}
+use borrow.Author.Rules.{rules}
+use Rattle.record_numbers.proofs.ReadingLaws.{from-none, from_start, from-other, from-beyond, from-digit, from_end}
 use Rattle.record_numbers.proofs.reading.decimal.Goals as goal
 
-pub returns-then-field-eq0 : goal.returns-then-field-eq0
-returns-then-field-eq0 c = from-none c.args.field.now c.if-field-eq0.true
+pub returns-then-is_empty : goal.returns-then-is_empty
+returns-then-is_empty c = from-none c.args.field.now (search rules)
 
-pub loop-i-init : goal.loop-i-init
-loop-i-init c = (omega arith, omega arith, from_start _ (omega arith))
+pub loop-byte-init : goal.loop-byte-init
+loop-byte-init c = (omega arith, from_start _ (search rules))
 
 pub returns-then-byte-lt48 : goal.returns-then-byte-lt48
-returns-then-byte-lt48 c =
-    let left = c.loop-i in
-    sym (left.invariant.2 ∙ from-below _ _ _ c.loop-i-test.true c.if-byte-lt48.true)
+returns-then-byte-lt48 c = sym (c.loop-byte.invariant.1 ∙ from-other _ _ _ c.loop-byte-test.true (search rules))
 
-pub returns-then-byte-gt57 : goal.returns-then-byte-gt57
-returns-then-byte-gt57 c =
-    let left = c.loop-i in
-    sym (left.invariant.2 ∙ from-above _ _ _ c.loop-i-test.true c.if-byte-gt57.true)
+pub returns-in_err-checked_mul : goal.returns-in_err-checked_mul
+returns-in_err-checked_mul c =
+    rw c.from_residual.ensures
+    (sym (c.loop-byte.invariant.1 ∙ from-beyond _ _ _ c.loop-byte-test.true (search rules)))
 
-pub returns-then-value-digit : goal.returns-then-value-digit
-returns-then-value-digit c =
-    let left = c.loop-i in
-    sym (left.invariant.2 ∙ from-beyond _ _ _ c.loop-i-test.true (omega arith))
+pub returns-in_err-value : goal.returns-in_err-value
+returns-in_err-value c =
+    rw c.from_residual-in_err-value.ensures
+    (sym (c.loop-byte.invariant.1 ∙ from-beyond _ _ _ c.loop-byte-test.true (search rules)))
 
-pub loop-i-preserved : goal.loop-i-preserved
-loop-i-preserved c =
-    let left = c.loop-i in
-    let inside = c.loop-i-test.true in
-    (omega arith, omega arith, left.invariant.2 ∙ from-digit _ _ _ inside (omega arith) (omega arith))
+pub loop-byte-preserved : goal.loop-byte-preserved
+loop-byte-preserved c =
+    (search rules, c.loop-byte.invariant.1 ∙ from-digit _ _ _ c.loop-byte-test.true (omega arith) (omega arith) ∙ search rules)
 
 pub returns : goal.returns
-returns c =
-    let left = c.loop-i in
-    sym (left.invariant.2 ∙ from_end _ _ _ c.loop-i-test.false left.invariant.1)
+returns c = sym (c.loop-byte.invariant.1 ∙ from_end _ _ _ c.loop-byte-test.false c.loop-byte.invariant.0)
