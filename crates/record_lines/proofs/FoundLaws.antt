@@ -1,24 +1,38 @@
--- A byte that is sought: it stands at this place, or behind it. No contract cites this file. Assumes nothing.
-use Prim.Native.Nat.{ℕ, suc, ◌+◌, ◌≤◌, ◌<◌}
-use mathlib.Core.Path.{◌≡◌, ap, sym, ◌∙◌}
+-- A byte that is sought: the place that the library finds is where it stands first. No contract cites this
+-- file. Assumes nothing.
+use Prim.Native.Nat.{ℕ, ◌+◌}
+use mathlib.Core.Path.{◌≡◌, refl, sym}
+use mathlib.Core.Bool.{Bool, true, false, cond}
 use mathlib.Core.List.{List}
-use mathlib.Core.Logic.{◌≢◌}
 use native.Mathlib.Omega.{arith}
-use borrow.Author.Tests.{eq-eqb, ne_eqb}
-use lib.Dec.{eqb}
-use lib.ListN.{length, get_or}
-use lib.Seq.{slice, slice_empty, slice-cons}
+use borrow.Author.Tests.{ltb-false}
+use lib.Dec.{eqb, ltb}
+use lib.ListN.{length}
+use Rattle.std.specs.List.{position_or_len}
+use Rattle.std.specs.Option.{unwrap_or}
+use Rattle.std.specs.Prelude.{Option, Some, None}
+use Rattle.std.proofs.lemmas.List.Recursion.{is_position_or_len}
+use Rattle.words.proofs.TestsLaws.{tested}
 use Rattle.record_lines.specs.Bytes.{index_of, index_after}
+use Rattle.record_lines.proofs.LinesLaws.{first-le}
 
-module _ (b : ℕ) (l : List ℕ) (i to : ℕ) (more : i < to) (room : to ≤ length l) where
-  pub found_hit : get_or l i 0 ≡ b → index_of b (slice i to l) ≡ 0
-  unfolding index_of index_after
-  found_hit e = ap (index_of b) (slice-cons i to l 0 more room) ∙ rw (eq-eqb (get_or l i 0) b e)
+module _ (b : ℕ) where
+  abbrev is_byte : ℕ → Bool
+  is_byte x = eqb x b
 
-  pub found_miss : get_or l i 0 ≢ b → index_of b (slice i to l) ≡ suc (index_of b (slice (suc i) to l))
-  unfolding index_of index_after
-  found_miss e = ap (index_of b) (slice-cons i to l 0 more room) ∙ rw (ne_eqb (get_or l i 0) b e)
+  after-cond : (t : Bool) (k : ℕ) → index_after t k ≡ cond t 0 (1 + k)
+  unfolding index_after
+  after-cond true k = refl
+  after-cond false k = omega arith
 
-pub found_none : (b to : ℕ) (l : List ℕ) → index_of b (slice to to l) ≡ 0
-unfolding index_of
-found_none b to l = ap (index_of b) (slice_empty to l)
+  index-position : (l : List ℕ) → index_of b l ≡ position_or_len is_byte l
+  unfolding index_of
+  index-position l =
+      is_position_or_len (index_of b) is_byte refl (λ x xs. after-cond (eqb x b) (index_of b xs)) l
+
+  pub found_at : (l : List ℕ) (r : Option ℕ) →
+      r ≡ cond (ltb (position_or_len is_byte l) (length l)) (Some (position_or_len is_byte l)) None →
+      unwrap_or r (length l) ≡ index_of b l
+  found_at l r e =
+      tested (ltb (position_or_len is_byte l) (length l)) (λ t. rw (e, t) (sym (index-position l)))
+      (λ f. rw (e, f) (omega (arith, ltb-false _ _ f, index-position l, first-le b l)))

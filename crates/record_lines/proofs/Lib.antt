@@ -2,5 +2,4 @@
 pub mod PartedLaws
 pub mod FirstLaws
 pub mod LinesLaws
-pub mod CopyLaws
 pub mod FoundLaws

@@ -7,8 +7,8 @@ use native.Mathlib.Omega.{arith}
 use native.Mathlib.Decide.{dec_lt}
 use lib.Dec.{eqb}
 use lib.ListN.{length, get_or, take, drop, length-take, length-drop}
-use lib.Seq.{slice, take_all, take-append-le, take-append-add, take-take, paste, take-paste, length-take-le}
-use lib.Seq.{take-length, take-add, drop_at, get_or-drop}
+use lib.Seq.{slice, take_all, take-append-le, take-append-add, take-take, length-take-le}
+use lib.Seq.{take-add, drop_at, get_or-drop}
 use borrow.Author.Tests.{eqb-true}
 use Rattle.record_lines.specs.Bytes.{index_of, index_after}
 use Rattle.record_lines.specs.Parted.{ended_by, rest_by}
@@ -108,58 +108,49 @@ take_min a k r = at (dec_lt a k)
         let least : min k a ≡ k = omega (arith, ge) in
         take_all a (take k r) (simp length-take (omega (arith, ge))) ∙ ap (λ (n : ℕ). take n r) (sym least)
 
-module _ (xs : List ℕ) (f e : ℕ) (le : f ≤ length xs)
-    (found : e ≡ f + index_of line_feed (slice f (length xs) xs)) where
+module _ (xs : List ℕ) (f much : ℕ) (le : f ≤ length xs) (found : much ≡ index_of line_feed (drop f xs)) where
   abbrev rest : List ℕ
   rest = drop f xs
 
-  abbrev much : ℕ
-  much = index_of line_feed rest
-
-  first_found : e ≡ f + much
-  first_found = found ∙ ap (λ (ys : List ℕ). f + index_of line_feed (drop f ys)) (take-length xs)
+  much-le : f + much ≤ length xs
+  much-le = omega (arith, found, first-le line_feed rest, length-drop f xs, le)
 
   -- the bytes up to the end of the line
-  first-slice : slice f e xs ≡ take much rest
-  first-slice =
-      ap (λ (n : ℕ). slice f n xs) first_found ∙ ap (drop f) (take-add f much xs)
-      ∙ drop_at (take f xs) (take much rest) f (length-take-le f xs le)
+  first-slice : slice f (f + much) xs ≡ take much rest
+  first-slice = ap (drop f) (take-add f much xs) ∙ drop_at (take f xs) (take much rest) f (length-take-le f xs le)
 
-  pub cut-stops : e < length xs → get_or xs e 0 ≡ line_feed
+  pub cut-stops : f + much < length xs → get_or xs (f + much) 0 ≡ line_feed
   cut-stops h =
-      ap (λ (n : ℕ). get_or xs n 0) first_found ∙ sym (get_or-drop f xs much 0)
-      ∙ first-there line_feed rest (omega (arith, h, first_found, length-drop f xs))
+      sym (get_or-drop f xs much 0)
+      ∙ ap (λ (n : ℕ). get_or rest n 0) found
+      ∙ first-there line_feed rest (omega (arith, h, found, length-drop f xs))
 
   module _ (l : List ℕ) (had n : ℕ) (whole : length l ≡ line_room) (room : had ≤ line_room)
-      (copied : n ≡ min (e - f) (line_room - had)) where
+      (copied : n ≡ min much (line_room - had)) (q : List ℕ) (held : q ≡ take had l ++ take n rest) where
     abbrev p : List ℕ
     p = take had l
 
     length-p : length p ≡ had
     length-p = length-take-le had l (omega (arith, whole, room))
 
-    few : n ≡ min much (line_room - had)
-    few = omega (arith, copied, first_found)
-
-    held-line : take (had + n) (paste l had rest n) ≡ kept (p ++ take much rest)
+    held-line : q ≡ kept (p ++ take much rest)
     unfolding kept
     held-line =
         let all : line_room ≡ length p + (line_room - had) = omega (arith, length-p, room) in
-        take-paste l had rest n (omega (arith, whole, room)) (omega (arith, few, first-le line_feed rest))
-        ∙ ap (λ (k : ℕ). p ++ take k rest) few
+        held
+        ∙ ap (λ (k : ℕ). p ++ take k rest) copied
         ∙ ap (λ (ys : List ℕ). p ++ ys) (sym (take_min (line_room - had) much rest))
         ∙ sym (take-append-add p (take much rest) (line_room - had))
         ∙ ap (λ (k : ℕ). take k (p ++ take much rest)) (sym all)
 
-    pub cut_at : CutAt xs f p e (take (had + n) (paste l had rest n))
+    pub cut_at : CutAt xs f p (f + much) q
     cut_at =
+        let first : take much rest ≡ take (index_of line_feed rest) rest = ap (λ (k : ℕ). take k rest) found in
         record {
-          start = omega (arith, first_found);
-          end = omega (arith, first_found, first-le line_feed rest, length-drop f xs, le);
-          unended = ap (ended_by line_feed p) first-slice ∙ first_ended line_feed rest p;
+          start = omega arith;
+          end = much-le;
+          unended = ap (ended_by line_feed p) (first-slice ∙ first) ∙ first_ended line_feed rest p;
           line = held-line
-              ∙ ap kept (sym (ap (rest_by line_feed p) first-slice ∙ first_rest line_feed rest p));
+              ∙ ap (λ (ys : List ℕ). kept (p ++ ys)) first
+              ∙ ap kept (sym (ap (rest_by line_feed p) (first-slice ∙ first) ∙ first_rest line_feed rest p));
         }
-
-    pub cut-room : had + n ≤ line_room
-    cut-room = omega (arith, copied, room)

@@ -1,18 +1,11 @@
 // A byte, sought among others.
-ghost use Rattle.std.specs.Prelude.{◌≡◌, ◌+◌, ◌≤◌, length};
-ghost use Rattle.std.proofs.Math.Seq.{slice};
+ghost use Rattle.std.specs.Prelude.{◌≡◌, ◌≤◌, length};
 ghost use Rattle.record_lines.specs.Bytes.{index_of};
 
-// The place of the first such byte from `from` on, or `to` if none stands before it.
-pub fn find(bytes: &[u8], from: usize, to: usize, byte: u8) -> usize
-    requires { (from ≤ to) × (to ≤ length bytes.now) }
-    ensures place { result ≡ from + index_of byte (slice from to bytes.now) }
-    ensures within { result ≤ to }
+// The place of the first such byte, or how many bytes there are if none of them is one.
+pub fn find(bytes: &[u8], byte: u8) -> usize
+    ensures place { result ≡ index_of byte bytes.now }
+    ensures within { result ≤ length bytes.now }
 {
-    for i in from..to {
-        if bytes[i] == byte {
-            return i;
-        }
-    }
-    to
+    bytes.iter().position(|&b| b == byte).unwrap_or(bytes.len())
 }

@@ -1,34 +1,16 @@
--- `record_lines::scan::find` meets its contract: at each place the byte stands, or is sought behind it.
--- Assumes nothing.
-use Rattle.std.proofs.Common.{◌+◌, ℕ}
-use mathlib.Core.Path.{◌≡◌, ap, sym, ◌∙◌}
-use native.Mathlib.Omega.{arith}
-use native.Mathlib.Numerals.{add-one}
-use lib.Seq.{slice}
-use Rattle.record_lines.specs.Bytes.{index_of}
-use Rattle.record_lines.proofs.FoundLaws.{found_hit, found_miss, found_none}
+-- `record_lines::scan::find` meets its contract. Assumes nothing.
+use mathlib.Core.Path.{◌∙◌}
+use borrow.Author.Rules.{rules}
+use borrow.Author.Tests.{tests}
+use lib.Dec.{eqb}
+use Rattle.std.proofs.lemmas.Iterator.{YieldsList-from_slice}
+use Rattle.std.proofs.lemmas.Iterator.Search.{position_from_yields_List}
+use Rattle.record_lines.proofs.FoundLaws.{found_at}
 use Rattle.record_lines.proofs.scan.find.Goals as goal
-
-pub returns-then-bytes-i-clause-place : goal.returns-then-bytes-i-clause-place
-returns-then-bytes-i-clause-place c =
-    let args = c.args in
-    let none = found_hit args.byte args.bytes.now c.loop-i.i args.to c.loop-i-test.true c.requires.1
-    c.if-bytes-i.true in
-    omega (arith, none, c.loop-i.invariant)
-
-pub loop-i-preserved : goal.loop-i-preserved
-loop-i-preserved c =
-    let args = c.args in
-    let i = c.loop-i.i in
-    let behind = found_miss args.byte args.bytes.now i args.to c.loop-i-test.true c.requires.1
-    c.if-bytes-i.false in
-    rw (add-one i) (omega (arith, behind, c.loop-i.invariant))
 
 pub returns-clause-place : goal.returns-clause-place
 returns-clause-place c =
-    let args = c.args in
-    let end : c.loop-i.i ≡ args.to = omega (arith, c.loop-i.auto.i-end) in
-    let none : index_of args.byte (slice c.loop-i.i args.to args.bytes.now) ≡ 0 =
-    ap (λ (k : ℕ). index_of args.byte (slice k args.to args.bytes.now)) end
-    ∙ found_none args.byte args.to args.bytes.now in
-    omega (arith, end, none, c.loop-i.invariant)
+    c.unwrap_or.ensures
+    ∙ found_at c.args.byte c.args.bytes.now c.position.result
+    (position_from_yields_List (λ x. eqb x c.args.byte) _ _ c.position.result c.position.ensures.ran
+    (YieldsList-from_slice c.args.bytes.now cc) (λ x b q k. search (rules, tests)))
