@@ -125,22 +125,16 @@ module _ (xs : List ℕ) (f much : ℕ) (le : f ≤ length xs) (found : much ≡
       ∙ ap (λ (n : ℕ). get_or rest n 0) found
       ∙ first-there line_feed rest (omega (arith, h, found, length-drop f xs))
 
-  module _ (l : List ℕ) (had n : ℕ) (whole : length l ≡ line_room) (room : had ≤ line_room)
-      (copied : n ≡ min much (line_room - had)) (q : List ℕ) (held : q ≡ take had l ++ take n rest) where
-    abbrev p : List ℕ
-    p = take had l
-
-    length-p : length p ≡ had
-    length-p = length-take-le had l (omega (arith, whole, room))
-
+  module _ (p : List ℕ) (n : ℕ) (few : length p ≤ line_room) (copied : n ≡ min much (line_room - length p))
+      (q : List ℕ) (held : q ≡ p ++ take n rest) where
     held-line : q ≡ kept (p ++ take much rest)
     unfolding kept
     held-line =
-        let all : line_room ≡ length p + (line_room - had) = omega (arith, length-p, room) in
+        let all : line_room ≡ length p + (line_room - length p) = omega (arith, few) in
         held
         ∙ ap (λ (k : ℕ). p ++ take k rest) copied
-        ∙ ap (λ (ys : List ℕ). p ++ ys) (sym (take_min (line_room - had) much rest))
-        ∙ sym (take-append-add p (take much rest) (line_room - had))
+        ∙ ap (λ (ys : List ℕ). p ++ ys) (sym (take_min (line_room - length p) much rest))
+        ∙ sym (take-append-add p (take much rest) (line_room - length p))
         ∙ ap (λ (k : ℕ). take k (p ++ take much rest)) (sym all)
 
     pub cut_at : CutAt xs f p (f + much) q
