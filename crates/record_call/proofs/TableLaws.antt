@@ -1,23 +1,26 @@
 -- The table of calls: bytes that are the same, the rows with so many numbers, and what the code finds of a
 -- line. Assumes nothing.
-use Prim.Native.Nat.{ℕ, zero, suc, ◌≤◌, ◌<◌, ◌^◌}
-use mathlib.Core.Path.{◌≡◌, refl, sym, ap, ap₂, subst, ◌∙◌}
+use Prim.Native.Nat.{ℕ, ◌≤◌, ◌<◌, ◌^◌}
+use mathlib.Core.Path.{◌≡◌, refl, sym, ap, ap₂, ◌∙◌}
 use mathlib.Core.Bool.{Bool, true, false, cond, ◌&&◌, false≢true, and-true}
-use mathlib.Core.List.{List, [], ◌∷◌, ◌++◌}
+use mathlib.Core.List.{List, [], ◌∷◌}
 use native.Mathlib.Omega.{arith}
 use native.Mathlib.Decide.{dec_lt}
-use borrow.Author.Tests.{eqb-true, eq-eqb, ne_eqb, leb-true, le-leb, lt-leb, lt-ltb, le-ltb}
+use borrow.Author.Tests.{eqb-true, eq-eqb, ne_eqb, leb-true, le-leb, lt-leb}
 use lib.Dec.{eqb, leb, ltb}
-use lib.ListN.{length, take, get_or, length-take}
-use lib.Seq.{take-suc}
-use Rattle.words.proofs.TestsLaws.{and_first, and_second, and_both, same_truth, tested}
+use lib.ListN.{length}
+use Rattle.words.proofs.TestsLaws.{and_first, and_second, and_both, tested}
 use Rattle.record_lines.specs.Lines.{line_size}
-use Rattle.record_fields.specs.Fields.{name_of, texts_of, are_numbers, numbers_of, count_of, most_numbers}
-use Rattle.record_fields.proofs.CountLaws.{length-numbers, count-few, count-bad, count-many}
+use Rattle.record_fields.specs.Fields.{name_of, texts_of, are_numbers, numbers_of, numbers_in}
+use Rattle.record_fields.specs.Fields.{most_numbers}
+use Rattle.record_fields.proofs.CountLaws.{length-numbers, in-few, in-bad, in-many}
 use Rattle.board_call.specs.declared.Call.TheVariants as calls
-use Rattle.record_call.specs.declared.Line.{Line}
-use Rattle.record_call.specs.declared.Line.TheVariants as lines
+use Rattle.board_call.specs.declared.Call.{Call}
+use Rattle.std.specs.Prelude.{Option, Some, None}
+use Rattle.std.specs.Str.{bytes_eq}
+use Rattle.std.proofs.lemmas.Option.{none-some, same_Some}
 use Rattle.record_call.specs.Table.{NameRow, table, same_bytes, word_at_end, call_in, line_of}
+use Rattle.record_call.specs.Table.{first, second, third, fourth, fifth}
 use Rattle.record_call.specs.Table.{reset_row, signals_row, wire_row, domain_read_row, top_row, claim_row}
 use Rattle.record_call.specs.Table.{page_read_row, domain_write_row, page_write_row, register_row, move_row}
 
@@ -42,30 +45,28 @@ few_in [] = true
 few_in (r ∷ rs) = leb r.count most_numbers && few_in rs
 
 many-in : (rs : List NameRow) (name ns : List ℕ) → few_in rs ≡ true → most_numbers < length ns →
-    call_in rs name ns ≡ lines.Unreadable
+    call_in rs name ns ≡ None
 unfolding call_in
 many-in [] name ns few many = refl
 many-in (r ∷ rs) name ns few many =
     let le = leb-true r.count most_numbers (and_first (leb r.count most_numbers) (few_in rs) few) in
     let other = ne_eqb (length ns) r.count (λ e. absurd (omega (arith, le, many, e))) in
     let named : Bool = same_bytes name r.name && word_at_end r.word ns in
-    ap (λ (t : Bool). cond (t && named) (lines.Call (r.make ns)) (call_in rs name ns)) other
+    ap (λ (t : Bool). cond (t && named) (Some (r.make ns)) (call_in rs name ns)) other
     ∙ many-in rs name ns (and_second (leb r.count most_numbers) (few_in rs) few) many
 
-pub many-unreadable : (name ns : List ℕ) → most_numbers < length ns → call_in table name ns ≡ lines.Unreadable
+pub many-unreadable : (name ns : List ℕ) → most_numbers < length ns → call_in table name ns ≡ None
 unfolding table
 many-unreadable name ns many = many-in table name ns refl many
 
--- ---- what the code finds out
+-- ---- the tests of the code
 
-pub same-found : (b : Bool) (xs ys : List ℕ) → (b ≡ true → xs ≡ ys) × (xs ≡ ys → b ≡ true) →
-    b ≡ same_bytes xs ys
-same-found b xs ys (to, from) =
-    same_truth b (same_bytes xs ys)
-    (λ e. subst (λ zs. same_bytes xs zs ≡ true) (to e) (same-bytes-2 xs))
-    (λ e. from (same-bytes-1 xs ys e))
-
--- ---- the rows that have so many numbers
+pub same-is : (xs ys : List ℕ) → bytes_eq xs ys ≡ same_bytes xs ys
+unfolding same_bytes
+same-is [] [] = refl
+same-is [] (y ∷ ys) = refl
+same-is (x ∷ xs) [] = refl
+same-is (x ∷ xs) (y ∷ ys) = ap (λ (t : Bool). eqb x y && t) (same-is xs ys)
 
 pub and-not : (t u : Bool) → u ≡ false → (t && u) ≡ false
 and-not true u e = e
@@ -74,146 +75,114 @@ and-not false u e = refl
 pub not-and : (t u : Bool) → t ≡ false → (t && u) ≡ false
 not-and t u e = rw e
 
-pub word_fits : (v : ℕ) → v ≤ 4294967295 → ltb v (2 ^ 32) ≡ true
-word_fits v h = lt-ltb v (2 ^ 32) (omega (arith, h))
-
-pub word_over : (v : ℕ) → 4294967295 < v → ltb v (2 ^ 32) ≡ false
-word_over v h = le-ltb v (2 ^ 32) (omega (arith, h))
-
-pub chosen : (t : Bool) (x y : Line) → t ≡ true → cond t x y ≡ x
-chosen t x y e = rw e
-
-pub passed : (t : Bool) (x y : Line) → t ≡ false → cond t x y ≡ y
-passed t x y e = rw e
+-- ---- the rows that have so many numbers
 
 module _ (name : List ℕ) where
   abbrev named : NameRow → Bool
   named r = same_bytes name r.name
 
-  pub none_in : call_in table name [] ≡ cond (named reset_row) (lines.Call calls.Reset) lines.Unreadable
-  unfolding call_in table
-  none_in = rw (and-true (named reset_row))
+  abbrev Says : List ℕ → Option Call → Type 0
+  Says ns r = call_in table name ns ≡ r
 
-  pub one_in : (a : ℕ) →
-      call_in table name (a ∷ []) ≡ cond (named signals_row) (lines.Call (calls.Signals a)) lines.Unreadable
+  pub none_in : (ns : List ℕ) → length ns < 1 → Says ns (cond (named reset_row) (Some calls.Reset) None)
   unfolding call_in table
-  one_in a = rw (and-true (named signals_row))
+  none_in [] l = rw (and-true (named reset_row))
+  none_in (a ∷ ns) l = absurd (omega arith)
 
-  pub two_in : (a b : ℕ) →
-      call_in table name (a ∷ b ∷ [])
-      ≡ cond (named wire_row) (lines.Call (calls.Wire a b))
-      (cond (named domain_read_row) (lines.Call (calls.DomainRead a b))
-      (cond (named top_row) (lines.Call (calls.Top a b))
-      (cond (named claim_row) (lines.Call (calls.Claim a b)) lines.Unreadable)))
+  pub one_in : (ns : List ℕ) → 1 ≤ length ns → length ns < 2 →
+      Says ns (cond (named signals_row) (Some (calls.Signals (first ns))) None)
   unfolding call_in table
-  two_in a b =
+  one_in [] h l = absurd (omega arith)
+  one_in (a ∷ []) h l = rw (and-true (named signals_row))
+  one_in (a ∷ b ∷ ns) h l = absurd (omega arith)
+
+  pub two_in : (ns : List ℕ) → 2 ≤ length ns → length ns < 3 →
+      Says ns (cond (named wire_row) (Some (calls.Wire (first ns) (second ns)))
+      (cond (named domain_read_row) (Some (calls.DomainRead (first ns) (second ns)))
+      (cond (named top_row) (Some (calls.Top (first ns) (second ns)))
+      (cond (named claim_row) (Some (calls.Claim (first ns) (second ns))) None))))
+  unfolding call_in table
+  two_in [] h l = absurd (omega arith)
+  two_in (a ∷ []) h l = absurd (omega arith)
+  two_in (a ∷ b ∷ []) h l =
       rw (
         and-true (named wire_row),
         and-true (named domain_read_row),
         and-true (named top_row),
         and-true (named claim_row),
       )
+  two_in (a ∷ b ∷ c ∷ ns) h l = absurd (omega arith)
 
-  pub three-in : (a b c : ℕ) →
-      call_in table name (a ∷ b ∷ c ∷ [])
-      ≡ cond (named page_read_row) (lines.Call (calls.PageRead a b c))
-      (cond (named domain_write_row && ltb c (2 ^ 32))
-      (lines.Call (calls.DomainWrite a b c)) lines.Unreadable)
+  pub three-in : (ns : List ℕ) → 3 ≤ length ns → length ns < 4 →
+      Says ns (cond (named page_read_row) (Some (calls.PageRead (first ns) (second ns) (third ns)))
+      (cond (named domain_write_row && ltb (third ns) (2 ^ 32))
+      (Some (calls.DomainWrite (first ns) (second ns) (third ns))) None))
   unfolding call_in table
-  three-in a b c = rw (and-true (named page_read_row))
+  three-in [] h l = absurd (omega arith)
+  three-in (a ∷ []) h l = absurd (omega arith)
+  three-in (a ∷ b ∷ []) h l = absurd (omega arith)
+  three-in (a ∷ b ∷ c ∷ []) h l = rw (and-true (named page_read_row))
+  three-in (a ∷ b ∷ c ∷ d ∷ ns) h l = absurd (omega arith)
 
-  pub three-over : (a b c : ℕ) → named page_read_row ≡ false → ltb c (2 ^ 32) ≡ false →
-      call_in table name (a ∷ b ∷ c ∷ []) ≡ lines.Unreadable
-  three-over a b c e over =
-      three-in a b c ∙ passed _ _ _ e
-      ∙ passed _ _ _ (and-not (named domain_write_row) (ltb c (2 ^ 32)) over)
-
-  pub four-in : (a b c d : ℕ) →
-      call_in table name (a ∷ b ∷ c ∷ d ∷ [])
-      ≡ cond (named page_write_row && ltb d (2 ^ 32)) (lines.Call (calls.PageWrite a b c d)) lines.Unreadable
+  pub four-in : (ns : List ℕ) → 4 ≤ length ns → length ns < 5 →
+      Says ns (cond (named page_write_row && ltb (fourth ns) (2 ^ 32))
+      (Some (calls.PageWrite (first ns) (second ns) (third ns) (fourth ns))) None)
   unfolding call_in table
-  four-in a b c d = refl
+  four-in [] h l = absurd (omega arith)
+  four-in (a ∷ []) h l = absurd (omega arith)
+  four-in (a ∷ b ∷ []) h l = absurd (omega arith)
+  four-in (a ∷ b ∷ c ∷ []) h l = absurd (omega arith)
+  four-in (a ∷ b ∷ c ∷ d ∷ []) h l = refl
+  four-in (a ∷ b ∷ c ∷ d ∷ e ∷ ns) h l = absurd (omega arith)
 
-  pub four-over : (a b c d : ℕ) → ltb d (2 ^ 32) ≡ false →
-      call_in table name (a ∷ b ∷ c ∷ d ∷ []) ≡ lines.Unreadable
-  four-over a b c d over =
-      four-in a b c d ∙ passed _ _ _ (and-not (named page_write_row) (ltb d (2 ^ 32)) over)
-
-  pub five-in : (a b c d e : ℕ) →
-      call_in table name (a ∷ b ∷ c ∷ d ∷ e ∷ [])
-      ≡ cond (named register_row) (lines.Call (calls.Register a b c d e))
-      (cond (named move_row) (lines.Call (calls.Move a b c d e)) lines.Unreadable)
+  pub five-in : (ns : List ℕ) → 5 ≤ length ns → length ns < 6 →
+      Says ns (cond (named register_row)
+      (Some (calls.Register (first ns) (second ns) (third ns) (fourth ns) (fifth ns)))
+      (cond (named move_row)
+      (Some (calls.Move (first ns) (second ns) (third ns) (fourth ns) (fifth ns))) None))
   unfolding call_in table
-  five-in a b c d e = rw (and-true (named register_row), and-true (named move_row))
-
--- ---- by how many numbers there are
-
--- the first k of some numbers, one by one
-abbrev pub firsts : ℕ → List ℕ → List ℕ
-firsts zero ns = []
-firsts (suc k) ns = firsts k ns ++ (get_or ns k 0 ∷ [])
-
-take-firsts : (k : ℕ) (ns : List ℕ) → k ≤ length ns → take k ns ≡ firsts k ns
-take-firsts zero ns h = refl
-take-firsts (suc k) ns h =
-    take-suc ns k 0 h ∙ ap (λ (ms : List ℕ). ms ++ (get_or ns k 0 ∷ [])) (take-firsts k ns (omega (arith, h)))
-
-module _ (name ns : List ℕ) (count : ℕ) where
-  abbrev answer : Line
-  answer = cond (leb count most_numbers) (call_in table name (take count ns)) lines.Unreadable
-
-  pub with-count : (k : ℕ) (r : Line) → (count ≤ most_numbers → length (take count ns) ≡ count) → count ≡ k →
-      leb k most_numbers ≡ true → r ≡ call_in table name (firsts k ns) → r ≡ answer
-  with-count k r all e few said =
-      let le : count ≤ most_numbers = omega (arith, e, leb-true k most_numbers few) in
-      let room : k ≤ length ns = omega (arith, all le, length-take count ns, e) in
-      said
-      ∙ sym (chosen _ _ _ (le-leb count most_numbers le)
-      ∙ ap (λ (n : ℕ). call_in table name (take n ns)) e
-      ∙ ap (call_in table name) (take-firsts k ns room))
-
-  pub with-more : most_numbers < count → lines.Unreadable ≡ answer
-  with-more h = sym (passed _ _ _ (lt-leb count most_numbers h))
+  five-in [] h l = absurd (omega arith)
+  five-in (a ∷ []) h l = absurd (omega arith)
+  five-in (a ∷ b ∷ []) h l = absurd (omega arith)
+  five-in (a ∷ b ∷ c ∷ []) h l = absurd (omega arith)
+  five-in (a ∷ b ∷ c ∷ d ∷ []) h l = absurd (omega arith)
+  five-in (a ∷ b ∷ c ∷ d ∷ e ∷ []) h l = rw (and-true (named register_row), and-true (named move_row))
+  five-in (a ∷ b ∷ c ∷ d ∷ e ∷ f ∷ ns) h l = absurd (omega arith)
 
 -- ---- a line
 
-pub long-line : (l : List ℕ) → line_size < length l → lines.Unreadable ≡ line_of l
+pub long-line : (l : List ℕ) → line_size < length l → None ≡ line_of l
 unfolding line_of
-long-line l h =
-    let over = lt-leb (length l) line_size h in
-    sym (passed _ _ _ (not-and (leb (length l) line_size) (are_numbers (texts_of l)) over))
+long-line l h = rw (not-and _ (are_numbers (texts_of l)) (lt-leb (length l) line_size h))
 
-module _ (l name ns : List ℕ) (count : ℕ) (short : length l ≤ line_size) (named : name ≡ name_of l)
-    (counted : count ≡ count_of (texts_of l))
-    (shown : count ≤ most_numbers → take count ns ≡ numbers_of (texts_of l)) where
+module _ (l : List ℕ) where
   abbrev texts : List (List ℕ)
   texts = texts_of l
 
-  line-numbers : are_numbers texts ≡ true → line_of l ≡ call_in table name (numbers_of texts)
+  line-bad : are_numbers texts ≡ false → line_of l ≡ None
   unfolding line_of
-  line-numbers e =
-      let fits = le-leb (length l) line_size short in
-      chosen _ _ _ (and_both (leb (length l) line_size) (are_numbers texts) fits e)
-      ∙ ap (λ (n : List ℕ). call_in table n (numbers_of texts)) (sym named)
+  line-bad e = rw (and-not (leb (length l) line_size) (are_numbers texts) e)
 
-  line-bad : are_numbers texts ≡ false → line_of l ≡ lines.Unreadable
+  -- a field that is no number, or too many of them
+  pub line-none : length l ≤ line_size → None ≡ numbers_in texts → None ≡ line_of l
   unfolding line_of
-  line-bad e = passed _ _ _ (and-not (leb (length l) line_size) (are_numbers texts) e)
-
-  pub line_read : answer name ns count ≡ line_of l
-  line_read = tested (are_numbers texts) (λ e. good e (dec_lt most_numbers (length texts))) bad
+  line-none short e = tested (are_numbers texts) (λ t. good t (dec_lt most_numbers (length texts))) (λ f. sym (line-bad f))
     where
-      over : count ≡ suc most_numbers → answer name ns count ≡ lines.Unreadable
-      over e = sym (with-more name ns count (omega (arith, e)))
+      good : are_numbers texts ≡ true → Dec (most_numbers < length texts) → None ≡ line_of l
+      good t (yes lt) =
+          let many = many-unreadable (name_of l) (numbers_of texts) (omega (arith, lt, length-numbers texts)) in
+          rw (le-leb (length l) line_size short, t, many)
+      good t (no ge) = absurd (none-some _ (e ∙ in-few texts t (omega (arith, ge))))
 
-      good : are_numbers texts ≡ true → Dec (most_numbers < length texts) → answer name ns count ≡ line_of l
-      good e (yes lt) =
-          let many = many-unreadable name (numbers_of texts) (omega (arith, lt, length-numbers texts)) in
-          over (counted ∙ count-many texts e lt) ∙ sym (line-numbers e ∙ many)
-      good e (no ge) =
-          let le : count ≤ most_numbers = omega (arith, ge, counted, count-few texts e (omega (arith, ge))) in
-          chosen _ _ _ (le-leb count most_numbers le) ∙ ap (call_in table name) (shown le)
-          ∙ sym (line-numbers e)
-
-      bad : are_numbers texts ≡ false → answer name ns count ≡ line_of l
-      bad e = over (counted ∙ count-bad texts e) ∙ sym (line-bad e)
+  pub line-some : (ns : List ℕ) → length l ≤ line_size → Some ns ≡ numbers_in texts →
+      call_in table (name_of l) ns ≡ line_of l
+  unfolding line_of
+  line-some ns short e =
+      tested (are_numbers texts) (λ t. good t (dec_lt most_numbers (length texts)))
+      (λ f. absurd (none-some ns (sym (e ∙ in-bad texts f))))
+    where
+      good : are_numbers texts ≡ true → Dec (most_numbers < length texts) → call_in table (name_of l) ns ≡ line_of l
+      good t (yes lt) = absurd (none-some ns (sym (e ∙ in-many texts lt)))
+      good t (no ge) =
+          let same = same_Some ns (numbers_of texts) (e ∙ in-few texts t (omega (arith, ge))) in
+          rw (le-leb (length l) line_size short, t, same)

@@ -12,13 +12,11 @@
 --   call_in rs name ns  the call of the first row that fits, if there is one
 --   line_of l           what the line l says
 use Rattle.std.specs.Prelude.{ℕ, ◌^◌, Bool, true, false, cond, ◌&&◌, List, [], ◌∷◌, eqb, leb, ltb, length}
-use Rattle.std.specs.Prelude.{get_or}
+use Rattle.std.specs.Prelude.{get_or, Option, Some, None}
 use Rattle.record_lines.specs.Lines.{line_size}
 use Rattle.record_fields.specs.Fields.{name_of, texts_of, are_numbers, numbers_of}
 use Rattle.board_call.specs.declared.Call.{Call}
 use Rattle.board_call.specs.declared.Call.TheVariants as calls
-use Rattle.record_call.specs.declared.Line.{Line}
-use Rattle.record_call.specs.declared.Line.TheVariants as lines
 
 pub record NameRow : Type 0 where
   pub name : List ℕ
@@ -176,13 +174,13 @@ word_at_end false ns = true
 abbrev pub fits : NameRow → List ℕ → List ℕ → Bool
 fits r name ns = eqb (length ns) r.count && (same_bytes name r.name && word_at_end r.word ns)
 
-unfoldable pub call_in : List NameRow → List ℕ → List ℕ → Line
-call_in [] name ns = lines.Unreadable
-call_in (r ∷ rs) name ns = cond (fits r name ns) (lines.Call (r.make ns)) (call_in rs name ns)
+unfoldable pub call_in : List NameRow → List ℕ → List ℕ → Option Call
+call_in [] name ns = None
+call_in (r ∷ rs) name ns = cond (fits r name ns) (Some (r.make ns)) (call_in rs name ns)
 
 -- [02 M100.6]
-unfoldable pub line_of : List ℕ → Line
+unfoldable pub line_of : List ℕ → Option Call
 line_of l =
     cond (leb (length l) line_size && are_numbers (texts_of l))
     (call_in table (name_of l) (numbers_of (texts_of l)))
-    lines.Unreadable
+    None

@@ -10,20 +10,14 @@ use board_call::Call;
 use record_fields::{name_end, numbers};
 use record_lines::LINE_SIZE;
 
-#[derive(Clone, Copy)]
-pub enum Line {
-    Call(Call),
-    Unreadable,
-}
-
 // A line that is too long cannot be read, whatever it says.
-pub fn read(line: &[u8]) -> Line
+pub fn read(line: &[u8]) -> Option<Call>
     ensures { result ≡ line_of line.now }
 {
     if line.len() > LINE_SIZE {
-        return Line::Unreadable;
+        return None;
     }
     let end = name_end(line);
-    let fields = numbers(line, end);
-    names::of_fields(&line[..end], fields)
+    let fields = numbers(line, end)?;
+    names::call_of(&line[..end], fields.as_slice())
 }

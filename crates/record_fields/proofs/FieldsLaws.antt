@@ -5,12 +5,12 @@ use mathlib.Core.Path.{◌≡◌, sym, ap, ◌∙◌}
 use mathlib.Core.Bool.{Bool, cond}
 use mathlib.Core.List.{List, [], ◌∷◌}
 use native.Mathlib.Omega.{arith}
-use native.Mathlib.Nat.{add-suc, zero-add}
+use native.Mathlib.Nat.{add-suc}
 use native.Mathlib.Numerals.{add-one}
 use borrow.Author.Tests.{lt-ltb, ltb-true}
 use lib.Dec.{ltb}
 use lib.ListN.{length, take, drop, length-drop}
-use lib.Seq.{slice, take-length, drop-drop}
+use lib.Seq.{drop-drop, take_all}
 use Rattle.words.proofs.TestsLaws.{same_truth}
 use Rattle.record_lines.specs.Bytes.{index_of}
 use Rattle.record_lines.proofs.FirstLaws.{parts_first}
@@ -58,24 +58,21 @@ texts-next l k h =
     ∙ parts_first tab xs []
     ∙ ap (λ (ts : List (List ℕ)). take n xs ∷ ts) (after-drop l (suc k) n)
 
--- ---- as the code finds them
+-- ---- as the code finds them: the field behind place k begins where the rest of l does
 
--- the rest of l as a stretch
-rest-slice : (l : List ℕ) (j : ℕ) → slice j (length l) l ≡ drop j l
-rest-slice l j = ap (drop j) (take-length l)
+module _ (l : List ℕ) (k n : ℕ) (found : n ≡ index_of tab (take (length l - (k + 1)) (drop (k + 1) l))) where
+  behind : take (length l - (k + 1)) (drop (k + 1) l) ≡ drop (suc k) l
+  behind =
+      take_all (length l - (k + 1)) (drop (k + 1) l) (omega (arith, length-drop (k + 1) l))
+      ∙ ap (λ (j : ℕ). drop j l) (add-one k)
 
-pub name-found : (l : List ℕ) (n : ℕ) → n ≡ 0 + index_of tab (slice 0 (length l) l) → n ≡ index_of tab l
-name-found l n e = e ∙ zero-add _ ∙ ap (index_of tab) (rest-slice l 0)
+  much : n ≡ index_of tab (drop (suc k) l)
+  much = found ∙ ap (index_of tab) behind
 
-module _ (l : List ℕ) (k n : ℕ) (e : n ≡ k + 1 + index_of tab (slice (k + 1) (length l) l)) where
-  pub next-found : n ≡ suc k + index_of tab (drop (suc k) l)
-  next-found =
-      e ∙ ap (λ (xs : List ℕ). k + 1 + index_of tab xs) (rest-slice l (k + 1))
-      ∙ ap (λ (j : ℕ). j + index_of tab (drop j l)) (add-one k)
+  pub next-found : k + (1 + n) ≡ suc k + index_of tab (drop (suc k) l)
+  next-found = omega (arith, much)
 
-  pub text-found : take (n - (k + 1)) (drop (k + 1) l) ≡
+  pub text-found : take n (take (length l - (k + 1)) (drop (k + 1) l)) ≡
       (let xs = drop (suc k) l in take (index_of tab xs) xs)
   text-found =
-      let much : n - (k + 1) ≡ index_of tab (drop (suc k) l) = omega (arith, next-found) in
-      ap (λ (m : ℕ). take m (drop (k + 1) l)) much
-      ∙ ap (λ (j : ℕ). take (index_of tab (drop (suc k) l)) (drop j l)) (add-one k)
+      ap (take n) behind ∙ ap (λ (m : ℕ). take m (drop (suc k) l)) much

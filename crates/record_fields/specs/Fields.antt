@@ -7,9 +7,10 @@
 --   are_numbers ts      each of the fields ts is a number
 --   numbers_of ts       these numbers
 --   most_numbers        more numbers than these no call has
---   count_of ts         how many numbers the fields ts are; one more than most_numbers if they are more, or
---                       if one of them is no number
-use Rattle.std.specs.Prelude.{ℕ, suc, Bool, true, cond, ◌&&◌, List, [], ◌∷◌, ◌++◌, map, leb, length}
+--   numbers_in ts       the numbers that the fields ts are: none if they are more than most_numbers, or if one
+--                       of them is no number
+use Rattle.std.specs.Prelude.{ℕ, Bool, true, cond, ◌&&◌, List, [], ◌∷◌, ◌++◌, map, leb, length, Option, Some}
+use Rattle.std.specs.Prelude.{None}
 use Rattle.record_numbers.specs.Decimal.{is_number, value_of}
 use Rattle.record_lines.specs.Parted.{ended_by, rest_by}
 
@@ -44,5 +45,5 @@ numbers_of ts = map value_of ts
 abbrev pub most_numbers : ℕ
 most_numbers = 5
 
-unfoldable pub count_of : List (List ℕ) → ℕ
-count_of ts = cond (are_numbers ts && leb (length ts) most_numbers) (length ts) (suc most_numbers)
+unfoldable pub numbers_in : List (List ℕ) → Option (List ℕ)
+numbers_in ts = cond (are_numbers ts && leb (length ts) most_numbers) (Some (numbers_of ts)) None

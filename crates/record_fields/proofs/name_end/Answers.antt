@@ -1,16 +1,10 @@
 -- `record_fields::name_end` meets its contract. Assumes nothing.
-use mathlib.Core.Path.{◌≡◌, sym, subst}
+use mathlib.Core.Path.{ap, ◌∙◌}
+use Prim.Native.Nat.{ℕ}
 use lib.ListN.{take}
-use Rattle.record_fields.specs.Fields.{name_of}
-use Rattle.record_fields.proofs.FieldsLaws.{name-found, name-first}
+use Rattle.record_fields.proofs.FieldsLaws.{name-first}
 use Rattle.record_fields.proofs.name_end.Goals as goal
 
-pub returns : goal.returns
-returns c =
-    let l = c.args.line.now in
-    let found = name-found l c.find.result c.find.ensures.place in
-    record {
-      value = found;
-      line_value = subst (λ n. take n l ≡ name_of l) (sym found) (name-first l);
-      upper_bound = c.find.ensures.within;
-    }
+pub returns-clause-line_value : goal.returns-clause-line_value
+returns-clause-line_value c =
+    ap (λ (n : ℕ). take n c.args.line.now) c.find.ensures.place ∙ name-first c.args.line.now

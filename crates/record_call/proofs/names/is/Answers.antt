@@ -1,6 +1,7 @@
 -- `record_call::names::is` meets its contract. Assumes nothing.
-use Rattle.record_call.proofs.TableLaws.{same-found}
+use mathlib.Core.Path.{◌∙◌}
+use Rattle.record_call.proofs.TableLaws.{same-is}
 use Rattle.record_call.proofs.names.is.Goals as goal
 
 pub returns : goal.returns
-returns c = same-found _ _ _ c.same.ensures
+returns c = c.eq.ensures ∙ same-is c.args.name.now c.args.word.now
