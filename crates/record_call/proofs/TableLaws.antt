@@ -166,11 +166,13 @@ module _ (l : List ℕ) where
   -- a field that is no number, or too many of them
   pub line-none : length l ≤ line_size → None ≡ numbers_in texts → None ≡ line_of l
   unfolding line_of
-  line-none short e = tested (are_numbers texts) (λ t. good t (dec_lt most_numbers (length texts))) (λ f. sym (line-bad f))
+  line-none short e =
+      tested (are_numbers texts) (λ t. good t (dec_lt most_numbers (length texts))) (λ f. sym (line-bad f))
     where
       good : are_numbers texts ≡ true → Dec (most_numbers < length texts) → None ≡ line_of l
       good t (yes lt) =
-          let many = many-unreadable (name_of l) (numbers_of texts) (omega (arith, lt, length-numbers texts)) in
+          let many =
+          many-unreadable (name_of l) (numbers_of texts) (omega (arith, lt, length-numbers texts)) in
           rw (le-leb (length l) line_size short, t, many)
       good t (no ge) = absurd (none-some _ (e ∙ in-few texts t (omega (arith, ge))))
 
@@ -181,7 +183,8 @@ module _ (l : List ℕ) where
       tested (are_numbers texts) (λ t. good t (dec_lt most_numbers (length texts)))
       (λ f. absurd (none-some ns (sym (e ∙ in-bad texts f))))
     where
-      good : are_numbers texts ≡ true → Dec (most_numbers < length texts) → call_in table (name_of l) ns ≡ line_of l
+      good : are_numbers texts ≡ true → Dec (most_numbers < length texts) →
+          call_in table (name_of l) ns ≡ line_of l
       good t (yes lt) = absurd (none-some ns (sym (e ∙ in-many texts lt)))
       good t (no ge) =
           let same = same_Some ns (numbers_of texts) (e ∙ in-few texts t (omega (arith, ge))) in

@@ -55,7 +55,8 @@ module _ (l ns : List ℕ) (k : ℕ) (so_far : NumbersTo l ns k) where
 
     pub numbers-end : Some ns ≡ numbers_in (texts_of l)
     numbers-end =
-        let few : length (texts_of l) ≤ most_numbers = omega (arith, so_far.many, ap length none, so_far.few) in
+        let few : length (texts_of l) ≤ most_numbers =
+        omega (arith, so_far.many, ap length none, so_far.few) in
         ap Some (sym numbers_all) ∙ sym (in-few (texts_of l) are_all few)
 
   -- at a tab

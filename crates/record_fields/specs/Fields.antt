@@ -7,8 +7,8 @@
 --   are_numbers ts      each of the fields ts is a number
 --   numbers_of ts       these numbers
 --   most_numbers        more numbers than these no call has
---   numbers_in ts       the numbers that the fields ts are: none if they are more than most_numbers, or if one
---                       of them is no number
+--   numbers_in ts       the numbers that the fields ts are: none if they are more than most_numbers, or if
+--                       one of them is no number
 use Rattle.std.specs.Prelude.{ℕ, Bool, true, cond, ◌&&◌, List, [], ◌∷◌, ◌++◌, map, leb, length, Option, Some}
 use Rattle.std.specs.Prelude.{None}
 use Rattle.record_numbers.specs.Decimal.{is_number, value_of}

@@ -36,7 +36,8 @@ impl Fields {
     // One number more, if there is room for it.
     fn add(&mut self, number: u64) -> Option<()>
         ensures added { OnSome result (self.new ≡ self.old ++ number ∷ []) }
-        ensures full { MatchOption result (most_numbers ≤ length self.old) (λ _. length self.old < most_numbers) }
+        ensures full { MatchOption result (most_numbers ≤ length self.old)
+            (λ _. length self.old < most_numbers) }
     {
         if self.count == MOST_NUMBERS {
             return None;

@@ -117,7 +117,8 @@ module _ (xs : List ℕ) (f much : ℕ) (le : f ≤ length xs) (found : much ≡
 
   -- the bytes up to the end of the line
   first-slice : slice f (f + much) xs ≡ take much rest
-  first-slice = ap (drop f) (take-add f much xs) ∙ drop_at (take f xs) (take much rest) f (length-take-le f xs le)
+  first-slice =
+      ap (drop f) (take-add f much xs) ∙ drop_at (take f xs) (take much rest) f (length-take-le f xs le)
 
   pub cut-stops : f + much < length xs → get_or xs (f + much) 0 ≡ line_feed
   cut-stops h =
@@ -139,7 +140,8 @@ module _ (xs : List ℕ) (f much : ℕ) (le : f ≤ length xs) (found : much ≡
 
     pub cut_at : CutAt xs f p (f + much) q
     cut_at =
-        let first : take much rest ≡ take (index_of line_feed rest) rest = ap (λ (k : ℕ). take k rest) found in
+        let first : take much rest ≡ take (index_of line_feed rest) rest =
+        ap (λ (k : ℕ). take k rest) found in
         record {
           start = omega arith;
           end = much-le;

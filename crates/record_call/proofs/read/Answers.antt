@@ -7,7 +7,8 @@ returns-then-line-gt-LINE_SIZE c = long-line c.args.line.now c.if-line-gt-LINE_S
 
 pub returns-in_err-fields : goal.returns-in_err-fields
 returns-in_err-fields c =
-    rw c.from_residual.ensures (line-none c.args.line.now c.if-line-gt-LINE_SIZE.false c.in_err-fields.ensures)
+    rw c.from_residual.ensures
+    (line-none c.args.line.now c.if-line-gt-LINE_SIZE.false c.in_err-fields.ensures)
 
 pub returns : goal.returns
 returns c =

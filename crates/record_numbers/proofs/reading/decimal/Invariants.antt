@@ -6,4 +6,5 @@ use Rattle.record_numbers.proofs.ReadingLaws.{number_from}
 use Rattle.record_numbers.proofs.reading.decimal.Given as goal
 
 abbrev pub invariant-loop-byte : goal.invariant-loop-byte
-invariant-loop-byte l = (l.value < 2 ^ 64) × (number_in l.field ≡ number_from l.value (drop l.byte-index l.field))
+invariant-loop-byte l =
+    (l.value < 2 ^ 64) × (number_in l.field ≡ number_from l.value (drop l.byte-index l.field))

@@ -21,12 +21,14 @@ returns c =
     let room = c.self.inside.room in
     let n = c.min-n.result in
     let new = c.copy_from_slice.new.self in
-    let all = take_all (length chunk - from) (drop from chunk) (omega (arith, length-drop from chunk)) in
+    let all =
+    take_all (length chunk - from) (drop from chunk) (omega (arith, length-drop from chunk)) in
     let found = c.find-much.ensures.place ∙ ap (index_of line_feed) all in
     let inside : had ≤ length room = search rules in
     let whole : length p ≡ had = sym (ap length c.self.view_is) ∙ length-take-le had room inside in
     let copied : n ≡ min c.find-much.result (line_room - length p) = rw whole c.min-n.ensures in
-    let held = take-put_mid had _ room new (had + n) (search rules) inside
+    let held =
+    take-put_mid had _ room new (had + n) (search rules) inside
     ∙ ap (λ (ys : List ℕ). take had room ++ ys)
     (c.copy_from_slice.ensures.after ∙ ap (λ (k : ℕ). take k (drop from chunk)) (omega arith))
     ∙ ap (λ (xs : List ℕ). xs ++ take n (drop from chunk)) c.self.view_is in
