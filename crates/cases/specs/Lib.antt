@@ -2,3 +2,5 @@
 pub mod Digest
 pub mod Lendable
 pub mod Piece
+pub mod Own
+pub mod Next

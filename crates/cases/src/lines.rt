@@ -1,19 +1,17 @@
 // What a line does.
-ghost use Rattle.std.specs.Prelude.{◌≤◌, ◌≡◌, length, take, drop};
+ghost use Rattle.std.specs.Prelude.{◌≤◌, ◌≡◌, length, take, drop, IfSome};
 ghost use Rattle.board_call.specs.Outcome.{outcome};
 ghost use Rattle.monitor_answer.specs.Told.{Told};
 ghost use Rattle.cases.specs.Lendable.{Lendable};
+ghost use Rattle.cases.specs.Own.{IsOwn};
 
 use crate::{LOG_ROOM, STATE_ROOM, shown};
 use board_call::Call;
-use check::same;
 use monitor_answer::VskAnswer;
-use record_call::{Line, read};
-use record_fields::{Fields, name_end, numbers};
+use record_call::read;
+use record_fields::{name_end, numbers};
 use record_lines::LINE_SIZE;
 use sizes::{BLOCK_SIZE, SAVED_SIZE};
-
-const LAST_WORD: u64 = 0xFFFFFFFF;
 
 // How many words of the state and of the log are lent.
 #[derive(Clone, Copy)]
@@ -35,7 +33,7 @@ pub(crate) fn end_line(
     requires { Lendable lent.state lent.log }
     ensures { Lendable result.state result.log }
 {
-    let Line::Call(call) = read(line) else {
+    let Some(call) = read(line) else {
         return own_line(rt, state, line, number, lent);
     };
     let answer = lend(state, log, saved, call, lent.state, lent.log);
@@ -63,7 +61,39 @@ fn lend(
     monitor_answer::numbers(board::apply(&mut state[..words], &mut log[..messages], saved, call))
 }
 
-// A line of this program's own, by its name and its numbers.
+// What a line of this program's own says.
+enum Own {
+    Poke(usize, u32),
+    Lengths(Lengths),
+}
+
+// `poke` makes a state that no call leaves, so that the state rules are seen to be tested; `lengths` lends
+// too few words or too many, so that the lengths are.
+fn read_own(line: &[u8]) -> Option<Own>
+    ensures { IfSome result IsOwn }
+{
+    if line.len() > LINE_SIZE {
+        return None;
+    }
+    let end = name_end(line);
+    let name = &line[..end];
+    let fields = numbers(line, end)?;
+    let &[a, b] = fields.as_slice() else {
+        return None;
+    };
+    if name == b"poke".as_slice() && a < BLOCK_SIZE as u64 {
+        return Some(Own::Poke(a as usize, u32::try_from(b).ok()?));
+    }
+    if name == b"lengths".as_slice() && a <= STATE_ROOM as u64 && b <= LOG_ROOM as u64 {
+        return Some(Own::Lengths(Lengths {
+            state: a as usize,
+            log: b as usize,
+        }));
+    }
+    None
+}
+
+// Any other line is answered by its number, and changes nothing.
 fn own_line(
     rt: &HostRuntime,
     state: &mut [u32; STATE_ROOM],
@@ -74,52 +104,15 @@ fn own_line(
     requires { Lendable lent.state lent.log }
     ensures { Lendable result.state result.log }
 {
-    if line.len() > LINE_SIZE {
-        shown::unreadable(rt, number);
-        return lent;
-    }
-    let end = name_end(line);
-    let fields = numbers(line, end);
-    own(rt, state, &line[..end], fields, number, lent)
-}
-
-// `poke` makes a state that no call leaves, so that the state rules are seen to be tested; `lengths` lends
-// too few words or too many, so that the lengths are. Any other line is answered by its number, and changes
-// nothing.
-fn own(
-    rt: &HostRuntime,
-    state: &mut [u32; STATE_ROOM],
-    name: &[u8],
-    fields: Fields,
-    number: u64,
-    lent: Lengths,
-) -> Lengths
-    requires { Lendable lent.state lent.log }
-    ensures { Lendable result.state result.log }
-{
-    let n = fields.numbers;
-    let a = n[0];
-    let b = n[1];
-    if fields.count == 2 {
-        if same(name, b"poke") {
-            if a < BLOCK_SIZE as u64 {
-                if b <= LAST_WORD {
-                    state[a as usize] = b as u32;
-                    return lent;
-                }
-            }
+    match read_own(line) {
+        Some(Own::Poke(at, word)) => {
+            state[at] = word;
+            lent
         }
-        if same(name, b"lengths") {
-            if a <= STATE_ROOM as u64 {
-                if b <= LOG_ROOM as u64 {
-                    return Lengths {
-                        state: a as usize,
-                        log: b as usize,
-                    };
-                }
-            }
+        Some(Own::Lengths(lengths)) => lengths,
+        None => {
+            shown::unreadable(rt, number);
+            lent
         }
     }
-    shown::unreadable(rt, number);
-    lent
 }

@@ -7,12 +7,12 @@ mod digest;
 mod lines;
 mod shown;
 
-ghost use Rattle.std.specs.Prelude.{◌≤◌, ◌<◌, ◌≡◌, length};
+ghost use Rattle.std.specs.Prelude.{◌≤◌};
+ghost use Rattle.cases.specs.Next.{IsNext};
 ghost use Rattle.cases.specs.Piece.{IsPrefixLen};
-ghost use Rattle.record_lines.specs.Lines.{line_room};
 
 use lines::Lengths;
-use record_lines::{LINE_ROOM, cut};
+use record_lines::HeldLine;
 use sizes::{BLOCK_SIZE, LOG_SIZE, SAVED_SIZE};
 use std::io::Read;
 
@@ -31,11 +31,6 @@ struct Place {
     // how many bytes the piece has, and how many of them are taken
     size: usize,
     at: usize,
-    // how many bytes of the line are held, and whether they are all of it
-    held: usize,
-    whole: bool,
-    // how many turns are left
-    left: u64,
 }
 
 // How many bytes are read of standard input. A read that fails ends it.
@@ -48,70 +43,63 @@ fn read_some(rt: &HostRuntime, chunk: &mut [u8]) -> usize
     }
 }
 
-// The rest of the line, or of the piece, and then the next piece. The last line may lack its end.
-fn take(rt: &HostRuntime, chunk: &mut [u8], line: &mut [u8; LINE_ROOM], from: Place) -> Place
-    requires prefix_len { IsPrefixLen from.size chunk.old }
-    requires at_le_size { (from.at ≤ from.size) × (from.held ≤ line_room) × (0 < from.left) }
-    ensures prefix_len_2 { IsPrefixLen result.size chunk.new }
-    ensures at_le_size_2 { (result.at ≤ result.size) × (result.held ≤ line_room) × (result.left < from.left) }
-    ensures line_len { length line.new ≡ line_room }
-{
-    let size = from.size;
-    let taken = cut(&chunk[..size], from.at, line, from.held);
-    let mut place = from;
-    place.held = taken.held;
-    place.left = from.left - 1;
-    if taken.at < size {
-        place.at = taken.at + 1;
-        place.whole = true;
-        return place;
-    }
-    place.size = read_some(rt, chunk);
-    place.at = 0;
-    place.whole = false;
-    if place.size == 0 {
-        place.whole = taken.held > 0;
-        place.left = 0;
-    }
-    place
+// What comes next.
+#[derive(Clone, Copy)]
+enum Next {
+    // the line is whole; the last one may lack its end
+    Line(Place),
+    // the line goes on in the next piece
+    Piece(Place),
+    // no line is left, or only the one that is held
+    End,
 }
 
-// A proved loop has to end, and nothing says that the input does. So the loop counts its turns down, from a
-// number that no run uses up.
+// The rest of the line, or of the piece, and then the next piece.
+fn take(rt: &HostRuntime, chunk: &mut [u8; PIECE], line: &mut HeldLine, from: Place) -> Next
+    requires prefix_len { IsPrefixLen from.size chunk.old }
+    requires at_le_size { from.at ≤ from.size }
+    ensures { IsNext result chunk.new }
+{
+    let end = line.cut(&chunk[..from.size], from.at);
+    if end < from.size {
+        return Next::Line(Place {
+            size: from.size,
+            at: end + 1,
+        });
+    }
+    match read_some(rt, chunk) {
+        0 => Next::End,
+        size => Next::Piece(Place { size: size, at: 0 }),
+    }
+}
+
+// A proved loop has to end, and nothing says that the input does. So the loop counts its turns, up to a number
+// that no run uses up.
 fn main(rt: HostRuntime) {
     let mut state = [0u32; STATE_ROOM];
     let mut log = [0u32; LOG_ROOM];
     let mut saved = [0u64; SAVED_SIZE];
     let mut chunk = [0u8; PIECE];
-    let mut line = [0u8; LINE_ROOM];
+    let mut line = HeldLine::new();
     let mut lent = Lengths {
         state: BLOCK_SIZE,
         log: LOG_SIZE,
     };
-    let mut place = Place {
-        size: 0,
-        at: 0,
-        held: 0,
-        whole: false,
-        left: u64::MAX,
-    };
+    let mut place = Place { size: 0, at: 0 };
     let mut number: u64 = 0;
-    while place.left > 0 {
-        place = take(&rt, &mut chunk, &mut line, place);
-        let whole = place.whole;
-        if whole {
-            let held = place.held;
+    for _ in 0..u64::MAX {
+        let next = take(&rt, &mut chunk, &mut line, place);
+        let held = line.bytes();
+        if matches!(next, Next::Line(_)) || matches!(next, Next::End) && !held.is_empty() {
             number += 1;
             lent = lines::end_line(
-                &rt,
-                &mut state,
-                &mut log,
-                &mut saved,
-                &line[..held],
-                number,
-                lent,
+                &rt, &mut state, &mut log, &mut saved, held, number, lent,
             );
-            place.held = 0;
+            line.clear();
+        }
+        match next {
+            Next::Line(to) | Next::Piece(to) => place = to,
+            Next::End => break,
         }
     }
 }

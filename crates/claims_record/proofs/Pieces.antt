@@ -7,7 +7,6 @@ use lib.ListN.{length, take, length-append, length-map}
 use Rattle.record_lines.specs.Parted.{ended_by, rest_by}
 use Rattle.record_lines.specs.Lines.{line_feed, kept, lines_of, last_of}
 use Rattle.record_lines.proofs.LinesLaws.{kept-kept, kept-none}
-use Rattle.record_call.specs.declared.Line.{Line}
 use Rattle.record_call.specs.Table.{line_of}
 use Rattle.record_runs.specs.Replay.{said_in, said_after, calls_in, answers_from, Held, gone_on, printed_by}
 use Rattle.record_runs.proofs.SaidLaws.{kept-says, calls-append, answers-append}
@@ -17,6 +16,8 @@ use Rattle.board_runs.specs.Ready.{at_reset}
 use Rattle.board_runs.proofs.RunsEffects.{ran_append}
 use Rattle.claims_record.specs.Lines.{together, begun, after_pieces, printed_in, finished}
 use Rattle.claims_record.specs.Lines.{last_printed, Claim-196}
+use Rattle.std.specs.Prelude.{Option}
+use Rattle.board_call.specs.declared.Call.{Call}
 
 gone-kept : (bs : List ℕ) (h : Held) → kept (gone_on bs h).line ≡ (gone_on bs h).line
 unfolding gone_on
@@ -40,16 +41,16 @@ printed-pieces (p ∷ ps) h =
 last-kept : (l : List ℕ) → map line_of (last_of (kept l)) ≡ map line_of (last_of l)
 unfolding last_of kept
 last-kept [] = refl
-last-kept (x ∷ xs) = ap (λ (s : Line). s ∷ []) (kept-says (x ∷ xs))
+last-kept (x ∷ xs) = ap (λ (s : Option Call). s ∷ []) (kept-says (x ∷ xs))
 
 module _ (bs : List ℕ) where
   abbrev rest : List ℕ
   rest = rest_by line_feed [] bs
 
-  abbrev early : List Line
+  abbrev early : List (Option Call)
   early = said_after [] bs
 
-  abbrev late : List Line
+  abbrev late : List (Option Call)
   late = map line_of (last_of rest)
 
   said-parts : said_in bs ≡ early ++ late
@@ -59,8 +60,8 @@ module _ (bs : List ℕ) where
   all_left : finished (gone_on bs begun) ≡ ran (calls_in (said_in bs)) at_reset
   unfolding gone_on
   all_left =
-      ap (λ (ss : List Line). ran (calls_in ss) (ran (calls_in early) at_reset)) (last-kept rest)
-      ∙ sym (ap (λ (ss : List Line). ran (calls_in ss) at_reset) said-parts
+      ap (λ (ss : List (Option Call)). ran (calls_in ss) (ran (calls_in early) at_reset)) (last-kept rest)
+      ∙ sym (ap (λ (ss : List (Option Call)). ran (calls_in ss) at_reset) said-parts
       ∙ ap (λ cs. ran cs at_reset) (calls-append early late)
       ∙ ran_append (calls_in early) (calls_in late) at_reset)
 
@@ -68,10 +69,10 @@ module _ (bs : List ℕ) where
   unfolding gone_on printed_by
   all-printed =
       let from : suc (0 + length early) ≡ 1 + length early = omega arith in
-      ap₂ (λ (ss : List Line) (n : ℕ). answers_from 1 early at_reset ++ answers_from n ss (ran
+      ap₂ (λ (ss : List (Option Call)) (n : ℕ). answers_from 1 early at_reset ++ answers_from n ss (ran
       (calls_in early) at_reset))
       (last-kept rest) from
-      ∙ sym (ap (λ (ss : List Line). answers_from 1 ss at_reset) said-parts
+      ∙ sym (ap (λ (ss : List (Option Call)). answers_from 1 ss at_reset) said-parts
       ∙ answers-append early late 1 at_reset)
 
   all_lines : (gone_on bs begun).number + length (last_of (gone_on bs begun).line) ≡ length (lines_of bs)

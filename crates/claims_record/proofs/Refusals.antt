@@ -8,8 +8,6 @@ use mathlib.Core.List.{List, [], ◌∷◌, ◌++◌, map}
 use native.Mathlib.Omega.{arith}
 use lib.ListN.{length, get_or}
 use Rattle.record_lines.specs.Lines.{lines_of}
-use Rattle.record_call.specs.declared.Line.{Line}
-use Rattle.record_call.specs.declared.Line.TheVariants as lines
 use Rattle.record_call.specs.Table.{line_of}
 use Rattle.record_runs.specs.Replay.{said_in, calls_in}
 use Rattle.board_block.specs.Block.{Board}
@@ -27,6 +25,7 @@ use Rattle.board_runs.proofs.StartEffects.{ready-reset}
 use Rattle.claims_record.specs.Written.{Spelled, call_numbers}
 use Rattle.claims_record.specs.Replay.{Claim-199}
 use Rattle.claims_record.proofs.Written.{written-1}
+use Rattle.std.specs.Prelude.{Option, Some, None}
 
 -- ---- numbers of 64 bits
 
@@ -53,19 +52,19 @@ numbers-small (Claim h f) n = tt
 numbers-small (Signals h) n = tt
 numbers-small (Move oh of nh nf n') n = tt
 
-line_small : (l : List ℕ) (c : Call) → line_of l ≡ lines.Call c → Small c
+line_small : (l : List ℕ) (c : Call) → line_of l ≡ Some c → Small c
 line_small l c e =
     let w = (written-1 l c e).1 in numbers-small c (spelled-small w.texts (call_numbers c) w.numbers)
 
-abbrev LineSmall : Line → Type 0
-LineSmall (lines.Call c) = Small c
-LineSmall lines.Unreadable = Unit {0}
+abbrev LineSmall : Option Call → Type 0
+LineSmall (Some c) = Small c
+LineSmall None = Unit {0}
 
-says-small : (l : List ℕ) (s : Line) → line_of l ≡ s → LineSmall s
-says-small l (lines.Call c) e = line_small l c e
-says-small l lines.Unreadable e = tt
+says-small : (l : List ℕ) (s : Option Call) → line_of l ≡ s → LineSmall s
+says-small l (Some c) e = line_small l c e
+says-small l None e = tt
 
-abbrev LinesSmall : List Line → Type 0
+abbrev LinesSmall : List (Option Call) → Type 0
 LinesSmall [] = Unit {0}
 LinesSmall (s ∷ ss) = LineSmall s × LinesSmall ss
 
@@ -73,15 +72,15 @@ all_small : (ls : List (List ℕ)) → LinesSmall (map line_of ls)
 all_small [] = tt
 all_small (l ∷ ls) = (says-small l (line_of l) refl, all_small ls)
 
-first_small : (ss ts : List Line) → LinesSmall (ss ++ ts) → LinesSmall ss
+first_small : (ss ts : List (Option Call)) → LinesSmall (ss ++ ts) → LinesSmall ss
 first_small [] ts n = tt
 first_small (s ∷ ss) ts n = (n.0, first_small ss ts n.1)
 
-calls-small : (ss : List Line) → LinesSmall ss → AllSmall (calls_in ss)
+calls-small : (ss : List (Option Call)) → LinesSmall ss → AllSmall (calls_in ss)
 unfolding calls_in
 calls-small [] n = tt
-calls-small (lines.Call c ∷ ss) n = (n.0, calls-small ss n.1)
-calls-small (lines.Unreadable ∷ ss) n = calls-small ss n.1
+calls-small (Some c ∷ ss) n = (n.0, calls-small ss n.1)
+calls-small (None ∷ ss) n = calls-small ss n.1
 
 -- ---- the refusal
 
@@ -101,7 +100,7 @@ name-named t b = at (t.names b) t.address t.select
 pub claim-199 : Claim-199
 unfolding Claim-199 said_in
 claim-199 bs ss ts c e =
-    let small = calls-small ss (first_small ss (lines.Call c ∷ ts) (subst LinesSmall e (all_small
+    let small = calls-small ss (first_small ss (Some c ∷ ts) (subst LinesSmall e (all_small
     (lines_of bs)))) in
     let x = ran (calls_in ss) at_reset in
     let ready = ready-ran (calls_in ss) at_reset ready-reset small in

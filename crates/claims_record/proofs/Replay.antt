@@ -4,6 +4,7 @@ use mathlib.Core.Path.{◌≡◌, refl, sym, ap, ap₂, subst, ◌∙◌}
 use mathlib.Core.Logic.{◌⊎◌, inl, inr}
 use mathlib.Core.List.{List, [], ◌∷◌, ◌++◌, map, append-nil, append_assoc}
 use native.Mathlib.Omega.{arith}
+use borrow.Author.Rules.{rules}
 use lib.ListN.{length, get_or, length-map}
 use mathlib.Core.Bool.{true}
 use Rattle.record_numbers.specs.Decimal.{all_digits, text_of}
@@ -11,8 +12,6 @@ use Rattle.record_numbers.proofs.TextLaws.{text-digits, digit-member}
 use Rattle.record_lines.specs.Parted.{ended_by, rest_by}
 use Rattle.record_lines.specs.Lines.{line_feed, lines_of, last_of}
 use Rattle.record_fields.specs.Fields.{tab, fields_of}
-use Rattle.record_call.specs.declared.Line.{Line}
-use Rattle.record_call.specs.declared.Line.TheVariants as lines
 use Rattle.record_call.specs.Table.{line_of}
 use Rattle.record_answer.specs.Shown.{fields_shown, line_shown}
 use Rattle.record_answer.proofs.ShownLaws.{line-fields}
@@ -28,6 +27,7 @@ use Rattle.claims_record.specs.Written.{behind_tabs}
 use Rattle.claims_record.proofs.Written.{fields-2}
 use Rattle.claims_record.proofs.PartsLaws.{Lacks, AllLack, lacks-none, lacks-cons, lacks-append}
 use Rattle.claims_record.proofs.PartsLaws.{ended-part, rest_part}
+use Rattle.std.specs.Prelude.{Option, Some, None}
 
 -- ---- what is left
 
@@ -43,16 +43,16 @@ claim-197 = (
   (λ bs. line-by-line (lines_of bs) at_reset),
   (λ c x. refl),
   (λ x. refl),
-  (λ ss ts c. calls-append ss (lines.Call c ∷ ts)),
-  (λ ss ts. calls-append ss (lines.Unreadable ∷ ts) ∙ sym (calls-append ss ts)),
+  (λ ss ts c. calls-append ss (Some c ∷ ts)),
+  (λ ss ts. calls-append ss (None ∷ ts) ∙ sym (calls-append ss ts)),
   after-reset,
 )
 
 -- ---- what is printed
 
-answer-line : (n : ℕ) (s : Line) (x : Lent) → answer_to n s x ≡ line_shown (n ∷ told s x)
-answer-line n (lines.Call c) x = refl
-answer-line n lines.Unreadable x = refl
+answer-line : (n : ℕ) (s : Option Call) (x : Lent) → answer_to n s x ≡ line_shown (n ∷ told s x)
+answer-line n (Some c) x = refl
+answer-line n None x = refl
 
 -- no number has an end of line in it
 text-lacks : (n : ℕ) → Lacks line_feed (text_of n)
@@ -109,7 +109,7 @@ module _ (n : ℕ) (ns : List ℕ) where
       ∙ ap (map fields_of) (lines-first body bs body-lacks)
       ∙ ap (λ (fs : List (List ℕ)). fs ∷ map fields_of (lines_of bs)) (shown-fields n ns)
 
-answers-told : (ss : List Line) (n : ℕ) (x : Lent) →
+answers-told : (ss : List (Option Call)) (n : ℕ) (x : Lent) →
     map fields_of (lines_of (answers_from n ss x)) ≡ fields_told n ss x
 unfolding answers_from lines_of ended_by rest_by last_of
 answers-told [] n x = refl
@@ -120,7 +120,7 @@ answers-told (s ∷ ss) n x =
     ∙ ap (λ (fs : List (List (List ℕ))). map text_of (n ∷ told s x) ∷ fs) (answers-told ss (suc n)
     (passed_on s x))
 
-told-length : (ss : List Line) (n : ℕ) (x : Lent) → length (fields_told n ss x) ≡ length ss
+told-length : (ss : List (Option Call)) (n : ℕ) (x : Lent) → length (fields_told n ss x) ≡ length ss
 told-length [] n x = refl
 told-length (s ∷ ss) n x = ap suc (told-length ss (suc n) (passed_on s x))
 
@@ -140,13 +140,19 @@ claim-200 l b b' r given = given
 
 pub claim-201 : Claim-201
 unfolding Claim-201
-claim-201 l b b' g g' s s' n n' c c' o o' f r = (
-  (λ log line held out at number. (record { log = log; room = line; few = held }, out, at, number)),
-  (λ given. (given.0, given.1.1)),
+claim-201 = (
+  (λ W R w v l h h' c c' i e o o'. (
+    (λ block room out at number. (
+      (λ a m. search rules),
+      ((λ a m. search rules), (omega (arith, block), (omega (arith, room), (out, at, number)))),
+    )),
+    (λ given. (given.0, given.1)),
+  )),
   (λ xs i e h h' a d. (
     (λ w. (w.start, w.end, w.held, w.printed)),
     (λ p. record { start = p.0; end = p.1; held = p.2; printed = p.3 }),
   )),
-  (λ g n k. ((λ y. (y.log, y.room, y.few)), (λ p. record { log = p.0; room = p.1; few = p.2 }))),
+  refl,
+  refl,
   refl,
 )

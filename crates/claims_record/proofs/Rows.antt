@@ -8,8 +8,6 @@ use borrow.Author.Tests.{eqb-true, ltb-true, lt-ltb}
 use lib.Dec.{eqb, ltb}
 use lib.ListN.{length}
 use Rattle.words.proofs.TestsLaws.{tested, and_first, and_second}
-use Rattle.record_call.specs.declared.Line.{Line}
-use Rattle.record_call.specs.declared.Line.TheVariants as lines
 use Rattle.record_call.specs.Table.{NameRow, table, same_bytes, word_at_end, fits, call_in}
 use Rattle.record_call.specs.Table.{reset_row, signals_row, wire_row, domain_read_row, top_row, claim_row}
 use Rattle.record_call.specs.Table.{page_read_row, domain_write_row, page_write_row, register_row, move_row}
@@ -18,6 +16,7 @@ use Rattle.board_call.specs.declared.Call.{Call}
 use Rattle.board_call.specs.declared.Call.TheVariants.{Reset, Wire, DomainRead, DomainWrite, PageRead}
 use Rattle.board_call.specs.declared.Call.TheVariants.{PageWrite, Register, Top, Claim, Signals, Move}
 use Rattle.claims_record.specs.Written.{call_name, call_numbers, WordsSmall}
+use Rattle.std.specs.Prelude.{Option, Some, None}
 
 -- what the call c has to do with a name and with numbers
 pub record Says (c : Call) (n ns : List ℕ) : Type 0 where
@@ -36,33 +35,33 @@ AllSay (r ∷ rs) = RowSays r × AllSay rs
 
 -- ---- the call of a line
 
-abbrev call_or : Call → Line → Call
-call_or d (lines.Call c) = c
-call_or d lines.Unreadable = d
+abbrev call_or : Call → Option Call → Call
+call_or d (Some c) = c
+call_or d None = d
 
-abbrev is_call : Line → Bool
-is_call (lines.Call c) = true
-is_call lines.Unreadable = false
+abbrev is_call : Option Call → Bool
+is_call (Some c) = true
+is_call None = false
 
-pub same-call : (c d : Call) → ◌≡◌ {A = Line} (lines.Call c) (lines.Call d) → c ≡ d
+pub same-call : (c d : Call) → ◌≡◌ {A = Option Call} (Some c) (Some d) → c ≡ d
 same-call c d e = ap (call_or c) e
 
-pub call-not-unreadable : (c : Call) → ◌≡◌ {A = Line} lines.Unreadable (lines.Call c) → ⊥
+pub call-not-unreadable : (c : Call) → ◌≡◌ {A = Option Call} None (Some c) → ⊥
 call-not-unreadable c e = subst (λ (t : Bool). cond t ⊥ (Unit {0})) (ap is_call e) tt
 
 -- ---- from the table to the call
 
 row_in : (rs : List NameRow) (name ns : List ℕ) (c : Call) → AllSay rs →
-    call_in rs name ns ≡ lines.Call c → Says c name ns
+    call_in rs name ns ≡ Some c → Says c name ns
 unfolding call_in
 row_in [] name ns c say e = absurd (call-not-unreadable c e)
 row_in (r ∷ rs) name ns c say e =
     tested (fits r name ns)
-    (λ t. here t (sym (ap (λ (u : Bool). cond u (lines.Call (r.make ns)) (call_in rs name ns)) t) ∙ e))
+    (λ t. here t (sym (ap (λ (u : Bool). cond u (Some (r.make ns)) (call_in rs name ns)) t) ∙ e))
     (λ t. row_in rs name ns c say.1 (sym (ap
-    (λ (u : Bool). cond u (lines.Call (r.make ns)) (call_in rs name ns)) t) ∙ e))
+    (λ (u : Bool). cond u (Some (r.make ns)) (call_in rs name ns)) t) ∙ e))
   where
-    here : fits r name ns ≡ true → ◌≡◌ {A = Line} (lines.Call (r.make ns)) (lines.Call c) → Says c name ns
+    here : fits r name ns ≡ true → ◌≡◌ {A = Option Call} (Some (r.make ns)) (Some c) → Says c name ns
     here t q =
         let many = and_first (eqb (length ns) r.count) (same_bytes name r.name && word_at_end
         r.word ns) t in
@@ -174,12 +173,12 @@ all_say = (
   ),
 )
 
-pub table-1 : (name ns : List ℕ) (c : Call) → call_in table name ns ≡ lines.Call c → Says c name ns
+pub table-1 : (name ns : List ℕ) (c : Call) → call_in table name ns ≡ Some c → Says c name ns
 table-1 name ns c e = row_in table name ns c all_say e
 
 -- ---- from the call to the table
 
-pub table-2 : (c : Call) → WordsSmall c → call_in table (call_name c) (call_numbers c) ≡ lines.Call c
+pub table-2 : (c : Call) → WordsSmall c → call_in table (call_name c) (call_numbers c) ≡ Some c
 unfolding call_in table same_bytes
 table-2 Reset w = refl
 table-2 (Wire i level) w = refl

@@ -16,8 +16,6 @@ use Rattle.record_lines.specs.Parted.{ended_by, rest_by}
 use Rattle.record_lines.specs.Lines.{line_size}
 use Rattle.record_fields.specs.Fields.{tab, fields_of, first_of, others_of, name_of, texts_of, are_numbers}
 use Rattle.record_fields.specs.Fields.{numbers_of}
-use Rattle.record_call.specs.declared.Line.{Line}
-use Rattle.record_call.specs.declared.Line.TheVariants as lines
 use Rattle.record_call.specs.Table.{table, call_in, line_of}
 use Rattle.board_call.specs.declared.Call.{Call}
 use Rattle.board_call.specs.declared.Call.TheVariants.{Reset, Wire, DomainRead, DomainWrite, PageRead}
@@ -29,6 +27,7 @@ use Rattle.claims_record.proofs.PartsLaws.{Lacks, AllLack, lacks-none, lacks-con
 use Rattle.claims_record.proofs.PartsLaws.{ended-part, rest_part, ended-only, rest-only}
 use Rattle.claims_record.proofs.Decimals.{spelled-1, spelled-2, text-decimal}
 use Rattle.claims_record.proofs.Rows.{table-1, table-2, call-not-unreadable}
+use Rattle.std.specs.Prelude.{Option, Some, None}
 
 -- ---- the fields of a line, put together
 
@@ -98,16 +97,16 @@ module _ (l : List ℕ) (c : Call) where
   abbrev readable : Bool
   readable = leb (length l) line_size && are_numbers (texts_of l)
 
-  abbrev says : Line
+  abbrev says : Option Call
   says = call_in table (name_of l) (numbers_of (texts_of l))
 
-  pub written-1 : line_of l ≡ lines.Call c → (length l ≤ 200) × Written c l
+  pub written-1 : line_of l ≡ Some c → (length l ≤ 200) × Written c l
   unfolding line_of
   written-1 e =
-      tested readable (λ t. good t (sym (ap (λ (u : Bool). cond u says lines.Unreadable) t) ∙ e))
-      (λ t. absurd (call-not-unreadable c (sym (ap (λ (u : Bool). cond u says lines.Unreadable) t) ∙ e)))
+      tested readable (λ t. good t (sym (ap (λ (u : Bool). cond u says None) t) ∙ e))
+      (λ t. absurd (call-not-unreadable c (sym (ap (λ (u : Bool). cond u says None) t) ∙ e)))
     where
-      good : readable ≡ true → says ≡ lines.Call c → (length l ≤ 200) × Written c l
+      good : readable ≡ true → says ≡ Some c → (length l ≤ 200) × Written c l
       good t q =
           let row = table-1 (name_of l) (numbers_of (texts_of l)) c q in (
             leb-true (length l) line_size (and_first (leb (length l) line_size) (are_numbers (texts_of l)) t),
@@ -121,7 +120,7 @@ module _ (l : List ℕ) (c : Call) where
             },
           )
 
-  pub written_2 : length l ≤ 200 → Written c l → line_of l ≡ lines.Call c
+  pub written_2 : length l ≤ 200 → Written c l → line_of l ≡ Some c
   unfolding line_of name_of texts_of
   written_2 le w =
       let name = lacks-tested (call_name c) (name-tested c).0 in

@@ -10,23 +10,22 @@ use Rattle.std.specs.Prelude.{length, take, replicate}
 use Rattle.std.proofs.Math.Seq.{slice}
 use contract.Lifetimes.{Lfts}
 use Rattle.std.specs.Borrow.{Bor, MutBor}
+use Rattle.std.proofs.Common.{Fits, w64}
 use Rattle.sizes.specs.Sizes.{block_size, log_size}
 use Rattle.record_numbers.specs.Decimal.{text_of}
-use Rattle.record_lines.specs.Lines.{lines_of}
+use Rattle.record_lines.specs.Lines.{line_room, lines_of}
 use Rattle.record_fields.specs.Fields.{fields_of}
-use Rattle.record_call.specs.declared.Line.{Line}
-use Rattle.record_call.specs.declared.Line.TheVariants as lines
 use Rattle.record_call.specs.Table.{line_of}
 use Rattle.record_runs.specs.Replay.{said_in, calls_in, answers_from, passed_on, Held, gone_on, printed_by}
 use Rattle.board_runs.specs.Ready.{at_reset}
 use Rattle.board_call.specs.declared.Call.{Call}
 use Rattle.board_call.specs.declared.Call.TheVariants.{Reset}
 use Rattle.board_runs.specs.Runs.{Lent, outcome_on, after, ran}
-use Rattle.record_replay.specs.declared.pieces.Run.{Run}
-use Rattle.record_replay.specs.Pieces.{held_at, Roomy, Went}
+use Rattle.record_replay.specs.Pieces.{Went}
 use Rattle.record_answer.specs.Shown.{answer_room}
 use Rattle.record_call.proofs.read.Reads as read
-use Rattle.record_replay.proofs.some.Reads as some
+use Rattle.record_replay.proofs.run.Run.some.Reads as some
+use Rattle.std.specs.Prelude.{Option, Some, None}
 
 abbrev pub line_by_line : List (List ℕ) → Lent → Lent
 line_by_line [] x = x
@@ -38,22 +37,22 @@ line_by_line (l ∷ ls) x = line_by_line ls (passed_on (line_of l) x)
 unfoldable pub Claim-197 : Type 0
 Claim-197 =
     ((bs : List ℕ) → line_by_line (lines_of bs) at_reset ≡ ran (calls_in (said_in bs)) at_reset)
-    × ((c : Call) (x : Lent) → passed_on (lines.Call c) x ≡ after c x)
-    × ((x : Lent) → passed_on lines.Unreadable x ≡ x)
-    × ((ss ts : List Line) (c : Call) → calls_in (ss ++ (lines.Call c ∷ ts)) ≡ calls_in ss ++
+    × ((c : Call) (x : Lent) → passed_on (Some c) x ≡ after c x)
+    × ((x : Lent) → passed_on None x ≡ x)
+    × ((ss ts : List (Option Call)) (c : Call) → calls_in (ss ++ (Some c ∷ ts)) ≡ calls_in ss ++
     (c ∷ calls_in ts))
-    × ((ss ts : List Line) → calls_in (ss ++ (lines.Unreadable ∷ ts)) ≡ calls_in (ss ++ ts))
+    × ((ss ts : List (Option Call)) → calls_in (ss ++ (None ∷ ts)) ≡ calls_in (ss ++ ts))
     × ((x : Lent) → length x.block ≡ block_size → x.log ≡ replicate log_size 0 → x.saved ≡ replicate 10 0
     → after Reset x ≡ at_reset)
 
 -- ---- what is printed
 
-abbrev pub told : Line → Lent → List ℕ
-told (lines.Call c) x =
+abbrev pub told : Option Call → Lent → List ℕ
+told (Some c) x =
     let o = outcome_on c x in o.number ∷ o.value ∷ o.count ∷ take o.count o.log
-told lines.Unreadable x = []
+told None x = []
 
-abbrev pub fields_told : ℕ → List Line → Lent → List (List (List ℕ))
+abbrev pub fields_told : ℕ → List (Option Call) → Lent → List (List (List ℕ))
 fields_told n [] x = []
 fields_told n (s ∷ ss) x = map text_of (n ∷ told s x) ∷ fields_told (suc n) ss (passed_on s x)
 
@@ -71,7 +70,7 @@ Claim-198 =
 -- a call of a replay is done, or refused for its numbers: refusals 1, 2 and 3 never occur
 unfoldable pub Claim-199 : Type 0
 Claim-199 =
-    (bs : List ℕ) (ss ts : List Line) (c : Call) → said_in bs ≡ ss ++ (lines.Call c ∷ ts)
+    (bs : List ℕ) (ss ts : List (Option Call)) (c : Call) → said_in bs ≡ ss ++ (Some c ∷ ts)
     → let number = (outcome_on c (ran (calls_in ss) at_reset)).number in
     (number ≡ 0) ⊎ ((number ≡ 4) ⊎ ((number ≡ 5) ⊎ (number ≡ 6)))
 
@@ -80,24 +79,20 @@ Claim-199 =
 -- the function that reads a line gives what the line says
 unfoldable pub Claim-200 : Type 0
 Claim-200 =
-    (l : Lfts 1) (b b' : Bor (List ℕ)) (r : Line) → read.Learnt l (b, tt) r (b', tt) → r ≡ line_of b.now
+    (l : Lfts 1) (b b' : Bor (List ℕ)) (r : Option Call) → read.Learnt l (b, tt) r (b', tt) → r ≡ line_of b.now
 
--- the function that runs a piece asks for a log of 63 words, 201 bytes for a line and 1,408 for an
--- answer. It goes on by the bytes that it takes, one at least if there is one: block, log, saved numbers,
--- the line so far and the number of lines are those of the run, and the answers are what it prints
+-- the function that runs a piece asks for 1,408 bytes for an answer, and no block and no answers of 2^48 words
+-- or bytes; it is lent a log of 63 words and 201 bytes for a line. It goes on by the bytes that it takes, one at
+-- least if there is one: block, log, saved numbers, the line so far and the number of lines are those of the
+-- run, and the answers are what it prints
 unfoldable pub Claim-201 : Type 0
 Claim-201 =
-    (l : Lfts 6) (b b' g g' s s' n n' : MutBor (List ℕ)) (c c' : Bor (List ℕ)) (o o' : MutBor (List ℕ))
-    (f r : Run)
-    → (length g.now ≡ 63 → length n.now ≡ 201 → f.held ≤ 201 → 1408 ≤ length o.now →
-    f.at ≤ length c.now
-    → f.number + (length c.now - f.at) < 2 ^ 64
-    → some.Asked l (b, (g, (s, (n, (c, (o, (f, tt))))))))
-    × (some.Learnt l (b, (g, (s, (n, (c, (o, (f, tt))))))) r (b', (g', (s', (n', (c', (o', (f, tt)))))))
-    → Went c.now f.at (held_at b.now g.now s.now n.now f.held f.number) []
-    r.at (held_at b'.now g'.now s'.now n'.now r.held r.number) (take r.used o'.now)
-    × (f.at < length c.now → f.at < r.at))
+    ((W R : ℕ) (w : Fits w64 W) (v : Fits w64 R) (l : Lfts 5) (h h' : MutBor Held) (c c' : Bor (List ℕ))
+    (i e : ℕ) (o o' : MutBor (List ℕ))
+    → (W < 2 ^ 48 → R < 2 ^ 48 → 1408 ≤ R → i ≤ length c.now → h.now.number + (length c.now - i) < 2 ^ 64
+    → some.Asked W R w v l (h, (c, (i, (o, tt)))))
+    × (some.Learnt W R w v l (h, (c, (i, (o, tt)))) e (h', (c', (i, (o', tt))))
+    → Went c.now i h.now [] e h'.now o'.now × (i < length c.now → i < e)))
     × ((xs : List ℕ) (i e : ℕ) (h h' : Held) (a d : List ℕ) → Went xs i h a e h' d
     ↔ ((i ≤ e) × (e ≤ length xs) × (h' ≡ gone_on (slice i e xs) h) × (d ≡ a ++ printed_by (slice i e xs) h)))
-    × ((g n : List ℕ) (k : ℕ) → Roomy g n k ↔ ((length g ≡ 63) × (length n ≡ 201) × (k ≤ 201)))
-    × (answer_room ≡ 1408)
+    × (log_size ≡ 63) × (line_room ≡ 201) × (answer_room ≡ 1408)

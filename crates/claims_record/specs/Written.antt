@@ -11,12 +11,12 @@
 use Rattle.std.specs.Prelude.{ℕ, ◌+◌, ◌-◌, ◌*◌, ◌^◌, ◌≤◌, ◌<◌, ◌≡◌, ◌↔◌, ◌≢◌, List, [], ◌∷◌, ◌++◌, length}
 use Rattle.std.specs.Prelude.{get_or}
 use Rattle.record_numbers.specs.Decimal.{text_of}
-use Rattle.record_call.specs.declared.Line.TheVariants as lines
 use Rattle.record_call.specs.Table.{line_of}
 use Rattle.board_call.specs.declared.Call.{Call}
 use Rattle.board_call.specs.declared.Call.TheVariants.{Reset, Wire, DomainRead, DomainWrite, PageRead}
 use Rattle.board_call.specs.declared.Call.TheVariants.{PageWrite, Register, Top, Claim, Signals, Move}
 use Rattle.claims_record.specs.Text.{text_codes}
+use Rattle.std.specs.Prelude.{Some}
 
 -- ---- numbers
 
@@ -94,14 +94,14 @@ pub record Written (c : Call) (l : List ℕ) : Type 0 where
 -- for a word
 -- [02 M100.3 M100.6 M100.8]
 unfoldable pub Claim-192 : Type 0
-Claim-192 = (l : List ℕ) (c : Call) → (line_of l ≡ lines.Call c) ↔ ((length l ≤ 200) × Written c l)
+Claim-192 = (l : List ℕ) (c : Call) → (line_of l ≡ Some c) ↔ ((length l ≤ 200) × Written c l)
 
 -- every call that a program can hold is said by some line of at most 200 bytes, so that the grammar
 -- leaves none out
 unfoldable pub Claim-193 : Type 0
 Claim-193 =
     (c : Call) → ((i : ℕ) → i < length (call_numbers c) → get_or (call_numbers c) i 0 < 2 ^ 64) → WordsSmall c
-    → (l : List ℕ) × (line_of l ≡ lines.Call c)
+    → (l : List ℕ) × (line_of l ≡ Some c)
 
 -- a number of 64 bits is printed in decimal, with no zero in front but for 0 itself
 unfoldable pub Claim-194 : Type 0

@@ -6,7 +6,7 @@ use mathlib.Core.List.{List, [], ◌∷◌, ◌++◌, append-nil, append_assoc}
 use native.Mathlib.Omega.{arith}
 use native.Mathlib.Decide.{dec_lt}
 use lib.Dec.{eqb}
-use lib.ListN.{length, get_or, take, drop, length-take, length-drop}
+use lib.ListN.{length, get_or, take, drop, length-take, length-drop, length-append}
 use lib.Seq.{slice, take_all, take-append-le, take-append-add, take-take, length-take-le}
 use lib.Seq.{take-add, drop_at, get_or-drop}
 use borrow.Author.Tests.{eqb-true}
@@ -35,9 +35,9 @@ pub kept-long : (p : List ℕ) → line_size < length p → line_size < length (
 unfolding kept
 kept-long p h = simp length-take (omega (arith, h))
 
-pub kept-held : (l : List ℕ) (n : ℕ) → n ≤ line_room → kept (take n l) ≡ take n l
+pub kept-few : (p : List ℕ) → length p ≤ line_room → kept p ≡ p
 unfolding kept
-kept-held l n h = take_all line_room (take n l) (simp length-take (omega (arith, h)))
+kept-few p h = take_all line_room p h
 
 pub kept-none : kept [] ≡ []
 unfolding kept
@@ -150,3 +150,6 @@ module _ (xs : List ℕ) (f much : ℕ) (le : f ≤ length xs) (found : much ≡
               ∙ ap (λ (ys : List ℕ). kept (p ++ ys)) first
               ∙ ap kept (sym (ap (rest_by line_feed p) (first-slice ∙ first) ∙ first_rest line_feed rest p));
         }
+
+    pub cut-few : length q ≤ line_room
+    cut-few = omega (arith, ap length held, length-append p (take n rest), length-take n rest, copied, few)

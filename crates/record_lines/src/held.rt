@@ -49,6 +49,7 @@ impl HeldLine {
     pub fn cut(&mut self, chunk: &[u8], from: usize) -> usize
         requires { from ≤ length chunk.now }
         ensures cut_at { CutAt chunk.now from self.old result self.new }
+        ensures few { length self.new ≤ line_room }
         ensures at_value { result < length chunk.now → get_or chunk.now result 0 ≡ line_feed }
     {
         let much = find(&chunk[from..], b'\n');

@@ -1,8 +1,8 @@
 // A record that is run: a line, and the lines of a piece of bytes.
 #![tactic(auto)]
 
-mod line;
-mod pieces;
+mod lent;
+mod run;
 
-pub use line::end_line;
-pub use pieces::{Run, some};
+pub use lent::Lent;
+pub use run::Run;

@@ -3,8 +3,6 @@ use Prim.Native.Nat.{ℕ}
 use mathlib.Core.Path.{◌≡◌}
 use mathlib.Core.List.{List, [], ◌∷◌}
 use lib.ListN.{take}
-use Rattle.record_call.specs.declared.Line.{Line}
-use Rattle.record_call.specs.declared.Line.TheVariants as lines
 use Rattle.record_answer.specs.Shown.{line_shown}
 use Rattle.monitor_answer.specs.declared.VskAnswer.{VskAnswer}
 use Rattle.monitor_answer.specs.Told.{Numbers}
@@ -13,15 +11,16 @@ use Rattle.board_call.specs.declared.Call.{Call}
 use Rattle.board_call.specs.Outcome.{outcome, Gives}
 use Rattle.board_runs.specs.Runs.{Lent, after}
 use Rattle.record_runs.specs.Replay.{lent_of, passed_on, answer_to}
+use Rattle.std.specs.Prelude.{Option, Some, None}
 
-module _ (s : Line) (n : ℕ) (x : Lent) (e : s ≡ lines.Unreadable) where
+module _ (s : Option Call) (n : ℕ) (x : Lent) (e : s ≡ None) where
   pub unread-lent : x ≡ passed_on s x
   unread-lent = rw e
 
   pub unread-answer : line_shown (n ∷ []) ≡ answer_to n s x
   unread-answer = rw e
 
-module _ (s : Line) (n : ℕ) (c : Call) (e : s ≡ lines.Call c) (l g t l' g' t' : List ℕ) (r : Answer)
+module _ (s : Option Call) (n : ℕ) (c : Call) (e : s ≡ Some c) (l g t l' g' t' : List ℕ) (r : Answer)
     (gives : Gives (outcome c l g t) r l' g' t') where
   pub made-lent : lent_of l' g' t' ≡ passed_on s (lent_of l g t)
   unfolding after

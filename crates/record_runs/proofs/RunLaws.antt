@@ -10,7 +10,6 @@ use Rattle.record_lines.specs.Parted.{ended_by, rest_by}
 use Rattle.record_lines.specs.Lines.{line_feed, kept, last_of}
 use Rattle.record_lines.proofs.PartedLaws.{rest-append}
 use Rattle.record_lines.proofs.LinesLaws.{kept-kept}
-use Rattle.record_call.specs.declared.Line.{Line}
 use Rattle.record_call.specs.Table.{line_of}
 use Rattle.board_runs.specs.Runs.{Lent, ran}
 use Rattle.board_runs.proofs.RunsEffects.{ran_append}
@@ -18,16 +17,18 @@ use Rattle.record_runs.specs.Replay.{Held, said_after, calls_in, answers_from, p
 use Rattle.record_runs.specs.Replay.{printed_by}
 use Rattle.record_runs.proofs.SaidLaws.{said-append, said_same, rest-same, calls-append, ran_line}
 use Rattle.record_runs.proofs.SaidLaws.{answers-append}
+use Rattle.std.specs.Prelude.{Option}
+use Rattle.board_call.specs.declared.Call.{Call}
 
 pub held_same : {l l' : List ℕ} {n n' : ℕ} {x x' : Lent} → l ≡ l' → n ≡ n' → x ≡ x' →
     ◌≡◌ {A = Held} record { line = l; number = n; lent = x } record { line = l'; number = n'; lent = x' }
 held_same e f g = rw (e, f, g)
 
 module _ (xs ys : List ℕ) (h : Held) where
-  abbrev first : List Line
+  abbrev first : List (Option Call)
   first = said_after h.line xs
 
-  abbrev second : List Line
+  abbrev second : List (Option Call)
   second = said_after (gone_on xs h).line ys
 
   -- what the second piece says is what it says behind all of the line
@@ -35,7 +36,7 @@ module _ (xs ys : List ℕ) (h : Held) where
   unfolding gone_on
   said-both =
       said-append xs ys h.line
-      ∙ ap (λ (ss : List Line). first ++ ss)
+      ∙ ap (λ (ss : List (Option Call)). first ++ ss)
       (said_same ys (rest_by line_feed h.line xs) (kept (rest_by line_feed h.line xs)) (sym (kept-kept _)))
 
   line-both : kept (rest_by line_feed h.line (xs ++ ys)) ≡ (gone_on ys (gone_on xs h)).line
@@ -51,7 +52,7 @@ module _ (xs ys : List ℕ) (h : Held) where
   lent_both : ran (calls_in (said_after h.line (xs ++ ys))) h.lent ≡ (gone_on ys (gone_on xs h)).lent
   unfolding gone_on
   lent_both =
-      ap (λ (ss : List Line). ran (calls_in ss) h.lent) said-both
+      ap (λ (ss : List (Option Call)). ran (calls_in ss) h.lent) said-both
       ∙ ap (λ cs. ran cs h.lent) (calls-append first second)
       ∙ ran_append (calls_in first) (calls_in second) h.lent
 
@@ -63,7 +64,7 @@ module _ (xs ys : List ℕ) (h : Held) where
   unfolding printed_by gone_on
   printed-both =
       let x : Lent = h.lent in
-      ap (λ (ss : List Line). answers_from (suc h.number) ss x) said-both
+      ap (λ (ss : List (Option Call)). answers_from (suc h.number) ss x) said-both
       ∙ answers-append first second (suc h.number) x
       ∙ ap (λ (n : ℕ). answers_from (suc h.number) first x ++ answers_from n second (ran (calls_in first) x))
       (suc-add h.number (length first))

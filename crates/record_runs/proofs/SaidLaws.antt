@@ -12,13 +12,12 @@ use Rattle.record_lines.specs.Parted.{ended_by, rest_by}
 use Rattle.record_lines.specs.Lines.{line_feed, line_size, kept}
 use Rattle.record_lines.proofs.PartedLaws.{ended-append}
 use Rattle.record_lines.proofs.LinesLaws.{kept_more, kept-short, kept-long}
-use Rattle.record_call.specs.declared.Line.{Line}
-use Rattle.record_call.specs.declared.Line.TheVariants as lines
 use Rattle.record_call.specs.Table.{line_of}
 use Rattle.record_call.proofs.TableLaws.{long-line}
 use Rattle.board_call.specs.declared.Call.{Call}
 use Rattle.board_runs.specs.Runs.{Lent, ran}
 use Rattle.record_runs.specs.Replay.{said_after, calls_in, answers_from, answer_to, passed_on}
+use Rattle.std.specs.Prelude.{Option, Some, None}
 
 pub kept-says : (l : List ℕ) → line_of (kept l) ≡ line_of l
 kept-says l = at (dec_lt line_size (length l))
@@ -47,7 +46,7 @@ said_same (x ∷ xs) p q e =
         ≡ map line_of (ended_by line_feed (q ++ (x ∷ [])) xs) →
         map line_of (cond t (p ∷ ended_by line_feed [] xs) (ended_by line_feed (p ++ (x ∷ [])) xs))
         ≡ map line_of (cond t (q ∷ ended_by line_feed [] xs) (ended_by line_feed (q ++ (x ∷ [])) xs))
-    at true more = ap (λ (s : Line). s ∷ map line_of (ended_by line_feed [] xs)) (same-says p q e)
+    at true more = ap (λ (s : Option Call). s ∷ map line_of (ended_by line_feed [] xs)) (same-says p q e)
     at false more = more
 
 pub rest-same : (xs p q : List ℕ) → kept p ≡ kept q →
@@ -73,20 +72,20 @@ said-append xs ys p =
     ap (map line_of) (ended-append line_feed xs ys p)
     ∙ map-append line_of (ended_by line_feed p xs) (ended_by line_feed (rest_by line_feed p xs) ys)
 
-pub calls-append : (ss ts : List Line) → calls_in (ss ++ ts) ≡ calls_in ss ++ calls_in ts
+pub calls-append : (ss ts : List (Option Call)) → calls_in (ss ++ ts) ≡ calls_in ss ++ calls_in ts
 unfolding calls_in
 calls-append [] ts = refl
-calls-append (lines.Call c ∷ ss) ts = ap (λ (cs : List Call). c ∷ cs) (calls-append ss ts)
-calls-append (lines.Unreadable ∷ ss) ts = calls-append ss ts
+calls-append (Some c ∷ ss) ts = ap (λ (cs : List Call). c ∷ cs) (calls-append ss ts)
+calls-append (None ∷ ss) ts = calls-append ss ts
 
 -- what the first line leaves is what its call leaves, if it says one
-pub ran_line : (s : Line) (ss : List Line) (x : Lent) →
+pub ran_line : (s : Option Call) (ss : List (Option Call)) (x : Lent) →
     ran (calls_in (s ∷ ss)) x ≡ ran (calls_in ss) (passed_on s x)
 unfolding calls_in ran
-ran_line (lines.Call c) ss x = refl
-ran_line lines.Unreadable ss x = refl
+ran_line (Some c) ss x = refl
+ran_line None ss x = refl
 
-pub answers-append : (ss ts : List Line) (n : ℕ) (x : Lent) →
+pub answers-append : (ss ts : List (Option Call)) (n : ℕ) (x : Lent) →
     answers_from n (ss ++ ts) x ≡ answers_from n ss x ++ answers_from (n + length ss) ts (ran (calls_in ss) x)
 unfolding answers_from calls_in ran
 answers-append [] ts n x = ap (λ (m : ℕ). answers_from m ts (ran (calls_in []) x)) (sym (add-zero n))

@@ -16,29 +16,28 @@
 use Rattle.std.specs.Prelude.{ℕ, suc, ◌+◌, List, [], ◌∷◌, ◌++◌, map, length, take}
 use Rattle.record_lines.specs.Parted.{ended_by, rest_by}
 use Rattle.record_lines.specs.Lines.{line_feed, kept, lines_of}
-use Rattle.record_call.specs.declared.Line.{Line}
-use Rattle.record_call.specs.declared.Line.TheVariants as lines
 use Rattle.record_call.specs.Table.{line_of}
 use Rattle.record_answer.specs.Shown.{line_shown}
 use Rattle.board_call.specs.declared.Call.{Call}
 use Rattle.board_call.specs.Outcome.{Outcome}
 use Rattle.board_runs.specs.Runs.{Lent, outcome_on, after, ran}
+use Rattle.std.specs.Prelude.{Option, Some, None}
 
 -- [02 M100.2]
-unfoldable pub said_in : List ℕ → List Line
+unfoldable pub said_in : List ℕ → List (Option Call)
 said_in bs = map line_of (lines_of bs)
 
-unfoldable pub said_after : List ℕ → List ℕ → List Line
+unfoldable pub said_after : List ℕ → List ℕ → List (Option Call)
 said_after p bs = map line_of (ended_by line_feed p bs)
 
 -- ---- a line
 
-abbrev pub call_onto : Line → List Call → List Call
-call_onto (lines.Call c) cs = c ∷ cs
-call_onto lines.Unreadable cs = cs
+abbrev pub call_onto : Option Call → List Call → List Call
+call_onto (Some c) cs = c ∷ cs
+call_onto None cs = cs
 
 -- [02 M100.6]
-unfoldable pub calls_in : List Line → List Call
+unfoldable pub calls_in : List (Option Call) → List Call
 calls_in [] = []
 calls_in (s ∷ ss) = call_onto s (calls_in ss)
 
@@ -46,17 +45,17 @@ calls_in (s ∷ ss) = call_onto s (calls_in ss)
 abbrev pub numbers_shown : ℕ → Outcome → List ℕ
 numbers_shown n o = line_shown (n ∷ o.number ∷ o.value ∷ o.count ∷ take o.count o.log)
 
-abbrev pub answer_to : ℕ → Line → Lent → List ℕ
-answer_to n (lines.Call c) x = numbers_shown n (outcome_on c x)
-answer_to n lines.Unreadable x = line_shown (n ∷ [])
+abbrev pub answer_to : ℕ → Option Call → Lent → List ℕ
+answer_to n (Some c) x = numbers_shown n (outcome_on c x)
+answer_to n None x = line_shown (n ∷ [])
 
 -- [02 M100.4]
-abbrev pub passed_on : Line → Lent → Lent
-passed_on (lines.Call c) x = after c x
-passed_on lines.Unreadable x = x
+abbrev pub passed_on : Option Call → Lent → Lent
+passed_on (Some c) x = after c x
+passed_on None x = x
 
 -- [02 M100.2]
-unfoldable pub answers_from : ℕ → List Line → Lent → List ℕ
+unfoldable pub answers_from : ℕ → List (Option Call) → Lent → List ℕ
 answers_from n [] x = []
 answers_from n (s ∷ ss) x = answer_to n s x ++ answers_from (suc n) ss (passed_on s x)
 

@@ -9,7 +9,7 @@ use lib.Seq.{take_all, length-take-le}
 use Rattle.std.proofs.lemmas.Slice.{take-put_mid}
 use Rattle.record_lines.specs.Bytes.{index_of}
 use Rattle.record_lines.specs.Lines.{line_feed, line_room}
-use Rattle.record_lines.proofs.LinesLaws.{cut_at, cut-stops}
+use Rattle.record_lines.proofs.LinesLaws.{cut_at, cut-few, cut-stops}
 use Rattle.record_lines.proofs.held.HeldLine.cut.Goals as goal
 
 pub returns : goal.returns
@@ -32,7 +32,9 @@ returns c =
     ∙ ap (λ (ys : List ℕ). take had room ++ ys)
     (c.copy_from_slice.ensures.after ∙ ap (λ (k : ℕ). take k (drop from chunk)) (omega arith))
     ∙ ap (λ (xs : List ℕ). xs ++ take n (drop from chunk)) c.self.view_is in
+    let short : length p ≤ line_room = omega (arith, whole, c.self.invariant) in
     record {
-      cut_at = cut_at chunk from _ c.requires found p n (omega (arith, whole, c.self.invariant)) copied _ held;
+      cut_at = cut_at chunk from _ c.requires found p n short copied _ held;
+      few = cut-few chunk from _ c.requires found p n short copied _ held;
       at_value = cut-stops chunk from _ c.requires found;
     }
