@@ -73,8 +73,8 @@ fn take(rt: &HostRuntime, chunk: &mut [u8; PIECE], line: &mut HeldLine, from: Pl
     }
 }
 
-// A proved loop has to end, and nothing says that the input does. So the loop counts its turns, up to a number
-// that no run uses up.
+// A proved loop has to end, and nothing says that the input does. So the loop counts its turns, up to a
+// number that no run uses up.
 fn main(rt: HostRuntime) {
     let mut state = [0u32; STATE_ROOM];
     let mut log = [0u32; LOG_ROOM];

@@ -45,7 +45,8 @@ module _ (p : List ℕ) (n : ℕ) (x : Lent) where
       unfolding said_after
       said-one =
           said-append bs (line_feed ∷ []) p
-          ∙ ap (λ (ss : List (Option Call)). ss ++ said_after (rest_by line_feed p bs) (line_feed ∷ [])) said-none
+          ∙ ap (λ (ss : List (Option Call)). ss ++ said_after (rest_by line_feed p bs) (line_feed ∷ []))
+          said-none
           ∙ ap (map line_of) (ended-end line_feed (rest_by line_feed p bs) line_feed refl)
           ∙ ap (λ (s : Option Call). s ∷ []) (sym (ap line_of line ∙ kept-says (rest_by line_feed p bs)))
 

@@ -12,8 +12,8 @@ use record_replay::Run;
 use sizes::BLOCK_SIZE;
 use std::io::{Read, Write};
 
-// A proved loop has to end, and nothing says that the input does. So the loop counts its turns, up to a number
-// that no run uses up; a turn has at most 65,536 lines, so that the number of a line has 64 bits.
+// A proved loop has to end, and nothing says that the input does. So the loop counts its turns, up to a
+// number that no run uses up; a turn has at most 65,536 lines, so that the number of a line has 64 bits.
 const MOST_TURNS: u64 = 140737488355328;
 
 fn write(rt: &HostRuntime, out: &Answers<PIECE>) -> Result<(), Fault> {

@@ -1,5 +1,5 @@
--- `record_answer::answers::Answers::put_number` meets its contract: the number is put, and the end of the line
--- behind it. Assumes nothing.
+-- `record_answer::answers::Answers::put_number` meets its contract: the number is put, and the end of the
+-- line behind it. Assumes nothing.
 use Rattle.record_answer.proofs.ShownLaws.{number-put}
 use Rattle.record_answer.proofs.answers.Answers.put_number.Goals as goal
 

@@ -16,7 +16,8 @@ pub loop-at-init : goal.loop-at-init
 loop-at-init g c =
     let whole : gone_on [] c.args.self.now ≡ c.args.self.now =
     rw (← c.self.view_is) (gone-none _ (kept-few _ c.self.invariant)) in
-    rw c.clear.ensures (went-none c.args.chunk.now c.args.from c.args.self.now [] c.requires.1 whole, inr refl)
+    rw c.clear.ensures
+    (went-none c.args.chunk.now c.args.from c.args.self.now [] c.requires.1 whole, inr refl)
 
 pub one-at-requires : goal.one-at-requires
 one-at-requires g c =
