@@ -1,7 +1,7 @@
 -- The table of calls: bytes that are the same, the rows with so many numbers, and what the code finds of a
 -- line. Assumes nothing.
 use Prim.Native.Nat.{ℕ, ◌≤◌, ◌<◌, ◌^◌}
-use mathlib.Core.Path.{◌≡◌, refl, sym, ap, ap₂, ◌∙◌}
+use mathlib.Core.Path.{◌≡◌, refl, sym, ap, ap₂, subst, ◌∙◌}
 use mathlib.Core.Bool.{Bool, true, false, cond, ◌&&◌, false≢true, and-true}
 use mathlib.Core.List.{List, [], ◌∷◌}
 use native.Mathlib.Omega.{arith}
@@ -9,7 +9,7 @@ use native.Mathlib.Decide.{dec_lt}
 use borrow.Author.Tests.{eqb-true, eq-eqb, ne_eqb, leb-true, le-leb, lt-leb}
 use lib.Dec.{eqb, leb, ltb}
 use lib.ListN.{length}
-use Rattle.words.proofs.TestsLaws.{and_first, and_second, and_both, tested}
+use Rattle.words.proofs.TestsLaws.{and_first, and_second, and_both, same_truth, tested}
 use Rattle.record_lines.specs.Lines.{line_size}
 use Rattle.record_fields.specs.Fields.{name_of, texts_of, are_numbers, numbers_of, numbers_in}
 use Rattle.record_fields.specs.Fields.{most_numbers}
@@ -17,7 +17,6 @@ use Rattle.record_fields.proofs.CountLaws.{length-numbers, in-few, in-bad, in-ma
 use Rattle.board_call.specs.declared.Call.TheVariants as calls
 use Rattle.board_call.specs.declared.Call.{Call}
 use Rattle.std.specs.Prelude.{Option, Some, None}
-use Rattle.std.specs.Str.{bytes_eq}
 use Rattle.std.proofs.lemmas.Option.{none-some, same_Some}
 use Rattle.record_call.specs.Table.{NameRow, table, same_bytes, word_at_end, call_in, line_of}
 use Rattle.record_call.specs.Table.{first, second, third, fourth, fifth}
@@ -61,12 +60,12 @@ many-unreadable name ns many = many-in table name ns refl many
 
 -- ---- the tests of the code
 
-pub same-is : (xs ys : List ℕ) → bytes_eq xs ys ≡ same_bytes xs ys
-unfolding same_bytes
-same-is [] [] = refl
-same-is [] (y ∷ ys) = refl
-same-is (x ∷ xs) [] = refl
-same-is (x ∷ xs) (y ∷ ys) = ap (λ (t : Bool). eqb x y && t) (same-is xs ys)
+pub same-found : (b : Bool) (xs ys : List ℕ) → (b ≡ true → xs ≡ ys) × (xs ≡ ys → b ≡ true) →
+    b ≡ same_bytes xs ys
+same-found b xs ys (to, from) =
+    same_truth b (same_bytes xs ys)
+    (λ e. subst (λ zs. same_bytes xs zs ≡ true) (to e) (same-bytes-2 xs))
+    (λ e. from (same-bytes-1 xs ys e))
 
 pub and-not : (t u : Bool) → u ≡ false → (t && u) ≡ false
 and-not true u e = e
