@@ -79,12 +79,13 @@ Claim-199 =
 -- the function that reads a line gives what the line says
 unfoldable pub Claim-200 : Type 0
 Claim-200 =
-    (l : Lfts 1) (b b' : Bor (List ℕ)) (r : Option Call) → read.Learnt l (b, tt) r (b', tt) → r ≡ line_of b.now
+    (l : Lfts 1) (b b' : Bor (List ℕ)) (r : Option Call) → read.Learnt l (b, tt) r (b', tt)
+    → r ≡ line_of b.now
 
--- the function that runs a piece asks for 1,408 bytes for an answer, and no block and no answers of 2^48 words
--- or bytes; it is lent a log of 63 words and 201 bytes for a line. It goes on by the bytes that it takes, one at
--- least if there is one: block, log, saved numbers, the line so far and the number of lines are those of the
--- run, and the answers are what it prints
+-- the function that runs a piece asks for 1,408 bytes for an answer, and for no block and no answers of 2^48
+-- words or bytes; it is lent a log of 63 words and 201 bytes for a line. It goes on by the bytes that it
+-- takes, one at least if there is one: block, log, saved numbers, the line so far and the number of lines are
+-- those of the run, and the answers are what it prints
 unfoldable pub Claim-201 : Type 0
 Claim-201 =
     ((W R : ℕ) (w : Fits w64 W) (v : Fits w64 R) (l : Lfts 5) (h h' : MutBor Held) (c c' : Bor (List ℕ))
