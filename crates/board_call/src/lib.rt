@@ -5,7 +5,7 @@ mod blocks;
 mod numbers;
 
 pub use blocks::{check, lengths};
-pub use numbers::{check_numbers, is_file, is_move, is_page_address, is_wire, kind_of};
+pub use numbers::{check_numbers, is_file, is_move, is_page_address, is_wire, kind_of, known_kind};
 
 // One case for each call, with its numbers.
 // [01 B11 C1 V2]

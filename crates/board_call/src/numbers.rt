@@ -55,17 +55,27 @@ pub fn is_page_address(address: u64) -> bool
     (address % 4 == 0) & (address < 4096)
 }
 
-// Reading is 0, writing 1, setting bits 2 and clearing them 3; there is no other kind.
+// Reading is 0, writing 1, setting bits 2; of the kinds that there are the last, 3, clears them.
 #[tactic(auto, unfolding(crate::specs::Change::kind_of))]
-pub fn kind_of(kind: u64) -> Result<Access, Refusal>
-    ensures { result ≡ cond (ltb kind 4) (Ok (kind_of kind)) (Err NoSuch) }
+pub fn kind_of(kind: u64) -> Access
+    ensures { result ≡ kind_of kind }
 {
     match kind {
-        0 => Ok(Access::Read),
-        1 => Ok(Access::Write),
-        2 => Ok(Access::Set),
-        3 => Ok(Access::Clear),
-        _ => Err(Refusal::NoSuch),
+        0 => Access::Read,
+        1 => Access::Write,
+        2 => Access::Set,
+        _ => Access::Clear,
+    }
+}
+
+// The same, where there is such a kind.
+pub fn known_kind(kind: u64) -> Result<Access, Refusal>
+    ensures { result ≡ cond (ltb kind 4) (Ok (kind_of kind)) (Err NoSuch) }
+{
+    if kind < 4 {
+        Ok(kind_of(kind))
+    } else {
+        Err(Refusal::NoSuch)
     }
 }
 

@@ -3,7 +3,7 @@ ghost use Rattle.board_call.specs.declared.Call.TheVariants as the;
 ghost use Rattle.board_call.specs.Outcome.{Does};
 
 use super::block_file::{load_file, store_file};
-use board_call::{Answer, Done, check, check_numbers, is_file, kind_of};
+use board_call::{Answer, Done, check, check_numbers, is_file, known_kind};
 use file_select::select_legal;
 use sizes::{BLOCK_SIZE, FIRST_GUEST};
 
@@ -21,7 +21,7 @@ pub fn register(
         state.new log.new }
 {
     check(state, log)?;
-    let access = kind_of(kind)?;
+    let access = known_kind(kind)?;
     check_numbers(is_file(hart, file), true, select_legal(select))?;
     let state = state.as_mut_array::<BLOCK_SIZE>().unwrap();
     let f = load_file(state, hart, file);

@@ -1,6 +1,5 @@
 -- `board_call::numbers::check_numbers` meets its contract: test by test. Assumes nothing.
 use mathlib.Core.Path.{sym}
-use Rattle.board_call.specs.Calls.{numbered}
 use Rattle.board_call.proofs.RefusalLaws.{refused-name, refused-address, refused-select, numbers-name}
 use Rattle.board_call.proofs.numbers.check_numbers.Goals as goal
 

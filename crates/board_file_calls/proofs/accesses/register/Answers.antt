@@ -17,13 +17,13 @@ returns-in_err-check c =
 pub returns-in_err-access : goal.returns-in_err-access
 returns-in_err-access c =
     let none = passed-case _ _ c.check.ensures.told c.in_ok-check.was in
-    register-no_kind _ _ none _ _ _ _ _ _ c.kind_of.ensures c.in_err-access.was _
+    register-no_kind _ _ none _ _ _ _ _ _ c.known_kind.ensures c.in_err-access.was _
     c.from_residual-in_err-access.ensures.1
 
 pub returns-in_err-check_numbers : goal.returns-in_err-check_numbers
 returns-in_err-check_numbers c =
     let none = passed-case _ _ c.check.ensures.told c.in_ok-check.was in
-    let kind = kind-read _ _ c.kind_of.ensures c.in_ok-access.was in
+    let kind = kind-read _ _ c.known_kind.ensures c.in_ok-access.was in
     tests-failed (tests-register _ _ _ _ _) _ _ none (with-kind _ _ _ kind.0 _ c.is_file.ensures) refl
     c.select_legal.ensures _ c.check_numbers.ensures c.in_err-check_numbers.was _
     c.from_residual-in_err-check_numbers.ensures.1
@@ -31,7 +31,7 @@ returns-in_err-check_numbers c =
 pub load_file-f-requires : goal.load_file-f-requires
 load_file-f-requires c =
     let none = passed-case _ _ c.check.ensures.told c.in_ok-check.was in
-    let kind = kind-read _ _ c.kind_of.ensures c.in_ok-access.was in
+    let kind = kind-read _ _ c.known_kind.ensures c.in_ok-access.was in
     let passed = tests-passed (tests-register _ _ _ _ c.args.value) _ _ none
     (with-kind _ _ _ kind.0 _ c.is_file.ensures) refl c.select_legal.ensures _ c.check_numbers.ensures
     c.in_ok-check_numbers.was in
@@ -40,7 +40,7 @@ load_file-f-requires c =
 pub store_file-requires : goal.store_file-requires
 store_file-requires c =
     let none = passed-case _ _ c.check.ensures.told c.in_ok-check.was in
-    let kind = kind-read _ _ c.kind_of.ensures c.in_ok-access.was in
+    let kind = kind-read _ _ c.known_kind.ensures c.in_ok-access.was in
     let passed = tests-passed (tests-register _ _ _ _ c.args.value) _ _ none
     (with-kind _ _ _ kind.0 _ c.is_file.ensures) refl c.select_legal.ensures _ c.check_numbers.ensures
     c.in_ok-check_numbers.was in
@@ -50,7 +50,7 @@ pub returns : goal.returns
 returns c =
     let lent : c.unwrap-state.result.now ≡ c.args.state.now = search rules in
     let none = passed-case _ _ c.check.ensures.told c.in_ok-check.was in
-    let kind = kind-read _ _ c.kind_of.ensures c.in_ok-access.was in
+    let kind = kind-read _ _ c.known_kind.ensures c.in_ok-access.was in
     let passed = tests-passed (tests-register _ _ _ _ c.args.value) _ _ none
     (with-kind _ _ _ kind.0 _ c.is_file.ensures) refl c.select_legal.ensures _ c.check_numbers.ensures
     c.in_ok-check_numbers.was in
