@@ -51,7 +51,8 @@ module _ (c : Call) (l g : List ℕ) where
 
 module _ (c : Call) (l g : List ℕ) where
   -- e is what the test of the blocks refused with
-  pub gives-blocks : (e : Refusal) → told_number e ≡ block_refusal (tests_rules c) l g → Does c l g (Err e) l g
+  pub gives-blocks : (e : Refusal) → told_number e ≡ block_refusal (tests_rules c) l g
+      → Does c l g (Err e) l g
   gives-blocks e said =
       gives-number c l g e (refused-blocks (row_of c).tests l g (told_number e) said (refused-case e))
 

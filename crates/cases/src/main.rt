@@ -92,9 +92,7 @@ fn main(rt: HostRuntime) {
         let held = line.bytes();
         if matches!(next, Next::Line(_)) || matches!(next, Next::End) && !held.is_empty() {
             number += 1;
-            lent = lines::end_line(
-                &rt, &mut state, &mut log, &mut saved, held, number, lent,
-            );
+            lent = lines::end_line(&rt, &mut state, &mut log, &mut saved, held, number, lent);
             line.clear();
         }
         match next {

@@ -10,7 +10,7 @@ use file::File;
 use sizes::{ENABLE_PLACE, FILE_SET_SIZE, PENDING_PLACE, THRESHOLD_PLACE};
 
 // Word by word, here and in `put_eight`: a copy of a part of a lent block, whose place the compiler does not
-// know, goes byte by byte on RISC-V, and with a loop the code of a register's access is a quarter longer there.
+// know, goes byte by byte on RISC-V, and with a loop a register's access has a quarter more code there.
 fn eight(block: &[u32], at: usize) -> [u32; FILE_SET_SIZE]
     requires { at + file_set_size ≤ length block.now }
     ensures { result ≡ take file_set_size (drop at block.now) }

@@ -52,6 +52,12 @@ impl<const WORDS: usize> Lent<WORDS> {
             return;
         };
         let answer = numbers(board::apply(&mut self.state, &mut self.log, &mut self.saved, call));
-        out.put_answer(number, answer.refusal, answer.value, answer.count, &self.log);
+        out.put_answer(
+            number,
+            answer.refusal,
+            answer.value,
+            answer.count,
+            &self.log,
+        );
     }
 }

@@ -41,7 +41,12 @@ impl<const WORDS: usize> Run<WORDS> {
     }
 
     // The rest of a line from `from` on, or of the piece, and where it ends.
-    fn one<const ROOM: usize>(&mut self, chunk: &[u8], from: usize, out: &mut Answers<ROOM>) -> usize
+    fn one<const ROOM: usize>(
+        &mut self,
+        chunk: &[u8],
+        from: usize,
+        out: &mut Answers<ROOM>,
+    ) -> usize
         requires room { length out.old + answer_room ≤ ROOM }
         requires more { (from < length chunk.now) × (self.old.number + 1 < 2 ^ 64) }
         ensures went { Went chunk.now from self.old out.old result self.new out.new }
@@ -58,7 +63,12 @@ impl<const WORDS: usize> Run<WORDS> {
     }
 
     // The lines of a piece from `from` on, until it is used up or out has no room for an answer.
-    pub fn some<const ROOM: usize>(&mut self, chunk: &[u8], from: usize, out: &mut Answers<ROOM>) -> usize
+    pub fn some<const ROOM: usize>(
+        &mut self,
+        chunk: &[u8],
+        from: usize,
+        out: &mut Answers<ROOM>,
+    ) -> usize
         requires { (answer_room ≤ ROOM) × (from ≤ length chunk.now)
             × (self.old.number + (length chunk.now - from) < 2 ^ 64) }
         ensures went { Went chunk.now from self.old [] result self.new out.new }

@@ -5,8 +5,8 @@ ghost use Rattle.record_lines.specs.Lines.{last_of};
 ghost use Rattle.record_call.specs.Table.{line_of};
 ghost use Rattle.record_runs.specs.Replay.{calls_in, gone_on};
 
-use crate::fault::Fault;
 use crate::PIECE;
+use crate::fault::Fault;
 use record_answer::Answers;
 use record_replay::Run;
 use sizes::BLOCK_SIZE;
@@ -17,7 +17,9 @@ use std::io::{Read, Write};
 const MOST_TURNS: u64 = 140737488355328;
 
 fn write(rt: &HostRuntime, out: &Answers<PIECE>) -> Result<(), Fault> {
-    rt.stdout().write_all(out.bytes()).map_err(|_| Fault::Output)
+    rt.stdout()
+        .write_all(out.bytes())
+        .map_err(|_| Fault::Output)
 }
 
 // One piece, and its answers, which are written each time that there is no room for more.

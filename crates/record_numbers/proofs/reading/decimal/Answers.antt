@@ -28,12 +28,11 @@ returns-in_err-value c =
     (sym (c.loop-byte.invariant.1 ∙ from-beyond _ _ _ c.loop-byte-test.true (search rules)))
 
 pub loop-byte-preserved : goal.loop-byte-preserved
-loop-byte-preserved c =
-    (
-      search rules,
-      c.loop-byte.invariant.1
-          ∙ from-digit _ _ _ c.loop-byte-test.true (omega arith) (omega arith) ∙ search rules,
-    )
+loop-byte-preserved c = (
+  search rules,
+  c.loop-byte.invariant.1
+      ∙ from-digit _ _ _ c.loop-byte-test.true (omega arith) (omega arith) ∙ search rules,
+)
 
 pub returns : goal.returns
 returns c = sym (c.loop-byte.invariant.1 ∙ from_end _ _ _ c.loop-byte-test.false c.loop-byte.invariant.0)
