@@ -2,18 +2,16 @@
 -- byte, and what is put together of such parts is parted into them. No axioms.
 --   Lacks b t      no byte of t is b
 --   glued b ls r   the parts ls, each with b behind it, and then r
-use Prim.Native.Nat.{ℕ, zero, suc, ◌+◌, ◌≤◌, ◌<◌}
-use mathlib.Core.Path.{◌≡◌, refl, sym, ap, subst, ◌∙◌}
+use Prim.Native.Nat.{ℕ, zero, suc, ◌<◌}
+use mathlib.Core.Path.{◌≡◌, refl, sym, ap, ◌∙◌}
 use mathlib.Core.Bool.{Bool, true, false, cond}
 use mathlib.Core.Logic.{◌≢◌}
-use mathlib.Core.List.{List, [], ◌∷◌, ◌++◌, append-nil, append_assoc}
+use mathlib.Core.List.{List, [], ◌∷◌, ◌++◌, append-nil}
 use native.Mathlib.Omega.{arith}
-use native.Mathlib.Decide.{dec_lt}
 use borrow.Author.Tests.{ne_eqb, eq-eqb, eqb-false, eqb-true}
 use lib.Dec.{eqb}
-use lib.ListN.{length, get_or, length-append, get_or-append}
-use lib.Seq.{get_or-append-add, append_snoc}
-use Rattle.words.proofs.TestsLaws.{tested}
+use lib.ListN.{length, get_or}
+use lib.Seq.{append_snoc}
 use Rattle.record_lines.specs.Parted.{ended_by, rest_by}
 
 module _ (b : ℕ) where

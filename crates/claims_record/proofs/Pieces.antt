@@ -3,7 +3,7 @@ use Prim.Native.Nat.{ℕ, suc, ◌+◌}
 use mathlib.Core.Path.{◌≡◌, refl, sym, ap, ap₂, ◌∙◌}
 use mathlib.Core.List.{List, [], ◌∷◌, ◌++◌, map, map-append}
 use native.Mathlib.Omega.{arith}
-use lib.ListN.{length, take, length-append, length-map}
+use lib.ListN.{length, length-append, length-map}
 use Rattle.record_lines.specs.Parted.{ended_by, rest_by}
 use Rattle.record_lines.specs.Lines.{line_feed, kept, lines_of, last_of}
 use Rattle.record_lines.proofs.LinesLaws.{kept-kept, kept-none}
@@ -11,7 +11,7 @@ use Rattle.record_call.specs.Table.{line_of}
 use Rattle.record_runs.specs.Replay.{said_in, said_after, calls_in, answers_from, Held, gone_on, printed_by}
 use Rattle.record_runs.proofs.SaidLaws.{kept-says, calls-append, answers-append}
 use Rattle.record_runs.proofs.RunLaws.{gone-both, printed-both, gone-none, printed-none}
-use Rattle.board_runs.specs.Runs.{Lent, ran}
+use Rattle.board_runs.specs.Runs.{ran}
 use Rattle.board_runs.specs.Ready.{at_reset}
 use Rattle.board_runs.proofs.RunsEffects.{ran_append}
 use Rattle.claims_record.specs.Lines.{together, begun, after_pieces, printed_in, finished}

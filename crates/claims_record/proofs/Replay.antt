@@ -1,11 +1,9 @@
 -- Claims 197 to 200. No axioms.
-use Prim.Native.Nat.{ℕ, zero, suc, ◌+◌, ◌^◌, ◌≤◌, ◌<◌}
-use mathlib.Core.Path.{◌≡◌, refl, sym, ap, ap₂, subst, ◌∙◌}
-use mathlib.Core.Logic.{◌⊎◌, inl, inr}
-use mathlib.Core.List.{List, [], ◌∷◌, ◌++◌, map, append-nil, append_assoc}
+use Prim.Native.Nat.{ℕ, suc}
+use mathlib.Core.Path.{◌≡◌, refl, sym, ap, ◌∙◌}
+use mathlib.Core.List.{List, [], ◌∷◌, ◌++◌, map, append_assoc}
 use native.Mathlib.Omega.{arith}
-use borrow.Author.Rules.{rules}
-use lib.ListN.{length, get_or, length-map}
+use lib.ListN.{length, length-map}
 use mathlib.Core.Bool.{true}
 use Rattle.record_numbers.specs.Decimal.{all_digits, text_of}
 use Rattle.record_numbers.proofs.TextLaws.{text-digits, digit-member}
@@ -15,10 +13,10 @@ use Rattle.record_fields.specs.Fields.{tab, fields_of}
 use Rattle.record_call.specs.Table.{line_of}
 use Rattle.record_answer.specs.Shown.{fields_shown, line_shown}
 use Rattle.record_answer.proofs.ShownLaws.{line-fields}
-use Rattle.record_runs.specs.Replay.{said_in, calls_in, call_onto, answers_from, answer_to, passed_on}
+use Rattle.record_runs.specs.Replay.{said_in, calls_in, answers_from, answer_to, passed_on}
 use Rattle.record_runs.proofs.SaidLaws.{calls-append, ran_line}
 use Rattle.board_call.specs.declared.Call.{Call}
-use Rattle.board_runs.specs.Runs.{Lent, after, ran}
+use Rattle.board_runs.specs.Runs.{Lent, ran}
 use Rattle.board_runs.specs.Ready.{at_reset}
 use Rattle.board_runs.proofs.StartEffects.{after-reset}
 use Rattle.claims_record.specs.Replay.{line_by_line, told, fields_told, Claim-197, Claim-198}
@@ -141,12 +139,9 @@ claim-200 l b b' r given = given
 pub claim-201 : Claim-201
 unfolding Claim-201
 claim-201 = (
-  (λ W R w v l h h' c c' i e o o'. (
-    (λ block room out at number. (
-      (λ a m. search rules),
-      ((λ a m. search rules), (omega (arith, block), (omega (arith, room), (out, at, number)))),
-    )),
-    (λ given. (given.0, given.1)),
+  (λ l b b' g g' s s' n n' c c' o o' f r. (
+    (λ out at number. (out, at, number)),
+    (λ given. (given.0, given.1.1, given.1.0.0)),
   )),
   (λ xs i e h h' a d. (
     (λ w. (w.start, w.end, w.held, w.printed)),

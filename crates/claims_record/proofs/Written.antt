@@ -1,15 +1,14 @@
 -- Claims 192 and 193: a line is its fields, put together with tabs, and the table says which call they
 -- are. No axioms.
-use Prim.Native.Nat.{ℕ, zero, suc, ◌+◌, ◌*◌, ◌^◌, ◌≤◌, ◌<◌}
-use mathlib.Core.Path.{◌≡◌, refl, sym, ap, ap₂, subst, ◌∙◌}
-use mathlib.Core.Bool.{Bool, true, false, cond, ◌&&◌, not}
-use mathlib.Core.Logic.{◌≢◌}
+use Prim.Native.Nat.{ℕ, suc, ◌*◌, ◌^◌, ◌≤◌, ◌<◌}
+use mathlib.Core.Path.{◌≡◌, refl, sym, ap, subst, ◌∙◌}
+use mathlib.Core.Bool.{Bool, true, cond, ◌&&◌, not}
 use mathlib.Core.List.{List, [], ◌∷◌, ◌++◌, append-nil, map}
 use native.Mathlib.Omega.{arith}
 use borrow.Author.Tests.{le-leb, leb-true, eqb-false, not-true}
 use lib.Dec.{eqb, leb}
 use lib.ListN.{length, get_or, length-append}
-use Rattle.words.proofs.TestsLaws.{tested, and_first, and_second, and_both}
+use Rattle.words.proofs.TestsLaws.{tested, and_first, and_second}
 use Rattle.record_numbers.specs.Decimal.{text_of}
 use Rattle.record_numbers.proofs.TextLaws.{text-le}
 use Rattle.record_lines.specs.Parted.{ended_by, rest_by}
@@ -20,7 +19,7 @@ use Rattle.record_call.specs.Table.{table, call_in, line_of}
 use Rattle.board_call.specs.declared.Call.{Call}
 use Rattle.board_call.specs.declared.Call.TheVariants.{Reset, Wire, DomainRead, DomainWrite, PageRead}
 use Rattle.board_call.specs.declared.Call.TheVariants.{PageWrite, Register, Top, Claim, Signals, Move}
-use Rattle.claims_record.specs.Written.{Decimal, Spelled, call_name, call_numbers, WordsSmall}
+use Rattle.claims_record.specs.Written.{Decimal, Spelled, call_name, call_numbers}
 use Rattle.claims_record.specs.Written.{behind_tabs, Written}
 use Rattle.claims_record.specs.Written.{Claim-192, Claim-193}
 use Rattle.claims_record.proofs.PartsLaws.{Lacks, AllLack, lacks-none, lacks-cons, glued, glued-parts}

@@ -10,7 +10,6 @@ use Rattle.std.specs.Prelude.{length, take, replicate}
 use Rattle.std.proofs.Math.Seq.{slice}
 use contract.Lifetimes.{Lfts}
 use Rattle.std.specs.Borrow.{Bor, MutBor}
-use Rattle.std.proofs.Common.{Fits, w64}
 use Rattle.sizes.specs.Sizes.{block_size, log_size}
 use Rattle.record_numbers.specs.Decimal.{text_of}
 use Rattle.record_lines.specs.Lines.{line_room, lines_of}
@@ -21,10 +20,11 @@ use Rattle.board_runs.specs.Ready.{at_reset}
 use Rattle.board_call.specs.declared.Call.{Call}
 use Rattle.board_call.specs.declared.Call.TheVariants.{Reset}
 use Rattle.board_runs.specs.Runs.{Lent, outcome_on, after, ran}
-use Rattle.record_replay.specs.Pieces.{Went}
+use Rattle.record_replay.specs.declared.pieces.Run.{Run}
+use Rattle.record_replay.specs.Pieces.{held_at, Went}
 use Rattle.record_answer.specs.Shown.{answer_room}
 use Rattle.record_call.proofs.read.Reads as read
-use Rattle.record_replay.proofs.run.Run.some.Reads as some
+use Rattle.record_replay.proofs.some.Reads as some
 use Rattle.std.specs.Prelude.{Option, Some, None}
 
 abbrev pub line_by_line : List (List ℕ) → Lent → Lent
@@ -82,18 +82,20 @@ Claim-200 =
     (l : Lfts 1) (b b' : Bor (List ℕ)) (r : Option Call) → read.Learnt l (b, tt) r (b', tt)
     → r ≡ line_of b.now
 
--- the function that runs a piece asks for 1,408 bytes for an answer, and for no block and no answers of 2^48
--- words or bytes; it is lent a log of 63 words and 201 bytes for a line. It goes on by the bytes that it
--- takes, one at least if there is one: block, log, saved numbers, the line so far and the number of lines are
--- those of the run, and the answers are what it prints
+-- the function that runs a piece asks for 1,408 bytes for an answer; it is lent a log of 63 words, and holds
+-- at most 201 bytes of a line. It goes on by the bytes that it takes, one at least if there is one: block,
+-- log, saved numbers, the line so far and the number of lines are those of the run, and the answers are what
+-- it prints
 unfoldable pub Claim-201 : Type 0
 Claim-201 =
-    ((W R : ℕ) (w : Fits w64 W) (v : Fits w64 R) (l : Lfts 5) (h h' : MutBor Held) (c c' : Bor (List ℕ))
-    (i e : ℕ) (o o' : MutBor (List ℕ))
-    → (W < 2 ^ 48 → R < 2 ^ 48 → 1408 ≤ R → i ≤ length c.now → h.now.number + (length c.now - i) < 2 ^ 64
-    → some.Asked W R w v l (h, (c, (i, (o, tt)))))
-    × (some.Learnt W R w v l (h, (c, (i, (o, tt)))) e (h', (c', (i, (o', tt))))
-    → Went c.now i h.now [] e h'.now o'.now × (i < length c.now → i < e)))
+    ((l : Lfts 6) (b b' g g' s s' n n' : MutBor (List ℕ)) (c c' : Bor (List ℕ)) (o o' : MutBor (List ℕ))
+    (f r : Run)
+    → (1408 ≤ length o.now → f.at ≤ length c.now → f.number + (length c.now - f.at) < 2 ^ 64
+    → some.Asked l (b, (g, (s, (n, (c, (o, (f, tt))))))))
+    × (some.Learnt l (b, (g, (s, (n, (c, (o, (f, tt))))))) r (b', (g', (s', (n', (c', (o', (f, tt)))))))
+    → Went c.now f.at (held_at b.now g.now s.now n.now f.number) []
+    r.at (held_at b'.now g'.now s'.now n'.now r.number) (take r.used o'.now)
+    × (f.at < length c.now → f.at < r.at) × (length n'.now ≤ 201)))
     × ((xs : List ℕ) (i e : ℕ) (h h' : Held) (a d : List ℕ) → Went xs i h a e h' d
     ↔ ((i ≤ e) × (e ≤ length xs) × (h' ≡ gone_on (slice i e xs) h) × (d ≡ a ++ printed_by (slice i e xs) h)))
     × (log_size ≡ 63) × (line_room ≡ 201) × (answer_room ≡ 1408)

@@ -3,8 +3,7 @@
 --   fields-append, fields-one    the fields of two lists of numbers, and of one number
 --   line-one, line-fields        a line of one number, and of more
 --   fields_le, line-le           how many bytes they take at most
---   put_then                     one stretch behind another
---   field-put, number-put        a field and a line of one number, from what was put one behind the other
+--   put_byte, put_then           one byte behind others, and one stretch behind another
 --   answer-then                  the line of an answer, from what was put one behind the other
 --   words-none, words_more       the first words of a log as fields: none, and one more
 --   words-least                  no more of them than there are
@@ -14,8 +13,8 @@ use mathlib.Core.List.{List, [], ◌∷◌, ◌++◌, append-nil, append_assoc}
 use native.Mathlib.Decide.{dec_lt}
 use native.Mathlib.Omega.{arith}
 use native.Mathlib.Numerals.{add-one}
-use lib.ListN.{length, take, get_or, length-append}
-use lib.Seq.{take-suc, take_all, take-length}
+use lib.ListN.{length, take, set, get_or, length-append}
+use lib.Seq.{take-suc, take-suc-set, take_all, take-length}
 use Rattle.record_numbers.specs.Decimal.{text_of}
 use Rattle.record_numbers.proofs.TextLaws.{text-le}
 use Rattle.record_lines.specs.Lines.{line_feed}
@@ -55,26 +54,20 @@ line-le n ns = simp length-append (omega (arith, text-le n, fields_le ns))
 
 -- ---- bytes behind bytes
 
+pub put_byte : (l : List ℕ) (i b : ℕ) → i < length l → take (i + 1) (set l i b) ≡ take i l ++ (b ∷ [])
+put_byte l i b h = rw (add-one, take-suc-set)
+
 pub put_then : (xs bs cs : List ℕ) {ys zs : List ℕ} → ys ≡ xs ++ bs → zs ≡ ys ++ cs → zs ≡ xs ++ (bs ++ cs)
 put_then xs bs cs e f = f ∙ rw e (append_assoc xs bs cs)
 
--- a number behind a tab
-pub field-put : (xs : List ℕ) (n : ℕ) {ys zs : List ℕ} → ys ≡ xs ++ tab ∷ [] → zs ≡ ys ++ text_of n
-    → zs ≡ xs ++ fields_shown (n ∷ [])
-field-put xs n e f = rw fields-one (put_then xs (tab ∷ []) (text_of n) e f)
-
-pub fields-then : (xs ms ns : List ℕ) {ys zs : List ℕ} → ys ≡ xs ++ fields_shown ms
-    → zs ≡ ys ++ fields_shown ns → zs ≡ xs ++ fields_shown (ms ++ ns)
+fields-then : (xs ms ns : List ℕ) {ys zs : List ℕ} → ys ≡ xs ++ fields_shown ms → zs ≡ ys ++ fields_shown ns
+    → zs ≡ xs ++ fields_shown (ms ++ ns)
 fields-then xs ms ns e f = rw fields-append (put_then xs (fields_shown ms) (fields_shown ns) e f)
 
 line-then : (xs : List ℕ) (n : ℕ) (ns : List ℕ) {ys zs ls : List ℕ} → ys ≡ xs ++ text_of n
     → zs ≡ ys ++ fields_shown ns → ls ≡ zs ++ (line_feed ∷ []) → ls ≡ xs ++ line_shown (n ∷ ns)
 line-then xs n ns {ys} e f g =
     rw line-fields (put_then xs (text_of n) _ e (put_then ys (fields_shown ns) (line_feed ∷ []) f g))
-
-pub number-put : (xs : List ℕ) (n : ℕ) {ys ls : List ℕ} → ys ≡ xs ++ text_of n → ls ≡ ys ++ (line_feed ∷ [])
-    → ls ≡ xs ++ line_shown (n ∷ [])
-number-put xs n e f = rw line-one (put_then xs (text_of n) (line_feed ∷ []) e f)
 
 -- the line of an answer: its number, refusal, value, count and messages, and the end
 pub answer-then : (xs : List ℕ) (n f v k : ℕ) (ms : List ℕ) {ys fs vs ks zs ls : List ℕ}
@@ -86,7 +79,7 @@ answer-then xs n f v k ms {ys} numbered refused valued counted logged ended =
     let three = fields-then ys (f ∷ v ∷ []) (k ∷ []) two counted in
     line-then xs n (f ∷ v ∷ k ∷ ms) numbered (fields-then ys (f ∷ v ∷ k ∷ []) ms three logged) ended
 
--- ---- the words of a log
+-- ---- the first words of a log
 
 pub words-none : (l ws : List ℕ) → l ≡ l ++ fields_shown (take 0 ws)
 unfolding fields_shown

@@ -1,8 +1,8 @@
 // A record that is run: a line, and the lines of a piece of bytes.
 #![tactic(auto)]
 
-mod lent;
-mod run;
+mod line;
+mod pieces;
 
-pub use lent::Lent;
-pub use run::Run;
+pub use line::end_line;
+pub use pieces::{Run, some};

@@ -3,12 +3,12 @@
 #![tactic(auto)]
 
 mod fault;
+mod shift;
 mod turns;
 
 use fault::Fault;
-use record_answer::Answers;
-use record_replay::{Lent, Run};
-use sizes::BLOCK_SIZE;
+use shift::Shift;
+use sizes::{BLOCK_SIZE, LOG_SIZE};
 
 // How many bytes are read at once at most, and how many of answers are held.
 const PIECE: usize = 65536;
@@ -19,12 +19,13 @@ fn tell(rt: &HostRuntime, fault: Fault, number: u64) {
 }
 
 fn main(rt: HostRuntime) {
-    let mut lent: Lent<BLOCK_SIZE> = Lent::new();
-    let _ = board_hart_calls::reset(&mut lent.state, &mut lent.log);
-    let mut run = Run::new(lent);
+    let mut state = [0u32; BLOCK_SIZE];
+    let mut log = [0u32; LOG_SIZE];
+    let _ = board_hart_calls::reset(&mut state, &mut log);
+    let mut shift = Shift::new(state, log);
     let mut chunk = [0u8; PIECE];
-    let mut out = Answers::new();
-    if let Err(fault) = turns::run_all(&rt, &mut run, &mut chunk, &mut out) {
-        tell(&rt, fault, run.number);
+    let mut out = [0u8; PIECE];
+    if let Err(fault) = turns::run_all(&rt, &mut shift, &mut chunk, &mut out) {
+        tell(&rt, fault, shift.number);
     }
 }

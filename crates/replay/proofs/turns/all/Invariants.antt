@@ -3,4 +3,4 @@ use Prim.Native.Nat.{◌*◌, ◌^◌, ◌≤◌}
 use Rattle.replay.proofs.turns.all.Given as goal
 
 abbrev pub invariant-loop : goal.invariant-loop
-invariant-loop l = l.run.number ≤ l.counter * 2 ^ 16
+invariant-loop l = l.shift.number ≤ l.counter * 2 ^ 16

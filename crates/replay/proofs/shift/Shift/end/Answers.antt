@@ -1,0 +1,19 @@
+-- `replay::shift::Shift::end` meets its contract. Assumes nothing.
+use mathlib.Core.Path.{◌≡◌, ◌∙◌}
+use mathlib.Core.Logic.{◌≢◌}
+use borrow.Author.Rules.{rules}
+use lib.ListN.{length}
+use Rattle.record_runs.proofs.RunLaws.{last_none, last_some}
+use Rattle.replay.proofs.shift.Shift.end.Goals as goal
+
+pub returns-then-is_empty-clause-lent : goal.returns-then-is_empty-clause-lent
+returns-then-is_empty-clause-lent c =
+    let none : length c.self.inside.line ≡ 0 = search rules in
+    rw (← c.self.view_is) (last_none c.self.inside.line _ none)
+
+pub returns-clause-lent : goal.returns-clause-lent
+returns-clause-lent c =
+    let some : length c.self.inside.line ≢ 0 = search rules in
+    rw (← c.self.view_is)
+    ((rw c.bytes-2.ensures.bytes at c.end_line.ensures.saved_after)
+    ∙ last_some c.self.inside.line _ some)
