@@ -14,10 +14,8 @@ pub(crate) fn of_words(digest: u32, words: &[u32]) -> u32
     ensures { result ≡ digest_of digest words.now }
 {
     let mut d = digest;
-    let mut i = 0;
-    while i < words.len() {
-        d = step(d, words[i]);
-        i += 1;
+    for &word in words {
+        d = step(d, word);
     }
     d
 }
@@ -27,11 +25,8 @@ pub(crate) fn of_numbers(digest: u32, numbers: &[u64]) -> u32
     ensures { result ≡ digest_of digest (halves numbers.now) }
 {
     let mut d = digest;
-    let mut i = 0;
-    while i < numbers.len() {
-        let n = numbers[i];
+    for &n in numbers {
         d = step(step(d, low32(n)), high32(n));
-        i += 1;
     }
     d
 }

@@ -10,13 +10,8 @@ fn field(rt: &HostRuntime, n: u64) {
 
 // The first words of a log, as many as there are messages.
 fn messages(rt: &HostRuntime, log: &[u32], count: u32) {
-    let mut i = 0;
-    while i < log.len() {
-        if i >= count as usize {
-            return;
-        }
-        field(rt, log[i] as u64);
-        i += 1;
+    for &word in &log[..log.len().min(count as usize)] {
+        field(rt, word as u64);
     }
 }
 

@@ -1,6 +1,6 @@
 -- A run by pieces of bytes. 02, M-100. Assumes nothing.
---   held_at l g s line n   where a run is, from what the code holds: what is lent, what is held of a line, and
---                          how many lines have ended
+--   held_at l g s line n   where a run is, from what the code holds: what is lent, what is held of a line,
+--                          and how many lines have ended
 --   Went xs f h a e h' b   from place f of xs to place e the run went on from h to h', and the answers from a
 --                          to b
 use Rattle.std.specs.Prelude.{ℕ, ◌≤◌, ◌≡◌, List, ◌++◌, length}

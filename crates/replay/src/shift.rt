@@ -75,7 +75,7 @@ impl Shift {
         run
     }
 
-    // The last line may lack its end; if it has no byte there is none. Answers how many bytes it is answered by.
+    // The last line may lack its end; if it has no byte there is none. Gives how many bytes its answer has.
     pub fn end(&mut self, out: &mut [u8; PIECE]) -> usize
         requires { self.old.number + 1 < 2 ^ 64 }
         ensures lent { self.new.lent ≡ ran (calls_in (map line_of (last_of self.old.line))) self.old.lent }

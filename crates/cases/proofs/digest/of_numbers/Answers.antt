@@ -5,14 +5,14 @@ use Rattle.cases.proofs.DigestLaws.{digest-number, digest-numbers-end}
 use borrow.Author.Rules.{rules}
 use Rattle.cases.proofs.digest.of_numbers.Goals as goal
 
-pub loop-i-preserved : goal.loop-i-preserved
-loop-i-preserved c = (
+pub loop-n-preserved : goal.loop-n-preserved
+loop-n-preserved c = (
   search rules,
-  digest-number _ _ _ c.loop-i-test.true
+  digest-number _ _ _ c.loop-n-test.true
       c.low32.ensures c.step.ensures
       c.high32.ensures c.step-d.ensures
-      ∙ c.loop-i.invariant.1,
+      ∙ c.loop-n.invariant.1,
 )
 
 pub returns : goal.returns
-returns c = sym (digest-numbers-end _ _ _ c.loop-i-test.false) ∙ c.loop-i.invariant.1
+returns c = sym (digest-numbers-end _ _ _ c.loop-n-test.false) ∙ c.loop-n.invariant.1

@@ -5,12 +5,12 @@ use Rattle.cases.proofs.DigestLaws.{digest-word, digest-end}
 use borrow.Author.Rules.{rules}
 use Rattle.cases.proofs.digest.of_words.Goals as goal
 
-pub loop-i-preserved : goal.loop-i-preserved
-loop-i-preserved c = (
+pub loop-word-preserved : goal.loop-word-preserved
+loop-word-preserved c = (
   search rules,
-  digest-word _ _ _ c.loop-i-test.true c.step-d.ensures
-      ∙ c.loop-i.invariant.1,
+  digest-word _ _ _ c.loop-word-test.true c.step-d.ensures
+      ∙ c.loop-word.invariant.1,
 )
 
 pub returns : goal.returns
-returns c = sym (digest-end _ _ _ c.loop-i-test.false) ∙ c.loop-i.invariant.1
+returns c = sym (digest-end _ _ _ c.loop-word-test.false) ∙ c.loop-word.invariant.1
