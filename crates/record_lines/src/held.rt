@@ -30,6 +30,19 @@ impl HeldLine {
         }
     }
 
+    // What was held before.
+    pub fn of(bytes: &[u8]) -> Self
+        requires { length bytes.now ≤ line_room }
+        ensures { result ≡ bytes.now }
+    {
+        let mut room = [0; LINE_ROOM];
+        room[..bytes.len()].copy_from_slice(bytes);
+        HeldLine {
+            room,
+            held: bytes.len(),
+        }
+    }
+
     pub fn bytes(&self) -> &[u8]
         ensures bytes { result.now ≡ self.now }
         ensures few { length self.now ≤ line_room }
