@@ -3,7 +3,6 @@ ghost use Rattle.std.specs.Prelude.{◌≡◌};
 ghost use Rattle.words.specs.Threshold.{passes};
 
 // The threshold lets the number through.
-#[tactic(auto, unfolding(crate::specs::Threshold::passes))]
 pub fn passes(threshold: u32, number: u32) -> bool
     ensures { result ≡ passes threshold number }
 {
