@@ -1,5 +1,7 @@
 // The numbers of a line.
-ghost use Rattle.std.specs.Prelude.{ℕ, ◌≡◌, ◌≤◌, ◌<◌, List, [], ◌∷◌, ◌++◌, length, take, OnSome, MatchOption};
+ghost use Rattle.std.specs.Prelude.{ℕ, ◌-◌, ◌≡◌, ◌≤◌, ◌<◌, List, [], ◌∷◌, ◌++◌, length, take, drop};
+ghost use Rattle.std.specs.Prelude.{replicate, OnSome, MatchOption};
+ghost use Rattle.std.proofs.Common.{arith, refl, length-take-le, take-append-drop};
 ghost use Rattle.record_fields.specs.Fields.{tab, texts_of, numbers_in, most_numbers};
 ghost use Rattle.record_lines.specs.Bytes.{index_of};
 
@@ -9,7 +11,7 @@ use record_numbers::decimal;
 use std::marker::Model;
 
 // No more numbers than some call has. Clauses see them as a list.
-#[derive(Drop)]
+#[derive(Clone, Copy)]
 pub struct Fields {
     room: [u64; MOST_NUMBERS],
     count: usize,
@@ -20,7 +22,21 @@ impl Model for Fields {
 
     ghost view = { λ fields. take fields.count fields.room };
 
-    ghost invariant = { λ fields. fields.count ≤ most_numbers };
+    // what is beyond the numbers is zero, so that they tell the room
+    ghost invariant = { λ fields. (fields.count ≤ most_numbers) × (length fields.room ≡ most_numbers)
+        × (drop fields.count fields.room ≡ replicate (most_numbers - fields.count) 0) };
+
+    ghost inverse = { λ ns. record {
+      room = ns ++ replicate (most_numbers - length ns) 0;
+      count = length ns;
+    } };
+
+    ghost inverse_ok = { λ fields h.
+        rw (
+          length-take-le fields.count fields.room (omega arith),
+          ← h.2,
+          take-append-drop fields.count fields.room,
+        ) refl };
 }
 
 impl Fields {
