@@ -1,7 +1,7 @@
 -- A byte that is sought: the place that the library finds is where it stands first. No contract cites this
 -- file. Assumes nothing.
 use Prim.Native.Nat.{ℕ, ◌+◌}
-use mathlib.Core.Path.{◌≡◌, refl, sym}
+use mathlib.Core.Path.{◌≡◌, refl, sym, ap, ◌∙◌}
 use mathlib.Core.Bool.{Bool, true, false, cond}
 use mathlib.Core.List.{List}
 use native.Mathlib.Omega.{arith}
@@ -36,3 +36,13 @@ module _ (b : ℕ) where
   found_at l r e =
       tested (ltb (position_or_len is_byte l) (length l)) (λ t. rw (e, t) (sym (index-position l)))
       (λ f. rw (e, f) (omega (arith, ltb-false _ _ f, index-position l, first-le b l)))
+
+  pub found_in : (l : List ℕ) (r : Option ℕ) (i : ℕ) →
+      r ≡ cond (ltb (position_or_len is_byte l) (length l)) (Some (position_or_len is_byte l)) None →
+      r ≡ Some i → i ≡ index_of b l
+  found_in l r i e is = ap (λ (o : Option ℕ). unwrap_or o (length l)) (sym is) ∙ found_at l r e
+
+  pub found_nowhere : (l : List ℕ) (r : Option ℕ) →
+      r ≡ cond (ltb (position_or_len is_byte l) (length l)) (Some (position_or_len is_byte l)) None →
+      r ≡ None → length l ≡ index_of b l
+  found_nowhere l r e is = ap (λ (o : Option ℕ). unwrap_or o (length l)) (sym is) ∙ found_at l r e

@@ -3,3 +3,4 @@ pub mod PartedLaws
 pub mod FirstLaws
 pub mod LinesLaws
 pub mod FoundLaws
+pub mod HeldLaws

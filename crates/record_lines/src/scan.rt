@@ -7,5 +7,8 @@ pub fn find(bytes: &[u8], byte: u8) -> usize
     ensures place { result ≡ index_of byte bytes.now }
     ensures within { result ≤ length bytes.now }
 {
-    bytes.iter().position(|&b| b == byte).unwrap_or(bytes.len())
+    match bytes.iter().position(|&b| b == byte) {
+        Some(i) => i,
+        None => bytes.len(),
+    }
 }
