@@ -38,14 +38,14 @@ module _ (xs : List ℕ) (f : ℕ) (p : List ℕ) (n : ℕ) (x : Lent) (e : ℕ)
         ap (λ (k : ℕ). slice f k xs) (add-one e) ∙ slice-more xs f e c.start lt
         ∙ ap (λ (b : ℕ). slice f e xs ++ (b ∷ [])) feed
 
-    pub went-ended : (x' : Lent) (b : List ℕ) → x' ≡ passed_on (line_of q) x →
+    pub went-ended : (l : List ℕ) (x' : Lent) (b : List ℕ) → l ≡ [] → x' ≡ passed_on (line_of q) x →
         b ≡ a ++ answer_to (n + 1) (line_of q) x →
-        Went xs f at_first a (e + 1) record { line = []; number = n + 1; lent = x' } b
-    went-ended x' b left said =
+        Went xs f at_first a (e + 1) record { line = l; number = n + 1; lent = x' } b
+    went-ended l x' b none left said =
         record {
           start = omega (arith, c.start);
           end = omega (arith, lt);
-          held = held_same refl refl left
+          held = held_same none refl left
               ∙ sym (ap (λ (bs : List ℕ). gone_on bs at_first) with-end
               ∙ gone-ended p n x (slice f e xs) c.unended q c.line);
           printed = said

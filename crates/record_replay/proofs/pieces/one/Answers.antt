@@ -1,5 +1,7 @@
 -- `record_replay::pieces::one` meets its contract. Assumes nothing.
+use mathlib.Core.Path.{ap}
 use native.Mathlib.Omega.{arith}
+use lib.ListN.{length}
 use Rattle.record_replay.proofs.PiecesLaws.{went-open, went-ended}
 use Rattle.record_replay.proofs.pieces.one.Goals as goal
 
@@ -9,12 +11,11 @@ returns-then-end-chunk c =
     let cut = c.cut-end.ensures in
     let line-end = c.end_line-used.ensures in
     record {
-      went = rw c.clear.ensures
-          (went-ended _ _ _ _ _ _ _ cut.cut_at _ more (cut.at_value more) _ _
+      went = went-ended _ _ _ _ _ _ _ cut.cut_at _ more (cut.at_value more) _ _ _ c.clear.ensures
           (rw c.bytes.ensures.bytes at line-end.saved_after)
-          (rw c.bytes.ensures.bytes at line-end.out_after));
+          (rw c.bytes.ensures.bytes at line-end.out_after);
       further = (line-end.upper_bound, omega (arith, cut.cut_at.start));
-      few = rw c.clear.ensures (omega arith);
+      few = omega (arith, ap length c.clear.ensures);
     }
 
 pub returns : goal.returns
