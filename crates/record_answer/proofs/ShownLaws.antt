@@ -6,7 +6,7 @@
 --   put_byte, put_then           one byte behind others, and one stretch behind another
 --   answer-then                  the line of an answer, from what was put one behind the other
 --   words-none, words_more       the first words of a log as fields: none, and one more
---   words-least                  no more of them than there are
+--   words-least, words-first     no more of them than there are, and as they are put
 use Prim.Native.Nat.{ℕ, suc, ◌+◌, ◌*◌, ◌≤◌, ◌<◌, min}
 use mathlib.Core.Path.{◌≡◌, refl, sym, ap, ◌∙◌}
 use mathlib.Core.List.{List, [], ◌∷◌, ◌++◌, append-nil, append_assoc}
@@ -95,3 +95,7 @@ words-least k ws n e = at (dec_lt k (length ws))
     at : Dec (k < length ws) → take n ws ≡ take k ws
     at (yes lt) = let few : n ≡ k = omega arith in rw few
     at (no ge) = let all : n ≡ length ws = omega arith in rw (all, take-length, take_all k ws (omega arith))
+
+pub words-first : (xs ws : List ℕ) (k n : ℕ) {zs : List ℕ} → zs ≡ xs ++ fields_shown (take n ws)
+    → n ≡ min (length ws) k → zs ≡ xs ++ fields_shown (take k ws)
+words-first xs ws k n e few = rw (words-least k ws n few) at e
