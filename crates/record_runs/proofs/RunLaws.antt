@@ -2,7 +2,7 @@
 use Prim.Native.Nat.{ℕ, suc, ◌+◌}
 use mathlib.Core.Path.{◌≡◌, refl, sym, ap, ◌∙◌}
 use mathlib.Core.Logic.{◌≢◌}
-use mathlib.Core.List.{List, [], ◌∷◌, ◌++◌, map}
+use mathlib.Core.List.{List, [], ◌∷◌, ◌++◌, map, append-nil}
 use native.Mathlib.Omega.{arith}
 use native.Mathlib.Nat.{suc-add, add-zero}
 use lib.ListN.{length, length-append}
@@ -13,7 +13,7 @@ use Rattle.record_lines.proofs.LinesLaws.{kept-kept}
 use Rattle.record_call.specs.Table.{line_of}
 use Rattle.board_runs.specs.Runs.{Lent, ran}
 use Rattle.board_runs.proofs.RunsEffects.{ran_append}
-use Rattle.record_runs.specs.Replay.{Held, said_after, calls_in, answers_from, passed_on, gone_on}
+use Rattle.record_runs.specs.Replay.{Held, said_after, calls_in, answers_from, answer_to, passed_on, gone_on}
 use Rattle.record_runs.specs.Replay.{printed_by}
 use Rattle.record_runs.proofs.SaidLaws.{said-append, said_same, rest-same, calls-append, ran_line}
 use Rattle.record_runs.proofs.SaidLaws.{answers-append}
@@ -90,3 +90,26 @@ pub last_some : (l : List ℕ) (x : Lent) → length l ≢ 0 →
 unfolding last_of calls_in ran
 last_some [] x n = absurd (n refl)
 last_some (b ∷ bs) x n = sym (ran_line (line_of (b ∷ bs)) [] x)
+
+-- what it is answered by, and how many it is
+pub answered_none : (l : List ℕ) (n : ℕ) (x : Lent) → length l ≡ 0 →
+    [] ≡ answers_from n (map line_of (last_of l)) x
+unfolding last_of answers_from
+answered_none [] n x e = refl
+answered_none (b ∷ bs) n x e = absurd (omega (arith, e))
+
+pub answered_some : (l : List ℕ) (n : ℕ) (x : Lent) → length l ≢ 0 →
+    answer_to n (line_of l) x ≡ answers_from n (map line_of (last_of l)) x
+unfolding last_of answers_from
+answered_some [] n x some = absurd (some refl)
+answered_some (b ∷ bs) n x some = sym (append-nil (answer_to n (line_of (b ∷ bs)) x))
+
+pub counted_none : (l : List ℕ) → length l ≡ 0 → length (last_of l) ≡ 0
+unfolding last_of
+counted_none [] e = refl
+counted_none (b ∷ bs) e = absurd (omega (arith, e))
+
+pub counted_some : (l : List ℕ) → length l ≢ 0 → length (last_of l) ≡ 1
+unfolding last_of
+counted_some [] some = absurd (some refl)
+counted_some (b ∷ bs) some = refl

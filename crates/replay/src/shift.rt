@@ -4,7 +4,7 @@ ghost use Rattle.sizes.specs.Sizes.{saved_size};
 ghost use Rattle.board_runs.specs.Runs.{ran};
 ghost use Rattle.record_lines.specs.Lines.{last_of};
 ghost use Rattle.record_call.specs.Table.{line_of};
-ghost use Rattle.record_runs.specs.Replay.{calls_in};
+ghost use Rattle.record_runs.specs.Replay.{calls_in, answers_from};
 ghost use Rattle.record_replay.specs.Pieces.{Went, held_at};
 
 use crate::PIECE;
@@ -79,6 +79,9 @@ impl Shift {
     pub fn end(&mut self, out: &mut [u8; PIECE]) -> usize
         requires { self.old.number + 1 < 2 ^ 64 }
         ensures lent { self.new.lent ≡ ran (calls_in (map line_of (last_of self.old.line))) self.old.lent }
+        ensures answered { take result out.new ≡ answers_from
+            (self.old.number + 1) (map line_of (last_of self.old.line)) self.old.lent }
+        ensures number { self.new.number ≡ self.old.number + length (last_of self.old.line) }
         ensures used_in_out { result ≤ length out.new }
     {
         if self.line.bytes().is_empty() {
