@@ -9,8 +9,8 @@ use native.Mathlib.Decide.{ℕ_discrete, dec_lt}
 use native.Mathlib.Numerals.{add-one}
 use native.Mathlib.Omega.{arith}
 use lib.Dec.{leb}
-use lib.ListN.{length, get_or, set, take, length-set, length-take}
-use lib.Seq.{get_or-set_same, get_or-set_other, get_or-take, set-get_or, ext_get_or, take-suc}
+use lib.ListN.{length, get_or, set, take, length-set}
+use lib.Seq.{get_or-set_same, get_or-set_other, set-get_or, ext_get_or, take-suc}
 use Rattle.sizes.specs.Sizes.{identities, files_size, file_count, file_size, fields_size}
 use Rattle.words.specs.Every.{every}
 use Rattle.words.proofs.EveryLaws.{every_one, every_more}
@@ -152,11 +152,9 @@ all_reached-more fs l k h =
 
 -- `Named` said of each word of the log
 module _ (l : List ℕ) (n : ℕ) where
-  -- the first n words alone
-  pub named-first : Named l n → (k : ℕ) → k < length (take n l) → file_in (get_or (take n l) k 0) < 5
+  pub named-each : Named l n → (k : ℕ) → k < n → file_in (get_or l k 0) < 5
   unfolding Named
-  named-first named k h =
-      let low : k < n = omega (arith, length-take n l) in rw (get_or-take n l k 0 low) (named k low)
+  named-each named = named
 
   pub named-of : ((k : ℕ) → k < n → file_in (get_or l k 0) < 5) → Named l n
   unfolding Named

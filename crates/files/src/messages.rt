@@ -29,7 +29,7 @@ pub fn deliver(files: &mut [u32; FILES_SIZE], log: &[u32; LOG_SIZE], count: usiz
     requires { (count ≤ log_size) × Named log.now count }
     ensures { files_of files.new ≡ all_reached (files_of files.old) (take count log.now) }
 {
-    for word in &log[..count] {
-        deliver_one(files, *word);
+    for k in 0..count {
+        deliver_one(files, log[k]);
     }
 }

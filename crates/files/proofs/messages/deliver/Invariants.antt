@@ -4,6 +4,5 @@ use lib.ListN.{take}
 use Rattle.files.specs.Files.{files_of, all_reached}
 use Rattle.files.proofs.messages.deliver.Given as goal
 
-abbrev pub invariant-loop-word : goal.invariant-loop-word
-invariant-loop-word l =
-    files_of l.files ≡ all_reached (files_of l.initial.files) (take l.word-index l.word-items)
+abbrev pub invariant-loop-k : goal.invariant-loop-k
+invariant-loop-k l = files_of l.files ≡ all_reached (files_of l.initial.files) (take l.k l.log)
