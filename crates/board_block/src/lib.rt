@@ -16,8 +16,7 @@ pub fn sound(state: &[u32; BLOCK_SIZE]) -> bool
     ensures { result ≡ board_sound (board_of state.now) }
 {
     let wired: &[u32; WIRED_SIZE] = state.last_chunk().unwrap();
-    let wired = wired_rules::sound(wired);
-    files::sound(state.first_chunk().unwrap()) & wired
+    wired_rules::sound(wired) && files::sound(state.first_chunk().unwrap())
 }
 
 // File k takes its signals from the wired controller; nothing else changes.
