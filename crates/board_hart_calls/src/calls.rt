@@ -3,14 +3,21 @@ ghost use Rattle.board_call.specs.declared.Call.TheVariants as the;
 ghost use Rattle.board_call.specs.Outcome.{Does};
 
 use super::signal::all_signals;
-use board_call::{Answer, Done, check, check_numbers, lengths};
-use sizes::HART_COUNT;
+use board_call::{Answer, Done, Refusal, check, check_numbers};
+use sizes::{BLOCK_SIZE, HART_COUNT, LOG_SIZE};
 
 pub fn reset(state: &mut [u32], log: &mut [u32]) -> Answer
     ensures { Does the.Reset state.old log.old result
         state.new log.new }
 {
-    lengths(state, log)?;
+    // each by itself: by `lengths` and `?` both are tested at once, which takes more than plain C does
+    let (state_len, log_len) = (state.len(), log.len());
+    if state_len != BLOCK_SIZE {
+        return Err(Refusal::StateLength);
+    }
+    if log_len != LOG_SIZE {
+        return Err(Refusal::LogLength);
+    }
     board_block::start(state.as_mut_array().unwrap());
     Ok(Done { value: 0, count: 0 })
 }
