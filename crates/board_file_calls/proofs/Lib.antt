@@ -1,1 +1,2 @@
 -- The proofs of the calls on one message file. Assumes nothing.
+pub mod KindLaws

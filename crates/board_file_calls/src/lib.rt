@@ -3,10 +3,12 @@
 
 mod accesses;
 mod block_file;
-mod pages;
+mod page_reads;
+mod page_writes;
 mod tops;
 
 pub use accesses::register;
 pub use block_file::{load_file, store_file};
-pub use pages::{page_read, page_write};
+pub use page_reads::page_read;
+pub use page_writes::page_write;
 pub use tops::{claim, top};

@@ -1,10 +1,10 @@
--- `board_file_calls::pages::page_read` meets its contract: refused, or done. Assumes nothing.
+-- `board_file_calls::page_reads::page_read` meets its contract: refused, or done. Assumes nothing.
 use mathlib.Core.Path.{◌≡◌, refl}
 use borrow.Author.Rules.{rules}
 use Rattle.board_call.proofs.AnswerLaws.{passed-case}
 use Rattle.board_call_laws.proofs.CallTests.{tests-blocks, tests-failed, tests-passed}
 use Rattle.board_call_laws.proofs.FileCallEffects.{tests-page_read, page_read-done}
-use Rattle.board_file_calls.proofs.pages.page_read.Goals as goal
+use Rattle.board_file_calls.proofs.page_reads.page_read.Goals as goal
 
 pub returns-in_err-check : goal.returns-in_err-check
 returns-in_err-check c =
